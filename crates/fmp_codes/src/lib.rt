@@ -1,0 +1,16 @@
+//! The values that every crate of fmpsim speaks of: codes, checked numbers, service calls, events and records.
+#![tactic(auto)]
+
+mod calls;
+mod codes;
+mod numbers;
+mod records;
+mod release_list;
+mod request_list;
+
+pub use calls::{Call, Mode, SystemCall, TaskCall};
+pub use codes::Code;
+pub use numbers::{Block, Object, Pri, Proc, Task};
+pub use records::{Answer, Event, Record, Release, Runner};
+pub use release_list::Releases;
+pub use request_list::Requests;

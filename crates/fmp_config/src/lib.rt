@@ -1,0 +1,21 @@
+//! A configuration, valid by its type, and the records of the machine.
+//!
+//! The definitions of the machine are in `specs/`, to be read in the order of `specs/Lib.antt`; docs/PROFILE.md tells
+//! the same rules in words.
+#![tactic(auto)]
+
+mod config;
+mod effect;
+mod machine;
+mod setup;
+
+pub use config::Config;
+pub use effect::Effect;
+pub use machine::{
+    Alarm, Context, Cyclic, Eventflag, Pool, Processor, QueueKind, Rule, Semaphore, TaskRecord,
+    Wait,
+};
+pub use setup::{
+    AlarmSetup, Class, CyclicSetup, DataQueueSetup, EventflagSetup, Limits, Order, PoolSetup,
+    SemaphoreSetup, TaskSetup, Timer,
+};

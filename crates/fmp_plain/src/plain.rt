@@ -1,0 +1,61 @@
+//! The plain machine, and how many steps it made.
+ghost use Rattle.std.specs.Prelude.{◌≡◌, ◌+◌, ◌<◌, IsOk, IfOk};
+ghost use Rattle.fmp_config.specs.Boot.{booted};
+ghost use Rattle.fmp_config.specs.Numbers.{numbered};
+ghost use Rattle.fmp_config.specs.Step.{step};
+
+use crate::boot::boot;
+use crate::step::step;
+use fmp_codes::{Event, Record};
+use fmp_config::Config;
+use fmp_plain_rows::Machine;
+use std::alloc::AllocError;
+use std::marker::Model;
+
+/// The plain machine. Contracts see its state, which is that of the model, and the number of its steps.
+#[derive(Debug, Drop)]
+pub struct Plain {
+    machine: Machine,
+    steps: u32,
+}
+
+impl Model for Plain {
+    ghost use Rattle.std.specs.Prelude.{◌+◌, ◌≤◌};
+    ghost use Rattle.fmp_plain.specs.Run.{Run};
+
+    ghost Value = { Run };
+
+    ghost view = { λ a. record { state = a.machine; steps = a.steps } };
+
+    ghost invariant = { λ a. a.machine.order.next ≤ a.steps + 64 };
+}
+
+impl Plain {
+    /// The machine at boot. It takes no memory yet, so it is never refused.
+    pub fn boot(config: &Config) -> Result<Plain, AllocError>
+        ensures made { IsOk result }
+        ensures state { IfOk result (λ m. m ≡ record { state = booted config.now; steps = 0 }) }
+    {
+        Ok(Plain {
+            machine: boot(config),
+            steps: 0,
+        })
+    }
+
+    /// Plays one event, and tells what it answers and did.
+    pub fn step(&mut self, event: Event) -> Record
+        requires { self.old.steps < 4294967295 }
+        ensures step { (self.new.state, result) ≡ step numbered self.old.state event }
+        ensures steps { self.new.steps ≡ self.old.steps + 1 }
+    {
+        self.steps += 1;
+        step(&mut self.machine, event)
+    }
+
+    /// How many steps it made.
+    pub fn steps(&self) -> u64
+        ensures { result ≡ self.now.steps }
+    {
+        u64::from(self.steps)
+    }
+}
