@@ -22,9 +22,9 @@ use Rattle.fmp_config.specs.Boot.{booted}
 abbrev pub Plays : Setup → List Record → Type 0
 Plays c records = answers numbered (booted c) (map (λ r. r.event) records) ≡ records
 
--- a task of this class and priority, and whether it is started at boot
+-- a task of this class and priority, with the first function, and whether it is started at boot
 abbrev pub a_task : Class → ℕ → Bool → TaskSetup
-a_task c n starts = record { class = c; priority = as_pri n; starts = starts }
+a_task c n starts = record { class = c; main = 1; priority = as_pri n; starts = starts }
 
 -- the class of processors 1 and 2 that begins at this one
 abbrev pub both : ℕ → Class

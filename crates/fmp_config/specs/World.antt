@@ -57,7 +57,7 @@ first (x ∷ xs) = Some x
 -- what stands where there is no task
 abbrev pub no_task : TaskRecord
 no_task = record {
-  setup = record { class = record { initial = as_proc 1; members = replicate 8 false }; priority = as_pri 1; starts = false };
+  setup = record { class = record { initial = as_proc 1; members = replicate 8 false }; main = 1; priority = as_pri 1; starts = false };
   assigned = as_proc 1;
   priority = as_pri 1;
   active = false;

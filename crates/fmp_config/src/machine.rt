@@ -103,6 +103,7 @@ impl Default for TaskRecord {
         TaskRecord {
             setup: TaskSetup {
                 class,
+                main: 1,
                 priority: Pri::new(1),
                 starts: false,
             },

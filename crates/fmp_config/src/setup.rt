@@ -42,10 +42,11 @@ pub struct Limits {
     pub priorities: u8,
 }
 
-/// A task, and whether it is started at boot (`TA_ACT`).
+/// A task: the number of its function, and whether it is started at boot (`TA_ACT`).
 #[derive(Clone, Copy, Debug, PartialEq, Eq)]
 pub struct TaskSetup {
     pub class: Class,
+    pub main: u8,
     pub priority: Pri,
     pub starts: bool,
 }
@@ -81,17 +82,19 @@ pub struct PoolSetup {
     pub blocks: u8,
 }
 
-/// A cyclic handler: its times in ticks, and whether it is started at boot (`TA_STA`).
+/// A cyclic handler: the number of its function, its times in ticks, and whether it is started at boot (`TA_STA`).
 #[derive(Clone, Copy, Debug, PartialEq, Eq)]
 pub struct CyclicSetup {
     pub class: Class,
+    pub handler: u8,
     pub period: u32,
     pub phase: u32,
     pub starts: bool,
 }
 
-/// An alarm handler.
+/// An alarm handler, with the number of its function.
 #[derive(Clone, Copy, Debug, PartialEq, Eq)]
 pub struct AlarmSetup {
     pub class: Class,
+    pub handler: u8,
 }

@@ -59,6 +59,7 @@ fn task(initial: Proc, priority: Pri, starts: bool) -> TaskSetup {
             initial,
             members: [true, true, false, false, false, false, false, false],
         },
+        main: 1,
         priority,
         starts,
     }
