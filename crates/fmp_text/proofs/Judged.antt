@@ -1,0 +1,35 @@
+-- Reading the values of arguments one after the other, as a loop does.
+use Rattle.std.proofs.Common.{◌≡◌, ℕ, ◌+◌, ◌≤◌, ◌<◌, List, [], ◌∷◌, ◌++◌, length, get_or, drop, Result, Ok, Err, refl, sym, ap, ◌∙◌, append_assoc}
+use Rattle.std.proofs.lemmas.List.{append-nil, drop_more, drop_all}
+use Rattle.fmp_text.specs.declared.kinds.ArgumentKind.{ArgumentKind}
+use Rattle.fmp_text.specs.declared.kinds.Value.{Value}
+use Rattle.fmp_text.specs.declared.fault.TextKind.{TextKind}
+use Rattle.fmp_text.specs.Names.{NameLists}
+use Rattle.fmp_text.specs.Argument.{value_at}
+use Rattle.fmp_text.specs.Reading.{◌>>=◌, values_at}
+
+-- what was read before, and what is still read
+abbrev pub with_front : List Value → Result (List Value) TextKind → Result (List Value) TextKind
+with_front front values = values >>= λ list. Ok (front ++ list)
+
+stepped : (front : List Value) (value : Value) (values : Result (List Value) TextKind) → with_front front (values >>= λ list. Ok (value ∷ list)) ≡ with_front (front ++ value ∷ []) values
+stepped front value (Ok list) = ap (λ (vs : List Value). Ok vs) (simp append_assoc)
+stepped front value (Err e) = refl
+
+module _ (names : NameLists) (kinds : List ArgumentKind) (tokens : List (List ℕ)) (total : Result (List Value) TextKind) where
+  pub goes_on : (front : List Value) (n : ℕ) (k : ArgumentKind) (t : List ℕ) (value : Value) → n < length kinds → n < length tokens → value_at names (get_or kinds n k) (get_or tokens n t) ≡ Ok value
+      → with_front front (values_at names (drop n kinds) (drop n tokens)) ≡ total → with_front (front ++ value ∷ []) (values_at names (drop (n + 1) kinds) (drop (n + 1) tokens)) ≡ total
+  goes_on front n k t value a b here so_far =
+      let one : with_front front (values_at names (drop n kinds) (drop n tokens)) ≡ with_front (front ++ value ∷ []) (values_at names (drop (n + 1) kinds) (drop (n + 1) tokens)) = rw (drop_more kinds n k a, drop_more tokens n t b, here) (stepped front value (values_at names (drop (n + 1) kinds) (drop (n + 1) tokens))) in
+      sym one ∙ so_far
+
+  pub ends : (front : List Value) (n : ℕ) (k : ArgumentKind) (t : List ℕ) (fault : TextKind) → n < length kinds → n < length tokens → value_at names (get_or kinds n k) (get_or tokens n t) ≡ Err fault
+      → with_front front (values_at names (drop n kinds) (drop n tokens)) ≡ total → total ≡ Err fault
+  ends front n k t fault a b here so_far =
+      let one : with_front front (values_at names (drop n kinds) (drop n tokens)) ≡ Err fault = rw (drop_more kinds n k a, drop_more tokens n t b, here) refl in
+      sym so_far ∙ one
+
+  pub is_done : (front : List Value) (n : ℕ) → length kinds ≤ n → with_front front (values_at names (drop n kinds) (drop n tokens)) ≡ total → total ≡ Ok front
+  is_done front n le so_far =
+      let one : with_front front (values_at names (drop n kinds) (drop n tokens)) ≡ Ok front = rw (drop_all n kinds le) (ap (λ (vs : List Value). Ok vs) (append-nil front)) in
+      sym so_far ∙ one

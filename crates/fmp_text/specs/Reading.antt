@@ -1,0 +1,64 @@
+-- Reading a call from left to right, with the first fault that is met.
+use Rattle.std.specs.Prelude.{◌≡◌, ℕ, List, [], ◌∷◌, length, Result, Ok, Err, find, ◌==◌, if◌then◌else◌}
+use Rattle.std.specs.List.{list_all}
+use Rattle.std.specs.Option.{ok_or}
+use Rattle.std.specs.Str.{bytes_eq}
+use Rattle.fmp_text.specs.declared.table.TheConstants.{CALL_NAMES, MOST_ARGUMENTS}
+use Rattle.fmp_codes.specs.declared.calls.Call.{Call}
+use Rattle.fmp_text.specs.declared.table.CallName.{CallName}
+use Rattle.fmp_text.specs.declared.kinds.ArgumentKind.{ArgumentKind}
+use Rattle.fmp_text.specs.declared.kinds.Value.{Value}
+use Rattle.fmp_text.specs.Table.{text_of, kinds_of, call_of}
+use Rattle.fmp_bytes.specs.declared.classes.Class.TheVariants.{Blank, Word, Line}
+use Rattle.fmp_text.specs.declared.fault.TextKind.{TextKind}
+use Rattle.fmp_text.specs.declared.fault.TextKind.TheVariants.{BadByte, BadWord, WrongArguments}
+use Rattle.fmp_bytes.specs.Bytes.{is_of, front, after}
+use Rattle.fmp_text.specs.Names.{NameLists}
+use Rattle.fmp_text.specs.Argument.{enclosed_in, arguments_in, value_at}
+
+-- reading goes on with what was read, and ends at the first fault
+infixl 10 ◌>>=◌
+abbrev pub ◌>>=◌ : {A B E : Type 0} → Result A E → (A → Result B E) → Result B E
+(Ok x) >>= f = f x
+(Err e) >>= f = Err e
+
+-- the call that is written so
+unfoldable pub named_call : List ℕ → Result CallName TextKind
+named_call word = ok_or (find (λ name. bytes_eq (text_of name) word) CALL_NAMES) BadWord
+
+-- the values of the arguments, from left to right
+abbrev pub values_at : NameLists → List ArgumentKind → List (List ℕ) → Result (List Value) TextKind
+values_at names [] tokens = Ok []
+values_at names (kind ∷ kinds) [] = Ok []
+values_at names (kind ∷ kinds) (token ∷ tokens) = do
+  value ← value_at names kind token
+  values ← values_at names kinds tokens
+  Ok (value ∷ values)
+
+-- the call with this name and these arguments
+unfoldable pub call_with : NameLists → CallName → List (List ℕ) → Result Call TextKind
+call_with names name tokens =
+    if length tokens == length (kinds_of name) then (values_at names (kinds_of name) tokens >>= λ values. ok_or (call_of name values) WrongArguments)
+    else Err WrongArguments
+
+-- the call with this name and what follows the name
+unfoldable pub call_after : NameLists → CallName → List ℕ → Result Call TextKind
+call_after names name rest = do
+  inner ← ok_or (enclosed_in rest) WrongArguments
+  tokens ← ok_or (arguments_in MOST_ARGUMENTS inner) WrongArguments
+  call_with names name tokens
+
+-- a call with no blanks before it
+unfoldable pub call_at : NameLists → List ℕ → Result Call TextKind
+call_at names text = do
+  name ← named_call (front Word text)
+  call_after names name (after Word text)
+
+-- the bytes of one call
+unfoldable pub call_in : NameLists → List ℕ → Result Call TextKind
+call_in names bytes = if list_all (is_of Line) bytes then call_at names (after Blank bytes) else Err BadByte
+
+-- what a function returned, seen by view, is what reading gives
+abbrev pub Gives : {X Y E : Type 0} → (X → Y) → Result X E → Result Y E → Type 0
+Gives view (Ok x) read = read ≡ Ok (view x)
+Gives view (Err e) read = read ≡ Err e

@@ -1,0 +1,2 @@
+pub mod SystemTable
+pub mod TaskTable

@@ -1,0 +1,121 @@
+//! Reading one line of an event text.
+ghost use Rattle.std.specs.Prelude.{◌≡◌, ◌≤◌};
+ghost use Rattle.std.specs.Option.{option_copied};
+ghost use Rattle.fmp_text.specs.Lines as spec;
+
+use crate::call::call_at;
+use crate::fault::TextKind;
+use crate::names::Names;
+use fmp_bytes::{Class, all_of, are_digits, behind, is_zero_led, magnitude, skip, split_front};
+use fmp_codes::{Event, Proc};
+
+#[tactic(auto, unfolding(crate::specs::Lines::in_processors))]
+fn in_processors(most: u8, number: Option<u64>) -> Result<Proc, TextKind>
+    requires { most ≤ 8 }
+    ensures { result ≡ spec.in_processors most number }
+{
+    match number {
+        Some(number) if 1 <= number && number <= u64::from(most) => Ok(Proc::new(number as u8)),
+        _ => Err(TextKind::NumberOutOfRange),
+    }
+}
+
+#[tactic(auto, unfolding(crate::specs::Lines::digits_of))]
+fn digits_of(word: &[u8]) -> Option<&[u8]>
+    ensures { option_copied result ≡ spec.digits_of word.now }
+{
+    let digits = behind(b'P', word)?;
+    if are_digits(10, digits) {
+        Some(digits)
+    } else {
+        None
+    }
+}
+
+/// The processor that `P` and a number name.
+#[tactic(auto, unfolding(crate::specs::Lines::processor_in))]
+fn processor_in(names: &Names, word: &[u8]) -> Result<Proc, TextKind>
+    ensures { result ≡ spec.processor_in names.now word.now }
+{
+    let digits = digits_of(word).ok_or(TextKind::BadWord)?;
+    if is_zero_led(digits) {
+        return Err(TextKind::NumberOutOfRange);
+    }
+    in_processors(names.processors(), magnitude(10, digits))
+}
+
+fn alone(event: Event, rest: &[u8]) -> Result<Event, TextKind>
+    ensures { result ≡ spec.alone event rest.now }
+{
+    if all_of(Class::Blank, rest) {
+        Ok(event)
+    } else {
+        Err(TextKind::WrongArguments)
+    }
+}
+
+#[tactic(auto, unfolding(crate::specs::Lines::event_of))]
+fn event_of(names: &Names, processor: Proc, text: &[u8]) -> Result<Event, TextKind>
+    ensures { result ≡ spec.event_of names.now processor text.now }
+{
+    let (word, rest) = split_front(Class::Word, text);
+    if word == b"tick".as_slice() {
+        return alone(Event::Tick(processor), rest);
+    }
+    if word == b"ipi".as_slice() {
+        return alone(Event::Ipi(processor), rest);
+    }
+    Ok(Event::Call(processor, call_at(names, text)?))
+}
+
+#[tactic(auto, unfolding(crate::specs::Lines::event_at))]
+fn event_at(names: &Names, text: &[u8]) -> Result<Event, TextKind>
+    ensures { result ≡ spec.event_at names.now text.now }
+{
+    let (word, rest) = split_front(Class::Word, text);
+    let processor = processor_in(names, word)?;
+    event_of(names, processor, skip(Class::Blank, rest))
+}
+
+#[tactic(auto, unfolding(crate::specs::Lines::event_in))]
+fn event_in(names: &Names, line: &[u8]) -> Result<Event, TextKind>
+    ensures { result ≡ spec.event_in names.now line.now }
+{
+    if all_of(Class::Line, line) {
+        event_at(names, skip(Class::Blank, line))
+    } else {
+        Err(TextKind::BadByte)
+    }
+}
+
+/// Whether a line holds nothing but blanks, or is a comment.
+#[tactic(auto, unfolding(crate::specs::Lines::is_skipped))]
+pub fn is_skipped(line: &[u8]) -> bool
+    ensures { result ≡ spec.is_skipped line.now }
+{
+    all_of(Class::Blank, line) || behind(b'#', skip(Class::Blank, line)).is_some()
+}
+
+#[tactic(auto, unfolding(crate::specs::Lines::without_return))]
+fn without_return(line: &[u8]) -> &[u8]
+    ensures { result.now ≡ spec.without_return line.now }
+{
+    let length = line.len();
+    if 0 < length && line[length - 1] == b'\r' {
+        &line[..length - 1]
+    } else {
+        line
+    }
+}
+
+/// The event of a whole line without its line feed, if it has one.
+#[tactic(auto, unfolding(crate::specs::Lines::line_event))]
+pub fn line_event(names: &Names, line: &[u8]) -> Result<Option<Event>, TextKind>
+    ensures { result ≡ spec.line_event names.now line.now }
+{
+    let line = without_return(line);
+    if is_skipped(line) {
+        return Ok(None);
+    }
+    Ok(Some(event_in(names, line)?))
+}

@@ -1,0 +1,106 @@
+-- The text of a trace as a function of its records.
+use Rattle.std.specs.Prelude.{ℕ, zero, suc, ◌+◌, ℤ, List, [], ◌∷◌, ◌++◌, Option, Some, None, codes, decimal}
+use Rattle.std.specs.Fmt.{signed_decimal}
+use Rattle.fmp_codes.specs.Codes as code
+use Rattle.fmp_codes.specs.declared.codes.Code.{Code}
+use Rattle.fmp_codes.specs.declared.numbers.Proc.{Proc}
+use Rattle.fmp_codes.specs.declared.numbers.Task.{Task}
+use Rattle.fmp_codes.specs.declared.records.Event.{Event}
+use Rattle.fmp_codes.specs.declared.records.Event.TheVariants as events
+use Rattle.fmp_codes.specs.declared.records.Runner.{Runner}
+use Rattle.fmp_codes.specs.declared.records.Runner.TheVariants as runners
+use Rattle.fmp_codes.specs.declared.records.Answer.{Answer}
+use Rattle.fmp_codes.specs.declared.records.Answer.TheVariants as answers
+use Rattle.fmp_codes.specs.declared.records.Release.{Release}
+use Rattle.fmp_codes.specs.declared.records.Record.{Record}
+use Rattle.fmp_text.specs.declared.kinds.ObjectKind.TheVariants as objects
+use Rattle.fmp_text.specs.Names.{NameLists}
+use Rattle.fmp_trace.specs.Values.{named, call_text}
+
+-- the processor of an event
+abbrev pub processor_of : Event → Proc
+processor_of (events.Call p call) = p
+processor_of (events.Tick p) = p
+processor_of (events.Ipi p) = p
+
+abbrev pub event_text : NameLists → Event → List ℕ
+event_text lists (events.Call p call) = call_text lists call
+event_text lists (events.Tick p) = codes "tick"
+event_text lists (events.Ipi p) = codes "ipi"
+
+abbrev pub task_text : NameLists → Task → List ℕ
+task_text lists t = named lists objects.Task t.number
+
+abbrev pub runner_text : NameLists → Option Runner → List ℕ
+runner_text lists None = codes "-"
+runner_text lists (Some (runners.Task t)) = task_text lists t
+runner_text lists (Some (runners.Alarm a)) = named lists objects.Alarm a.number
+runner_text lists (Some (runners.Cyclic c)) = named lists objects.Cyclic c.number
+
+-- a value behind a code
+abbrev pub behind_code : Option ℤ → List ℕ
+behind_code None = []
+behind_code (Some v) = codes ":" ++ signed_decimal v
+
+-- a code, with its value if it has one
+unfoldable pub code_text : Code → Option ℤ → List ℕ
+code_text c v = code.name_of c ++ behind_code v
+
+abbrev pub answer_text : Answer → List ℕ
+answer_text (answers.Done c v) = code_text c v
+answer_text answers.Wait = codes "wait"
+answer_text answers.Spin = codes "spin"
+answer_text answers.Gone = codes "gone"
+answer_text answers.Idle = codes "idle"
+answer_text answers.Held = codes "held"
+answer_text answers.Taken = codes "taken"
+answer_text answers.Nothing = codes "none"
+
+-- the end of a wait
+unfoldable pub release_text : NameLists → Release → List ℕ
+release_text lists r = codes " rel=" ++ task_text lists r.task ++ codes ":" ++ code_text r.code r.value
+
+abbrev pub releases_text : NameLists → List Release → List ℕ
+releases_text lists [] = []
+releases_text lists (r ∷ rs) = release_text lists r ++ releases_text lists rs
+
+-- a value that was overwritten
+abbrev pub lost_text : Option ℤ → List ℕ
+lost_text None = []
+lost_text (Some v) = codes " lost=" ++ signed_decimal v
+
+abbrev pub running_text : NameLists → Option Task → List ℕ
+running_text lists None = codes "idle"
+running_text lists (Some t) = task_text lists t
+
+-- what the event's processor runs now, where that is another task than before
+abbrev pub run_change_text : NameLists → Option (Option Task) → List ℕ
+run_change_text lists None = []
+run_change_text lists (Some running) = codes " run=" ++ running_text lists running
+
+-- what stands before the processor at this index
+abbrev pub request_lead : ℕ → List ℕ
+request_lead zero = codes " ipi="
+request_lead (suc i) = codes ","
+
+-- the processors to which a request is sent, from this index on
+abbrev pub requests_from : ℕ → List Proc → List ℕ
+requests_from i [] = []
+requests_from i (p ∷ ps) = request_lead i ++ decimal p.number ++ requests_from (i + 1) ps
+
+-- what stands before the event in line n
+unfoldable pub head_text : NameLists → ℕ → Record → List ℕ
+head_text lists n r = decimal n ++ codes " P" ++ decimal (processor_of r.event).number ++ codes " " ++ runner_text lists r.runner ++ codes " "
+
+-- what stands behind the answer
+unfoldable pub tail_text : NameLists → Record → List ℕ
+tail_text lists r = releases_text lists r.releases ++ lost_text r.lost ++ run_change_text lists r.run_change ++ requests_from 0 r.requests
+
+-- line n, with its line feed
+unfoldable pub line_text : NameLists → ℕ → Record → List ℕ
+line_text lists n r = head_text lists n r ++ event_text lists r.event ++ codes " " ++ answer_text r.answer ++ tail_text lists r ++ codes "\n"
+
+-- the lines of these records, numbered from n
+abbrev pub lines_from : NameLists → ℕ → List Record → List ℕ
+lines_from lists n [] = []
+lines_from lists n (r ∷ rs) = line_text lists n r ++ lines_from lists (n + 1) rs

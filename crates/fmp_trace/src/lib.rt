@@ -1,0 +1,7 @@
+//! The text of a trace: one line for each record.
+#![tactic(auto)]
+
+mod lines;
+mod values;
+
+pub use lines::trace_text;

@@ -1,0 +1,200 @@
+//! Printing records, a line for each.
+ghost use Rattle.std.specs.Prelude.{◌≡◌, ◌<◌, ◌^◌, ◌++◌, length, OnOk, IfOk};
+ghost use Rattle.fmp_trace.specs.Lines as spec;
+
+use crate::values::{put_call, put_named, put_number, put_signed};
+use fmp_codes::{Answer, Code, Event, Proc, Record, Release, Releases, Runner, Task};
+use fmp_text::{Names, ObjectKind};
+use std::alloc::{AllocError, Global};
+
+fn put_event(out: &mut Vec<u8>, names: &Names, event: Event) -> Result<(), AllocError>
+    ensures { OnOk result (out.new.items ≡ out.old.items ++ spec.event_text names.now event) }
+{
+    match event {
+        Event::Call(_, call) => put_call(out, names, call),
+        Event::Tick(_) => out.extend_from_slice(b"tick"),
+        Event::Ipi(_) => out.extend_from_slice(b"ipi"),
+    }
+}
+
+fn processor_of(event: Event) -> Proc
+    ensures { result ≡ spec.processor_of event }
+{
+    match event {
+        Event::Call(processor, _) => processor,
+        Event::Tick(processor) => processor,
+        Event::Ipi(processor) => processor,
+    }
+}
+
+fn put_task(out: &mut Vec<u8>, names: &Names, task: Task) -> Result<(), AllocError>
+    ensures { OnOk result (out.new.items ≡ out.old.items ++ spec.task_text names.now task) }
+{
+    put_named(out, names, ObjectKind::Task, usize::from(task.number))
+}
+
+fn put_runner(out: &mut Vec<u8>, names: &Names, runner: Option<Runner>) -> Result<(), AllocError>
+    ensures { OnOk result (out.new.items ≡ out.old.items ++ spec.runner_text names.now runner) }
+{
+    match runner {
+        None => out.extend_from_slice(b"-"),
+        Some(Runner::Task(task)) => put_task(out, names, task),
+        Some(Runner::Alarm(alarm)) => {
+            put_named(out, names, ObjectKind::Alarm, usize::from(alarm.number))
+        }
+        Some(Runner::Cyclic(cyclic)) => {
+            put_named(out, names, ObjectKind::Cyclic, usize::from(cyclic.number))
+        }
+    }
+}
+
+/// Adds a code and the value that it has, if any.
+#[tactic(auto, unfolding(crate::specs::Lines::code_text))]
+fn put_code(out: &mut Vec<u8>, code: Code, value: Option<i64>) -> Result<(), AllocError>
+    ensures { OnOk result (out.new.items ≡ out.old.items ++ spec.code_text code value) }
+{
+    out.extend_from_slice(code.name().as_bytes())?;
+    if let Some(value) = value {
+        out.push(b':')?;
+        put_signed(out, value)?;
+    }
+    Ok(())
+}
+
+fn put_answer(out: &mut Vec<u8>, answer: Answer) -> Result<(), AllocError>
+    ensures { OnOk result (out.new.items ≡ out.old.items ++ spec.answer_text answer) }
+{
+    match answer {
+        Answer::Done(code, value) => put_code(out, code, value),
+        Answer::Wait => out.extend_from_slice(b"wait"),
+        Answer::Spin => out.extend_from_slice(b"spin"),
+        Answer::Gone => out.extend_from_slice(b"gone"),
+        Answer::Idle => out.extend_from_slice(b"idle"),
+        Answer::Held => out.extend_from_slice(b"held"),
+        Answer::Taken => out.extend_from_slice(b"taken"),
+        Answer::Nothing => out.extend_from_slice(b"none"),
+    }
+}
+
+#[tactic(auto, unfolding(crate::specs::Lines::release_text))]
+fn put_release(out: &mut Vec<u8>, names: &Names, release: Release) -> Result<(), AllocError>
+    ensures { OnOk result (out.new.items ≡ out.old.items ++ spec.release_text names.now release) }
+{
+    out.extend_from_slice(b" rel=")?;
+    put_task(out, names, release.task)?;
+    out.push(b':')?;
+    put_code(out, release.code, release.value)
+}
+
+fn put_releases(out: &mut Vec<u8>, names: &Names, releases: &Releases) -> Result<(), AllocError>
+    ensures { OnOk result (out.new.items ≡ out.old.items ++ spec.releases_text names.now releases.now) }
+{
+    for index in 0..releases.len() {
+        put_release(out, names, releases.get(index).unwrap())?;
+    }
+    Ok(())
+}
+
+fn put_lost(out: &mut Vec<u8>, lost: Option<i64>) -> Result<(), AllocError>
+    ensures { OnOk result (out.new.items ≡ out.old.items ++ spec.lost_text lost) }
+{
+    if let Some(value) = lost {
+        out.extend_from_slice(b" lost=")?;
+        put_signed(out, value)?;
+    }
+    Ok(())
+}
+
+/// Adds the task that runs now, or that there is none.
+fn put_running(out: &mut Vec<u8>, names: &Names, running: Option<Task>) -> Result<(), AllocError>
+    ensures { OnOk result (out.new.items ≡ out.old.items ++ spec.running_text names.now running) }
+{
+    match running {
+        None => out.extend_from_slice(b"idle"),
+        Some(task) => put_task(out, names, task),
+    }
+}
+
+fn put_run_change(
+    out: &mut Vec<u8>,
+    names: &Names,
+    change: Option<Option<Task>>,
+) -> Result<(), AllocError>
+    ensures { OnOk result (out.new.items ≡ out.old.items ++ spec.run_change_text names.now change) }
+{
+    if let Some(running) = change {
+        out.extend_from_slice(b" run=")?;
+        put_running(out, names, running)?;
+    }
+    Ok(())
+}
+
+fn put_requests(out: &mut Vec<u8>, requests: &[Proc]) -> Result<(), AllocError>
+    ensures { OnOk result (out.new.items ≡ out.old.items ++ spec.requests_from 0 requests.now) }
+{
+    for (index, processor) in requests.iter().enumerate() {
+        if index == 0 {
+            out.extend_from_slice(b" ipi=")?;
+        } else {
+            out.extend_from_slice(b",")?;
+        }
+        put_number(out, u64::from(processor.number))?;
+    }
+    Ok(())
+}
+
+/// Adds what stands before the event in line n.
+#[tactic(auto, unfolding(crate::specs::Lines::head_text))]
+fn put_head(out: &mut Vec<u8>, names: &Names, n: u32, entry: &Record) -> Result<(), AllocError>
+    ensures { OnOk result (out.new.items ≡ out.old.items ++ spec.head_text names.now n entry.now) }
+{
+    put_number(out, u64::from(n))?;
+    out.extend_from_slice(b" P")?;
+    put_number(out, u64::from(processor_of(entry.event).number))?;
+    out.push(b' ')?;
+    put_runner(out, names, entry.runner)?;
+    out.push(b' ')?;
+    Ok(())
+}
+
+/// Adds what stands behind the answer.
+#[tactic(auto, unfolding(crate::specs::Lines::tail_text))]
+fn put_tail(out: &mut Vec<u8>, names: &Names, entry: &Record) -> Result<(), AllocError>
+    ensures { OnOk result (out.new.items ≡ out.old.items ++ spec.tail_text names.now entry.now) }
+{
+    put_releases(out, names, &entry.releases)?;
+    put_lost(out, entry.lost)?;
+    put_run_change(out, names, entry.run_change)?;
+    put_requests(out, entry.requests.as_slice())?;
+    Ok(())
+}
+
+/// Adds line n with its line feed.
+#[tactic(auto, unfolding(crate::specs::Lines::line_text))]
+fn put_line(out: &mut Vec<u8>, names: &Names, n: u32, entry: &Record) -> Result<(), AllocError>
+    ensures { OnOk result (out.new.items ≡ out.old.items ++ spec.line_text names.now n entry.now) }
+{
+    put_head(out, names, n, entry)?;
+    put_event(out, names, entry.event)?;
+    out.push(b' ')?;
+    put_answer(out, entry.answer)?;
+    put_tail(out, names, entry)?;
+    out.push(b'\n')?;
+    Ok(())
+}
+
+/// The text of the records: a line for each, numbered from 1. docs/FORMATS.md has its form.
+///
+/// A number that is no object's is printed as a number.
+pub fn trace_text(alloc: Global, records: &[Record], names: &Names) -> Result<Vec<u8>, AllocError>
+    requires { length records.now < 2 ^ 32 }
+    ensures { IfOk result (λ v. v.items ≡ spec.lines_from names.now 1 records.now) }
+{
+    let mut out = Vec::new(alloc);
+    let mut n: u32 = 0;
+    for entry in records {
+        n += 1;
+        put_line(&mut out, names, n, entry)?;
+    }
+    Ok(out)
+}

@@ -1,0 +1,121 @@
+//! Printing numbers, names and calls.
+ghost use Rattle.std.specs.Prelude.{◌≡◌, ◌++◌, length, decimal, OnOk};
+ghost use Rattle.std.specs.Fmt.{signed_decimal};
+ghost use Rattle.fmp_trace.specs.Values as spec;
+
+use fmp_codes::{Call, Mode};
+use fmp_text::{ArgumentKind, CallName, NameKind, Names, ObjectKind, Value, values_of};
+use itoa::Buffer;
+use std::alloc::AllocError;
+
+/// Adds a number in decimal.
+pub fn put_number(out: &mut Vec<u8>, number: u64) -> Result<(), AllocError>
+    ensures { OnOk result (out.new.items ≡ out.old.items ++ decimal number) }
+{
+    let mut buffer = Buffer::new();
+    out.extend_from_slice(buffer.format(number).as_bytes())
+}
+
+/// Adds a number with its sign, where it is below 0.
+pub fn put_signed(out: &mut Vec<u8>, number: i64) -> Result<(), AllocError>
+    ensures { OnOk result (out.new.items ≡ out.old.items ++ signed_decimal number) }
+{
+    let mut buffer = Buffer::new();
+    out.extend_from_slice(buffer.format(number).as_bytes())
+}
+
+/// Adds the name of an object, or the number where no object has it.
+#[tactic(auto, unfolding(crate::specs::Values::named))]
+pub fn put_named(
+    out: &mut Vec<u8>,
+    names: &Names,
+    kind: ObjectKind,
+    number: usize,
+) -> Result<(), AllocError>
+    ensures { OnOk result (out.new.items ≡ out.old.items ++ spec.named names.now kind number) }
+{
+    match names.name(NameKind::Object(kind), number) {
+        Some(name) => out.extend_from_slice(name),
+        None => put_number(out, number as u64),
+    }
+}
+
+/// Adds an argument that stands for an object.
+#[tactic(auto, unfolding(crate::specs::Values::object_text))]
+fn put_object(
+    out: &mut Vec<u8>,
+    names: &Names,
+    kind: ObjectKind,
+    number: i32,
+) -> Result<(), AllocError>
+    ensures { OnOk result (out.new.items ≡ out.old.items ++ spec.object_text names.now kind number) }
+{
+    if number == 0 && kind == ObjectKind::Task {
+        return out.extend_from_slice(b"TSK_SELF");
+    }
+    if number < 0 {
+        return put_signed(out, i64::from(number));
+    }
+    put_named(out, names, kind, number as usize)
+}
+
+fn put_mode(out: &mut Vec<u8>, mode: Mode) -> Result<(), AllocError>
+    ensures { OnOk result (out.new.items ≡ out.old.items ++ spec.mode_text mode) }
+{
+    match mode {
+        Mode::Andw => out.extend_from_slice(b"TWF_ANDW"),
+        Mode::Orw => out.extend_from_slice(b"TWF_ORW"),
+    }
+}
+
+/// Adds an argument.
+#[tactic(auto, unfolding(crate::specs::Values::value_text))]
+fn put_value(
+    out: &mut Vec<u8>,
+    names: &Names,
+    kind: ArgumentKind,
+    value: Value,
+) -> Result<(), AllocError>
+    ensures { OnOk result (out.new.items ≡ out.old.items ++ spec.value_text names.now kind value) }
+{
+    match value {
+        Value::Number(number) => match kind {
+            ArgumentKind::Object(kind) => put_object(out, names, kind, number),
+            _ => put_signed(out, i64::from(number)),
+        },
+        Value::Pattern(pattern) => put_number(out, u64::from(pattern)),
+        Value::Data(value) => put_signed(out, value),
+        Value::Mode(mode) => put_mode(out, mode),
+    }
+}
+
+fn put_arguments(
+    out: &mut Vec<u8>,
+    names: &Names,
+    kinds: &[ArgumentKind],
+    values: &[Value],
+) -> Result<(), AllocError>
+    requires { length kinds.now ≡ length values.now }
+    ensures { OnOk result (out.new.items ≡ out.old.items ++ spec.arguments_from names.now 0 kinds.now values.now) }
+{
+    for (index, value) in values.iter().enumerate() {
+        if index > 0 {
+            out.extend_from_slice(b", ")?;
+        }
+        put_value(out, names, kinds[index], *value)?;
+    }
+    Ok(())
+}
+
+/// Adds a call with its arguments.
+#[tactic(auto, unfolding(crate::specs::Values::call_text))]
+pub fn put_call(out: &mut Vec<u8>, names: &Names, call: Call) -> Result<(), AllocError>
+    ensures { OnOk result (out.new.items ≡ out.old.items ++ spec.call_text names.now call) }
+{
+    let name = CallName::of(call);
+    out.extend_from_slice(name.text())?;
+    out.push(b'(')?;
+    put_arguments(out, names, name.kinds(), values_of(call).as_slice())?;
+    out.push(b')')?;
+    Ok(())
+}

@@ -1,0 +1,21 @@
+-- One event more of a history.
+use Rattle.std.proofs.Common.{◌≡◌, ◌<◌, ◌+◌, ◌++◌, ◌∷◌, [], List, ℕ, length, drop, slice_index_or, append_assoc, append-nil, ap, subst, sym, ◌∙◌, ◌≤◌}
+use Rattle.std.proofs.lemmas.List.{drop_more, drop_all}
+use Rattle.fmp_codes.specs.declared.records.Event.{Event}
+use Rattle.fmp_codes.specs.declared.records.Record.{Record}
+use Rattle.fmp_config.specs.Numbers.{State, numbered}
+use Rattle.fmp_config.specs.Step.{step, answers}
+
+-- the records so far, with one more, before those of the events that are left
+pub answers_more : (m : State) (es : List Event) (i : ℕ) (e : Event) (told all : List Record) → i < length es → e ≡ slice_index_or es i e
+    → told ++ answers numbered m (drop i es) ≡ all → (told ++ (step numbered m e).1 ∷ []) ++ answers numbered (step numbered m e).0 (drop (i + 1) es) ≡ all
+answers_more m es i e told all below is h =
+    let split : drop i es ≡ e ∷ drop (i + 1) es = drop_more es i e below ∙ ap (λ x. x ∷ drop (i + 1) es) (sym is) in
+    let split_told : told ++ answers numbered m (e ∷ drop (i + 1) es) ≡ all = subst (λ x. told ++ answers numbered m x ≡ all) split h in
+    append_assoc told ((step numbered m e).1 ∷ []) _ ∙ split_told
+
+-- after the last event all records are there
+pub answers_end : (m : State) (es : List Event) (i : ℕ) (told all : List Record) → length es ≤ i → told ++ answers numbered m (drop i es) ≡ all → told ≡ all
+answers_end m es i told all past h =
+    let none_left : told ++ answers numbered m [] ≡ all = subst (λ x. told ++ answers numbered m x ≡ all) (drop_all i es past) h in
+    sym (append-nil told) ∙ none_left
