@@ -2,6 +2,8 @@
 #![tactic(auto)]
 
 mod lines;
+#[cfg(test)]
+mod tests;
 mod values;
 
 pub use lines::trace_text;

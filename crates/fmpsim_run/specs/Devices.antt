@@ -1,5 +1,5 @@
 -- What devices do.
-use Rattle.std.specs.Prelude.{◌≡◌, ◌≤◌, ◌-◌, ℕ, zero, suc, Bool, true, false, List, [], ◌++◌, ◌==◌, ◌&&◌, nat_lt, length, take, Option, None, Some, Result, Ok, Err}
+use Rattle.std.specs.Prelude.{◌≡◌, ◌≤◌, ℕ, zero, suc, Bool, true, false, List, [], ◌++◌, ◌==◌, ◌&&◌, nat_lt, length, take, Option, None, Some, Result, Ok, Err}
 use Rattle.fmpsim_run.specs.declared.whole.ReadFault.{ReadFault}
 use Rattle.fmpsim_run.specs.declared.whole.ReadFault.TheVariants.{Failed, Memory}
 

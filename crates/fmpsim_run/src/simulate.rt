@@ -10,11 +10,7 @@ use fmp_plain::Plain;
 use std::alloc::{AllocError, Global};
 
 /// The records of a list of events. The room for all of them is asked for before the first event.
-pub fn simulate(
-    alloc: Global,
-    config: &Config,
-    events: &[Event],
-) -> Result<Vec<Record>, AllocError>
+pub fn simulate(alloc: Global, config: &Config, events: &[Event]) -> Result<Vec<Record>, AllocError>
     requires { length events.now ≤ 1000000 }
     ensures { IfOk result (λ v. v.items ≡ answers numbered (booted config.now) events.now) }
 {
