@@ -1,5 +1,8 @@
 pub mod Setup
 pub mod Valid
+pub mod Building
+pub mod Faults
+pub mod Parts
 pub mod World
 pub mod Keeping
 pub mod Tasks
@@ -13,3 +16,6 @@ pub mod Tick
 pub mod Step
 pub mod Boot
 pub mod Outcomes
+pub mod Reading
+pub mod Statements
+pub mod Draft

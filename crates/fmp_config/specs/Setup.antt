@@ -1,6 +1,7 @@
 -- What a configuration says: lists in the order of the numbers, which begin at 1.
 use Rattle.std.specs.Prelude.{ℕ, ◌-◌, Bool, false, List, [], slice_index_or}
 use Rattle.fmp_codes.specs.declared.numbers.Proc.{Proc}
+use Rattle.fmp_text.specs.Names.{NameLists, no_names}
 use Rattle.fmp_config.specs.declared.setup.Class.{Class}
 use Rattle.fmp_config.specs.declared.setup.Timer.{Timer}
 use Rattle.fmp_config.specs.declared.setup.Timer.TheVariants as timer
@@ -17,6 +18,8 @@ pub record Setup : Type 0 where
   pub processors : ℕ
   pub timer : Timer
   pub limits : Limits
+  pub classes : List Class
+  pub class_names : List (List ℕ)
   pub tasks : List TaskSetup
   pub semaphores : List SemaphoreSetup
   pub eventflags : List EventflagSetup
@@ -25,14 +28,17 @@ pub record Setup : Type 0 where
   pub cyclics : List CyclicSetup
   pub alarms : List AlarmSetup
   pub spin_locks : ℕ
+  pub names : NameLists  -- of the objects and the functions
 
--- the configuration of so many processors and these tasks, without any object
-abbrev pub of_tasks : ℕ → List TaskSetup → Setup
-of_tasks n ts = record {
+-- the configuration of so many processors, these classes, tasks and names, without any other object
+abbrev pub of_parts : ℕ → List Class → List (List ℕ) → List TaskSetup → NameLists → Setup
+of_parts n classes class_names tasks names = record {
   processors = n;
   timer = timer.Local;
   limits = record { wakeups = 1; priorities = 16 };
-  tasks = ts;
+  classes = classes;
+  class_names = class_names;
+  tasks = tasks;
   semaphores = [];
   eventflags = [];
   data_queues = [];
@@ -40,7 +46,12 @@ of_tasks n ts = record {
   cyclics = [];
   alarms = [];
   spin_locks = 0;
+  names = names;
 }
+
+-- the configuration of so many processors and these tasks, without any name
+abbrev pub of_tasks : ℕ → List TaskSetup → Setup
+of_tasks n tasks = of_parts n [] [] tasks (no_names n)
 
 -- the class has this processor
 abbrev pub has_member : Class → Proc → Bool

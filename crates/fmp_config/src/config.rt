@@ -1,43 +1,42 @@
 //! A valid configuration.
-ghost use Rattle.std.specs.Prelude.{◌≡◌, ◌≤◌, ◌↔◌, IsSome, IfSome};
-ghost use Rattle.std.specs.List.{list_all, list_any};
-ghost use Rattle.fmp_config.specs.Setup.{of_tasks};
-ghost use Rattle.fmp_config.specs.Valid.{IsValid, is_class_of};
+ghost use Rattle.std.specs.Prelude.{◌≡◌, ◌≤◌};
+ghost use Rattle.std.specs.List.{list_any};
+ghost use Rattle.fmp_config.specs.Valid.{is_class_of};
 
-use crate::{Class, TaskSetup};
+use crate::parts::{NamedClass, Parts};
+use crate::setup::{Class, TaskSetup};
+use fmp_text::Names;
 use std::marker::Model;
 
-/// A valid configuration: how many processors there are, and what it says of each task.
-#[derive(Debug, Drop)]
+/// A valid configuration: how many processors there are, the classes and tasks, and the names of the objects and functions.
+#[derive(Drop)]
 pub struct Config {
-    processors: u8,
-    tasks: Vec<TaskSetup>,
+    parts: Parts,
 }
 
 impl Model for Config {
-    ghost use Rattle.fmp_config.specs.Setup.{Setup, of_tasks};
+    ghost use Rattle.fmp_config.specs.Parts.{setup_of};
+    ghost use Rattle.fmp_config.specs.Setup.{Setup};
     ghost use Rattle.fmp_config.specs.Valid.{IsValid};
 
     ghost Value = { Setup };
 
-    ghost view = { λ a. of_tasks a.processors a.tasks.items };
+    ghost view = { λ c. setup_of c.parts };
 
-    ghost invariant = { λ a. IsValid (of_tasks a.processors a.tasks.items) };
+    ghost invariant = { λ c. IsValid (setup_of c.parts) };
 }
 
 impl Config {
-    /// The configuration of these parts, or None where it would not be valid. Tasks are numbered from 1, as they stand.
-    pub fn new(processors: u8, tasks: Vec<TaskSetup>) -> Option<Self>
-        ensures valid { IsSome result ↔ IsValid (of_tasks processors tasks.items) }
-        ensures value { IfSome result (λ c. c ≡ of_tasks processors tasks.items) }
+    ghost use Rattle.std.specs.Prelude.{◌≡◌, map};
+    ghost use Rattle.fmp_config.specs.Parts.{setup_of};
+    ghost use Rattle.fmp_config.specs.Valid.{IsValid};
+
+    /// The configuration of these parts.
+    pub fn of(parts: Parts) -> Self
+        requires { IsValid (setup_of parts) }
+        ensures { result ≡ setup_of parts }
     {
-        if processors < 1 || processors > 8 || tasks.len() > 64 {
-            return None;
-        }
-        if !are_classes(processors, tasks.as_slice()) {
-            return None;
-        }
-        Some(Config { processors, tasks })
+        Config { parts }
     }
 
     /// The number of processors.
@@ -45,7 +44,24 @@ impl Config {
         ensures value { result ≡ self.now.processors }
         ensures valid { IsValid self.now }
     {
-        self.processors
+        self.parts.names.processors()
+    }
+
+    /// The names of the objects and functions.
+    pub fn names(&self) -> &Names
+        ensures value { result.now ≡ self.now.names }
+        ensures valid { IsValid self.now }
+    {
+        &self.parts.names
+    }
+
+    /// The classes with their names, in the order in which they were defined.
+    pub fn classes(&self) -> &[NamedClass]
+        ensures value { map (λ c. c.class) result.now ≡ self.now.classes }
+        ensures names { map (λ c. c.name.items) result.now ≡ self.now.class_names }
+        ensures valid { IsValid self.now }
+    {
+        self.parts.classes.as_slice()
     }
 
     /// The tasks, in the order of their numbers.
@@ -53,20 +69,12 @@ impl Config {
         ensures value { result.now ≡ self.now.tasks }
         ensures valid { IsValid self.now }
     {
-        self.tasks.as_slice()
+        self.parts.tasks.as_slice()
     }
 }
 
-fn are_classes(processors: u8, tasks: &[TaskSetup]) -> bool
-    requires { processors ≤ 8 }
-    ensures { result ≡ list_all (λ t. is_class_of processors t.class) tasks.now }
-{
-    tasks
-        .iter()
-        .all(|task| is_class_of(processors, &task.class))
-}
-
-fn is_class_of(processors: u8, class: &Class) -> bool
+/// Whether a class is one of a machine of so many processors.
+pub fn is_class_of(processors: u8, class: &Class) -> bool
     requires { processors ≤ 8 }
     ensures { result ≡ is_class_of processors class.now }
 {

@@ -1,8 +1,8 @@
 -- Reading the values of arguments one after the other, as a loop does.
 use Rattle.std.proofs.Common.{◌≡◌, ℕ, ◌+◌, ◌≤◌, ◌<◌, List, [], ◌∷◌, ◌++◌, length, get_or, drop, Result, Ok, Err, refl, sym, ap, ◌∙◌, append_assoc}
 use Rattle.std.proofs.lemmas.List.{append-nil, drop_more, drop_all}
-use Rattle.fmp_text.specs.declared.kinds.ArgumentKind.{ArgumentKind}
-use Rattle.fmp_text.specs.declared.kinds.Value.{Value}
+use Rattle.fmp_calls.specs.declared.kinds.ArgumentKind.{ArgumentKind}
+use Rattle.fmp_calls.specs.declared.kinds.Value.{Value}
 use Rattle.fmp_text.specs.declared.fault.TextKind.{TextKind}
 use Rattle.fmp_text.specs.Names.{NameLists}
 use Rattle.fmp_text.specs.Argument.{value_at}

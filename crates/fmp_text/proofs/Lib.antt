@@ -1,7 +1,11 @@
 pub mod Judged
 pub mod Listed
 pub mod Numbered
+pub mod Parsed
 pub mod Pieces
 pub mod Placed
 pub mod Spelled
+pub mod SpelledCalls
+pub mod SpelledEvents
+pub mod SpelledTexts
 pub mod Valid

@@ -1,8 +1,8 @@
 -- Tests and counts of the names in lists.
-use Rattle.std.proofs.Common.{◌≡◌, ℕ, ◌+◌, ◌≤◌, ◌<◌, zero, suc, true, false, ◌&&◌, ◌||◌, inl, inr, Bool, cond, not, List, [], ◌∷◌, ◌++◌, length, map, set, get_or, Option, Some, None, Result, Ok, Err, ◌⊎◌, OnOk, OnErr, refl, sym, ap, ◌∙◌, arith, position}
+use Rattle.std.proofs.Common.{◌≡◌, ℕ, ◌+◌, ◌<◌, zero, suc, true, false, ◌&&◌, ◌||◌, inl, inr, Bool, cond, not, List, [], ◌∷◌, ◌++◌, length, map, set, get_or, Result, Ok, Err, ◌⊎◌, OnOk, OnErr, refl, sym, ap, ◌∙◌, arith, position}
 use Rattle.std.specs.List.{prefix_len, list_any, list_all, sum_by}
 use Rattle.std.specs.Str.{bytes_eq}
-use Rattle.std.proofs.lemmas.Bool.{cases_lt, cases_Bool, or_parts, and_parts, and_from, false≢true}
+use Rattle.std.proofs.lemmas.Bool.{cases_Bool, or_parts, and_parts, and_from, false≢true}
 use Rattle.std.proofs.lemmas.List.{length-map}
 use Rattle.std.proofs.lemmas.List.Folds.{list_any_at, list_all_at, list_all-append}
 use Rattle.std.proofs.lemmas.List.Sums.{sum_by-cons, sum_by-append}

@@ -1,16 +1,17 @@
 -- A name's number and a number's name give each other back.
 use Rattle.std.proofs.Common.{◌≡◌, ℕ, zero, suc, ◌+◌, ◌-◌, ◌<◌, ◌≤◌, true, false, not, ◌&&◌, cond, inl, inr, Bool, List, [], ◌∷◌, length, get_or, Option, Some, None, option_map, eqb, refl, sym, ap, ◌∙◌, arith, position, slice_get}
-use Rattle.std.specs.List.{prefix_len, position_or_len, list_all, sum_by}
+use Rattle.std.specs.List.{position_or_len, list_all}
 use Rattle.std.specs.Str.{bytes_eq}
 use Rattle.std.proofs.lemmas.Bool.{cases_lt, cases_eq, cases_Bool, lt-ltb, le-ltb, eq-eqb, ne_eqb, and_parts}
 use Rattle.std.proofs.lemmas.Slice.Eq.{bytes_eq-Decides}
 use Rattle.std.proofs.lemmas.List.Sums.{sum_by-cons, sum_by-set, passes_at_first}
 use Rattle.std.proofs.lemmas.Option.{slice_get-get_or, slice_get_within, get_or_from_slice_get}
 use Rattle.fmp_bytes.proofs.Fronts.{not_true}
-use Rattle.fmp_text.specs.declared.kinds.ObjectKind.{ObjectKind}
-use Rattle.fmp_text.specs.declared.kinds.NameKind.{NameKind}
-use Rattle.fmp_text.specs.declared.kinds.NameKind.TheVariants.{Object, Function}
-use Rattle.fmp_text.specs.Names.{NameLists, AreValid, names_of, number_of, name_of, times, is_name, is_reserved, place_of}
+use Rattle.fmp_calls.specs.declared.kinds.ObjectKind.{ObjectKind}
+use Rattle.fmp_calls.specs.declared.kinds.NameKind.{NameKind}
+use Rattle.fmp_calls.specs.declared.kinds.NameKind.TheVariants.{Object, Function}
+use Rattle.fmp_calls.specs.Kinds.{place_of}
+use Rattle.fmp_text.specs.Names.{NameLists, AreValid, names_of, number_of, name_of, times, is_name, is_reserved}
 use Rattle.fmp_text.proofs.Listed.{list_all-at}
 use Rattle.fmp_text.proofs.Valid.{place_of-lt}
 

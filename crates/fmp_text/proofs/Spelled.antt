@@ -1,5 +1,5 @@
 -- A value is read exactly where it is spelled.
-use Rattle.std.proofs.Common.{◌≡◌, ℕ, pos, true, false, ◌||◌, ◌⊎◌, cond, inl, inr, Bool, List, [], ◌∷◌, Option, Some, None, option_map, option_and_then, is_some, Result, Ok, Err, refl, sym, ap, subst, ◌∙◌}
+use Rattle.std.proofs.Common.{◌≡◌, ℕ, pos, true, false, ◌||◌, ◌⊎◌, cond, inl, inr, Bool, List, Option, Some, None, option_map, option_and_then, Ok, Err, refl, sym, ap, ◌∙◌}
 use Rattle.std.specs.Prelude.{codes}
 use Rattle.std.specs.Option.{ok_or, option_map_or, option_or}
 use Rattle.std.specs.Str.{bytes_eq}
@@ -9,18 +9,16 @@ use Rattle.fmp_bytes.specs.declared.numerals.Number.{Number}
 use Rattle.fmp_bytes.specs.Bytes.{is_of, is_identifier}
 use Rattle.fmp_bytes.specs.Numerals.{number_of}
 use Rattle.fmp_bytes.proofs.Spelled.{number_of-spelled, number_is_spelled, number_of-identifier}
-use Rattle.fmp_text.specs.declared.kinds.ArgumentKind.{ArgumentKind}
-use Rattle.fmp_text.specs.declared.kinds.ArgumentKind.TheVariants as kinds
-use Rattle.fmp_text.specs.declared.kinds.ObjectKind.{ObjectKind}
-use Rattle.fmp_text.specs.declared.kinds.ObjectKind.TheVariants as objects
-use Rattle.fmp_text.specs.declared.kinds.NameKind.TheVariants as name_kinds
-use Rattle.fmp_text.specs.declared.kinds.Value.{Value}
-use Rattle.fmp_text.specs.declared.kinds.Value.TheVariants as values
-use Rattle.fmp_text.specs.declared.fault.TextKind.{TextKind}
+use Rattle.fmp_calls.specs.declared.kinds.ArgumentKind.{ArgumentKind}
+use Rattle.fmp_calls.specs.declared.kinds.ArgumentKind.TheVariants as kinds
+use Rattle.fmp_calls.specs.declared.kinds.ObjectKind.TheVariants as objects
+use Rattle.fmp_calls.specs.declared.kinds.NameKind.TheVariants as name_kinds
+use Rattle.fmp_calls.specs.declared.kinds.Value.{Value}
+use Rattle.fmp_calls.specs.declared.kinds.Value.TheVariants as values
 use Rattle.fmp_text.specs.declared.fault.TextKind.TheVariants.{NumberOutOfRange, WrongArguments, UnknownName}
 use Rattle.fmp_text.specs.Names.{NameLists, AreValid, is_name, is_reserved, is_constant, is_object, is_processor_word}
-use Rattle.fmp_text.specs.Names.{number_of as number_of_name, name_of}
-use Rattle.fmp_text.specs.Argument.{is_argument, ranged, number_value, judged_number, constant_of, object_of, named_value, value_at, zero_if, timeout_of, mode_of}
+use Rattle.fmp_text.specs.Names.{number_of as number_of_name}
+use Rattle.fmp_text.specs.Argument.{is_argument, ranged, number_value, judged_number, constant_of, object_of, named_value, value_at, zero_if}
 use Rattle.fmp_text.specs.Grammar.{IsNumber, IsObjectName, SpellsValue}
 use Rattle.fmp_text.proofs.Placed.{number_of-name_of, name_of-number_of, object_name}
 

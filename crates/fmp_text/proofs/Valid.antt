@@ -1,16 +1,17 @@
 -- One name more keeps what holds of all names.
-use Rattle.std.proofs.Common.{◌≡◌, ℕ, ◌+◌, ◌≤◌, ◌<◌, true, false, ◌&&◌, cond, eqb, Result, OnOk, OnErr, inl, inr, Bool, not, List, [], ◌∷◌, ◌++◌, length, set, get_or, refl, sym, ap, subst, ◌∙◌, arith, length-append}
-use Rattle.std.specs.List.{list_any, list_all, sum_by}
+use Rattle.std.proofs.Common.{◌≡◌, ℕ, ◌+◌, ◌≤◌, ◌<◌, true, false, ◌&&◌, cond, eqb, Result, OnOk, OnErr, inl, inr, Bool, not, List, [], ◌∷◌, ◌++◌, length, set, get_or, refl, sym, ap, ◌∙◌, arith, length-append}
+use Rattle.std.specs.List.{list_all, sum_by}
 use Rattle.std.specs.Str.{bytes_eq}
-use Rattle.std.proofs.lemmas.Bool.{cases_eq, cases_Bool, and_from, ltb-true}
+use Rattle.std.proofs.lemmas.Bool.{cases_eq, cases_Bool, ltb-true}
 use Rattle.std.proofs.lemmas.Slice.Eq.{bytes_eq-Decides}
 use Rattle.std.proofs.lemmas.List.{length-set, get_or-set_same, get_or-set_other}
 use Rattle.std.proofs.lemmas.List.Sums.{sum_by-set}
-use Rattle.fmp_text.specs.declared.kinds.ObjectKind.{ObjectKind}
-use Rattle.fmp_text.specs.declared.kinds.ObjectKind.TheVariants.{Task, Semaphore, Eventflag, DataQueue, Pool, Cyclic, Alarm, SpinLock}
-use Rattle.fmp_text.specs.declared.kinds.NameKind.{NameKind}
-use Rattle.fmp_text.specs.declared.kinds.NameKind.TheVariants.{Object, Function}
-use Rattle.fmp_text.specs.Names.{NameLists, AreValid, place_of, most_of, is_name, is_reserved, is_free, is_taken, is_object, has_name, has_room, with_name, times}
+use Rattle.fmp_calls.specs.declared.kinds.ObjectKind.{ObjectKind}
+use Rattle.fmp_calls.specs.declared.kinds.ObjectKind.TheVariants.{Task}
+use Rattle.fmp_calls.specs.declared.kinds.NameKind.{NameKind}
+use Rattle.fmp_calls.specs.declared.kinds.NameKind.TheVariants.{Object, Function}
+use Rattle.fmp_calls.specs.Kinds.{place_of, most_of}
+use Rattle.fmp_text.specs.Names.{NameLists, AreValid, is_name, is_reserved, is_free, is_taken, is_object, has_name, has_room, with_name, times}
 use Rattle.fmp_text.proofs.Listed.{list_all-at, list_all-set, list_all-push, times-none, times_any-none, times-push, list_any-nowhere, either_way}
 
 -- the greatest number of objects at a place among the kinds

@@ -8,12 +8,12 @@ use Rattle.fmp_bytes.specs.declared.classes.Class.TheVariants.{Blank, Argument}
 use Rattle.fmp_bytes.specs.declared.numerals.Number.{Number}
 use Rattle.fmp_bytes.specs.Bytes.{is_of, front, after, behind, cut_at, pieces_of, is_identifier}
 use Rattle.fmp_bytes.specs.Numerals.{number_of, signed_of, unsigned_limited}
-use Rattle.fmp_text.specs.declared.kinds.ArgumentKind.{ArgumentKind}
-use Rattle.fmp_text.specs.declared.kinds.ArgumentKind.TheVariants as kinds
-use Rattle.fmp_text.specs.declared.kinds.ObjectKind.TheVariants as objects
-use Rattle.fmp_text.specs.declared.kinds.NameKind.TheVariants as names
-use Rattle.fmp_text.specs.declared.kinds.Value.{Value}
-use Rattle.fmp_text.specs.declared.kinds.Value.TheVariants as values
+use Rattle.fmp_calls.specs.declared.kinds.ArgumentKind.{ArgumentKind}
+use Rattle.fmp_calls.specs.declared.kinds.ArgumentKind.TheVariants as kinds
+use Rattle.fmp_calls.specs.declared.kinds.ObjectKind.TheVariants as objects
+use Rattle.fmp_calls.specs.declared.kinds.NameKind.TheVariants as names
+use Rattle.fmp_calls.specs.declared.kinds.Value.{Value}
+use Rattle.fmp_calls.specs.declared.kinds.Value.TheVariants as values
 use Rattle.fmp_text.specs.declared.fault.TextKind.{TextKind}
 use Rattle.fmp_text.specs.declared.fault.TextKind.TheVariants.{UnknownName, WrongArguments, NumberOutOfRange}
 use Rattle.fmp_text.specs.Names.{number_of as number_of_name}

@@ -5,15 +5,15 @@ use Rattle.fmp_codes.specs.declared.calls.Call.{Call}
 use Rattle.fmp_bytes.specs.declared.classes.Class.TheVariants.{Blank}
 use Rattle.fmp_bytes.specs.Bytes.{is_of}
 use Rattle.fmp_bytes.specs.Spelling.{SpellsNumber}
-use Rattle.fmp_text.specs.declared.kinds.ArgumentKind.{ArgumentKind}
-use Rattle.fmp_text.specs.declared.kinds.ArgumentKind.TheVariants as kinds
-use Rattle.fmp_text.specs.declared.kinds.ObjectKind.{ObjectKind}
-use Rattle.fmp_text.specs.declared.kinds.NameKind.TheVariants as name_kinds
-use Rattle.fmp_text.specs.declared.kinds.Value.{Value}
-use Rattle.fmp_text.specs.declared.kinds.Value.TheVariants as values
+use Rattle.fmp_calls.specs.declared.kinds.ArgumentKind.{ArgumentKind}
+use Rattle.fmp_calls.specs.declared.kinds.ArgumentKind.TheVariants as kinds
+use Rattle.fmp_calls.specs.declared.kinds.ObjectKind.{ObjectKind}
+use Rattle.fmp_calls.specs.declared.kinds.NameKind.TheVariants as name_kinds
+use Rattle.fmp_calls.specs.declared.kinds.Value.{Value}
+use Rattle.fmp_calls.specs.declared.kinds.Value.TheVariants as values
 use Rattle.fmp_text.specs.Names.{NameLists, name_of}
-use Rattle.fmp_text.specs.Table.{text_of, kinds_of, values_of}
-use Rattle.fmp_text.specs.Table.{name_of as call_name_of}
+use Rattle.fmp_calls.specs.Table.{text_of, kinds_of, values_of}
+use Rattle.fmp_calls.specs.Table.{name_of as call_name_of}
 use Rattle.fmp_text.specs.Argument.{ranged, constant_of}
 
 -- spaces and tabs, or nothing

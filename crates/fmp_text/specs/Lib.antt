@@ -5,5 +5,4 @@ pub mod Grammar
 pub mod Lines
 pub mod Names
 pub mod Reading
-pub mod Table
-pub mod Tables
+pub mod TextGrammar

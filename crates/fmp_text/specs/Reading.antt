@@ -3,12 +3,12 @@ use Rattle.std.specs.Prelude.{◌≡◌, ℕ, List, [], ◌∷◌, length, Resul
 use Rattle.std.specs.List.{list_all}
 use Rattle.std.specs.Option.{ok_or}
 use Rattle.std.specs.Str.{bytes_eq}
-use Rattle.fmp_text.specs.declared.table.TheConstants.{CALL_NAMES, MOST_ARGUMENTS}
+use Rattle.fmp_calls.specs.declared.table.TheConstants.{CALL_NAMES, MOST_ARGUMENTS}
 use Rattle.fmp_codes.specs.declared.calls.Call.{Call}
-use Rattle.fmp_text.specs.declared.table.CallName.{CallName}
-use Rattle.fmp_text.specs.declared.kinds.ArgumentKind.{ArgumentKind}
-use Rattle.fmp_text.specs.declared.kinds.Value.{Value}
-use Rattle.fmp_text.specs.Table.{text_of, kinds_of, call_of}
+use Rattle.fmp_calls.specs.declared.table.CallName.{CallName}
+use Rattle.fmp_calls.specs.declared.kinds.ArgumentKind.{ArgumentKind}
+use Rattle.fmp_calls.specs.declared.kinds.Value.{Value}
+use Rattle.fmp_calls.specs.Table.{text_of, kinds_of, call_of}
 use Rattle.fmp_bytes.specs.declared.classes.Class.TheVariants.{Blank, Word, Line}
 use Rattle.fmp_text.specs.declared.fault.TextKind.{TextKind}
 use Rattle.fmp_text.specs.declared.fault.TextKind.TheVariants.{BadByte, BadWord, WrongArguments}

@@ -5,14 +5,13 @@ ghost use Rattle.fmp_bytes.specs.Bytes.{pieces_of};
 ghost use Rattle.fmp_text.specs.Argument as spec;
 
 use crate::fault::TextKind;
-use crate::kinds::{ArgumentKind, ObjectKind, Value};
 use crate::names::{Names, is_constant};
-use crate::table::MOST_ARGUMENTS;
 use arrayvec::ArrayVec;
 use fmp_bytes::{
     Class, Number, all_of, behind, cut, is_identifier, signed32, signed64, skip, spelled_number,
     split_front, unsigned32,
 };
+use fmp_calls::{ArgumentKind, MOST_ARGUMENTS, ObjectKind, Value};
 use fmp_codes::Mode;
 
 /// Whether the text has the form of an argument: an identifier or a number.

@@ -5,11 +5,10 @@ ghost use Rattle.fmp_text.specs.Reading.{Gives};
 
 use crate::argument::{arguments_in, enclosed_in, value_at};
 use crate::fault::TextKind;
-use crate::kinds::{ArgumentKind, Value};
 use crate::names::Names;
-use crate::table::{CallName, MOST_ARGUMENTS, find_call};
 use arrayvec::ArrayVec;
 use fmp_bytes::{Class, all_of, skip, split_front};
+use fmp_calls::{ArgumentKind, CallName, MOST_ARGUMENTS, Value, find_call};
 use fmp_codes::Call;
 
 #[tactic(auto, unfolding(crate::specs::Reading::named_call))]

@@ -3,6 +3,7 @@ ghost use Rattle.std.specs.Prelude.{◌≡◌};
 ghost use Rattle.fmp_text.specs.declared.fault.TextKind.TheVariants.{Memory};
 
 use std::alloc::{AllocError, AllocFailed};
+use std::fmt;
 
 /// The kinds of faults.
 #[derive(Clone, Copy, Debug, PartialEq, Eq)]
@@ -67,6 +68,14 @@ impl TextKind {
 pub struct TextFault {
     pub kind: TextKind,
     pub line: u32,
+}
+
+/// As it is told to a user: `line 4: E2 bad word`.
+impl fmt::Display for TextFault {
+    fn fmt<W: fmt::Write>(&self, f: &mut fmt::Formatter<W>) -> fmt::Result {
+        let (line, code, words) = (self.line, self.kind.code(), self.kind.words());
+        write!(f, "line {line}: {code} {words}")
+    }
 }
 
 impl From<AllocError> for TextFault {

@@ -5,19 +5,19 @@ mod argument;
 mod call;
 mod events;
 mod fault;
-mod kinds;
+mod laws;
 mod line;
 mod names;
-mod table;
 
 pub use call::read_call;
 pub use events::{MOST_BYTES, MOST_EVENTS, read_events};
 pub use fault::{TextFault, TextKind};
-pub use kinds::{ArgumentKind, NameKind, ObjectKind, Value};
+pub use laws::{
+    names_and_numbers_agree, read_calls_are_spelled, read_texts_are_spelled,
+    read_values_are_spelled, spelled_calls_are_read, spelled_texts_are_read,
+    spelled_values_are_read, texts_spell_one_list,
+};
 pub use names::{MOST_NAME_BYTES, Names, is_constant, is_name, is_reserved};
-pub use table::system::SystemName;
-pub use table::task::TaskName;
-pub use table::{CALL_NAMES, CallName, MOST_ARGUMENTS, find_call, values_of};
 
 #[cfg(test)]
 mod tests;

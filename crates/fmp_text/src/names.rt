@@ -3,11 +3,12 @@ ghost use Rattle.std.specs.Prelude.{◌≡◌, ◌≤◌, ◌++◌, ◌∷◌, [
 ghost use Rattle.std.specs.Option.{option_copied};
 ghost use Rattle.std.specs.List.{list_any};
 ghost use Rattle.indexmap.specs.IndexSet.{index_set_len};
-ghost use Rattle.fmp_text.specs.declared.kinds.ObjectKind.{ObjectKind};
+ghost use Rattle.fmp_calls.specs.declared.kinds.ObjectKind.{ObjectKind};
+ghost use Rattle.fmp_calls.specs.Kinds.{most_of};
 ghost use Rattle.fmp_text.specs.Names as spec;
 
-use crate::kinds::{NameKind, ObjectKind};
 use fmp_bytes::{are_digits, behind, is_identifier};
+use fmp_calls::{NameKind, ObjectKind};
 use indexmap::IndexSet;
 use std::alloc::{AllocError, Global};
 use std::marker::Model;
@@ -155,8 +156,7 @@ impl Names {
         ensures { result ≡ spec.has_room self.now kind }
     {
         match kind {
-            NameKind::Object(ObjectKind::Task) => self.list(kind).len() < 64,
-            NameKind::Object(_) => self.list(kind).len() < 32,
+            NameKind::Object(object) => self.list(kind).len() < object.limit(),
             NameKind::Function => true,
         }
     }
@@ -189,7 +189,7 @@ impl Names {
     pub fn number(&self, kind: NameKind, name: &[u8]) -> Option<usize>
         ensures value { result ≡ spec.number_of self.now kind name.now }
         ensures least { IfSome result (λ n. 1 ≤ n) }
-        ensures most { (k : ObjectKind) → kind ≡ NameKind.Object k → IfSome result (λ n. n ≤ spec.most_of k) }
+        ensures most { (k : ObjectKind) → kind ≡ NameKind.Object k → IfSome result (λ n. n ≤ most_of k) }
     {
         let list = self.list(kind);
         let index = list.get_index_of(name)?;
@@ -226,7 +226,7 @@ impl Names {
 
     fn list(&self, kind: NameKind) -> &IndexSet<Vec<u8>>
         ensures names { spec.texts result.now ≡ spec.names_of self.now kind }
-        ensures most { (k : ObjectKind) → kind ≡ NameKind.Object k → index_set_len result.now ≤ spec.most_of k }
+        ensures most { (k : ObjectKind) → kind ≡ NameKind.Object k → index_set_len result.now ≤ most_of k }
     {
         match kind {
             NameKind::Object(kind) => &self.objects[kind.place()],

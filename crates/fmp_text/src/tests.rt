@@ -1,5 +1,6 @@
 use super::*;
 use crate::argument::value_at;
+use fmp_calls::{ArgumentKind, NameKind, ObjectKind, Value};
 use fmp_codes::{Call, Event, Mode, SystemCall, TaskCall};
 use std::test::*;
 
@@ -252,8 +253,5 @@ fn a_million_and_one(rt: HostRuntime) -> Result<(), Fail> {
 fn words_of_faults(rt: HostRuntime) -> Result<(), Fail> {
     assert_eq!(rt; TextKind::BadByte.code(), "E1");
     assert_eq!(rt; TextKind::Memory.words(), "want of memory");
-    let call = Call::Task(TaskCall::ActTsk(3));
-    assert!(rt; values_of(call).as_slice() == [Value::Number(3)].as_slice());
-    assert!(rt; CallName::of(call).text() == b"act_tsk".as_slice());
     Ok(())
 }

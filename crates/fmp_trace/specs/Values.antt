@@ -4,15 +4,15 @@ use Rattle.std.specs.Fmt.{signed_decimal}
 use Rattle.fmp_codes.specs.declared.calls.Call.{Call}
 use Rattle.fmp_codes.specs.declared.calls.Mode.{Mode}
 use Rattle.fmp_codes.specs.declared.calls.Mode.TheVariants as modes
-use Rattle.fmp_text.specs.declared.kinds.ArgumentKind.{ArgumentKind}
-use Rattle.fmp_text.specs.declared.kinds.ArgumentKind.TheVariants as kinds
-use Rattle.fmp_text.specs.declared.kinds.NameKind.TheVariants.{Object}
-use Rattle.fmp_text.specs.declared.kinds.ObjectKind.{ObjectKind}
-use Rattle.fmp_text.specs.declared.kinds.ObjectKind.TheVariants as objects
-use Rattle.fmp_text.specs.declared.kinds.Value.{Value}
-use Rattle.fmp_text.specs.declared.kinds.Value.TheVariants as values
+use Rattle.fmp_calls.specs.declared.kinds.ArgumentKind.{ArgumentKind}
+use Rattle.fmp_calls.specs.declared.kinds.ArgumentKind.TheVariants as kinds
+use Rattle.fmp_calls.specs.declared.kinds.NameKind.TheVariants.{Object}
+use Rattle.fmp_calls.specs.declared.kinds.ObjectKind.{ObjectKind}
+use Rattle.fmp_calls.specs.declared.kinds.ObjectKind.TheVariants as objects
+use Rattle.fmp_calls.specs.declared.kinds.Value.{Value}
+use Rattle.fmp_calls.specs.declared.kinds.Value.TheVariants as values
 use Rattle.fmp_text.specs.Names.{NameLists, name_of}
-use Rattle.fmp_text.specs.Table as table
+use Rattle.fmp_calls.specs.Table as table
 
 -- the name of an object, or the number where no object has it
 unfoldable pub named : NameLists → ObjectKind → ℕ → List ℕ

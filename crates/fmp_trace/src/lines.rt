@@ -3,8 +3,9 @@ ghost use Rattle.std.specs.Prelude.{◌≡◌, ◌<◌, ◌^◌, ◌++◌, lengt
 ghost use Rattle.fmp_trace.specs.Lines as spec;
 
 use crate::values::{put_call, put_named, put_number, put_signed};
+use fmp_calls::ObjectKind;
 use fmp_codes::{Answer, Code, Event, Proc, Record, Release, Releases, Runner, Task};
-use fmp_text::{Names, ObjectKind};
+use fmp_text::Names;
 use std::alloc::{AllocError, Global};
 
 fn put_event(out: &mut Vec<u8>, names: &Names, event: Event) -> Result<(), AllocError>

@@ -1,10 +1,11 @@
 //! One line of each form, as docs/FORMATS.md has it.
 use crate::trace_text;
+use fmp_calls::{NameKind, ObjectKind};
 use fmp_codes::{
     Answer, Call, Code, Event, Object, Proc, Record, Release, Releases, Requests, Runner,
     SystemCall, Task, TaskCall,
 };
-use fmp_text::{NameKind, Names, ObjectKind, is_name, is_reserved};
+use fmp_text::{Names, is_name, is_reserved};
 use std::process::Abort;
 use std::test::Fail;
 

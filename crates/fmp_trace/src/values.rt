@@ -3,8 +3,9 @@ ghost use Rattle.std.specs.Prelude.{◌≡◌, ◌++◌, length, decimal, OnOk};
 ghost use Rattle.std.specs.Fmt.{signed_decimal};
 ghost use Rattle.fmp_trace.specs.Values as spec;
 
+use fmp_calls::{ArgumentKind, CallName, NameKind, ObjectKind, Value, values_of};
 use fmp_codes::{Call, Mode};
-use fmp_text::{ArgumentKind, CallName, NameKind, Names, ObjectKind, Value, values_of};
+use fmp_text::Names;
 use itoa::Buffer;
 use std::alloc::AllocError;
 

@@ -1,5 +1,5 @@
-use Rattle.fmp_text.specs.Names.{AreValid, NameLists, lists_of}
-use Rattle.fmp_text.proofs.Valid.{absent_object, absent_function, object_kept, function_kept}
+use Rattle.fmp_text.specs.Names.{lists_of}
+use Rattle.fmp_text.proofs.Valid.{absent_object, object_kept, function_kept}
 use Rattle.fmp_text.proofs.names.Names.add.Goals as goal
 
 pub insert_object-requires-clause-new : goal.insert_object-requires-clause-new

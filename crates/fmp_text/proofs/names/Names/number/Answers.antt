@@ -1,4 +1,4 @@
-use Rattle.std.proofs.Common.{◌≡◌, ◌+◌, ap, sym, ◌∙◌, Some, option_map, position}
+use Rattle.std.proofs.Common.{◌≡◌, ◌+◌, ap, sym, ◌∙◌, option_map, position}
 use Rattle.std.specs.Str.{bytes_eq}
 use Rattle.fmp_text.specs.Names.{number_of, names_of}
 use Rattle.fmp_text.proofs.Listed.{position-map}

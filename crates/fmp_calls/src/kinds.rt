@@ -1,0 +1,92 @@
+//! The kinds of names, of arguments and of their values.
+use fmp_codes::Mode;
+
+/// The kinds of objects.
+#[derive(Clone, Copy, Debug, PartialEq, Eq)]
+pub enum ObjectKind {
+    Task,
+    Semaphore,
+    Eventflag,
+    DataQueue,
+    /// A fixed-sized memory pool.
+    Pool,
+    Cyclic,
+    Alarm,
+    SpinLock,
+}
+
+impl ObjectKind {
+    ghost use Rattle.std.specs.Prelude.{◌≡◌, ◌<◌, ◌≤◌};
+    ghost use Rattle.fmp_calls.specs.Kinds.{place_of, most_of};
+
+    /// Its place among the kinds, from 0.
+    pub const fn place(self) -> usize
+        ensures value { result ≡ place_of self }
+        ensures within { result < 8 }
+    {
+        match self {
+            ObjectKind::Task => 0,
+            ObjectKind::Semaphore => 1,
+            ObjectKind::Eventflag => 2,
+            ObjectKind::DataQueue => 3,
+            ObjectKind::Pool => 4,
+            ObjectKind::Cyclic => 5,
+            ObjectKind::Alarm => 6,
+            ObjectKind::SpinLock => 7,
+        }
+    }
+
+    /// How many objects of this kind there may be.
+    pub const fn limit(self) -> usize
+        ensures value { result ≡ most_of self }
+        ensures few { result ≤ 64 }
+    {
+        match self {
+            ObjectKind::Task => 64,
+            _ => 32,
+        }
+    }
+}
+
+/// What a name is a name of. Functions have a name space of their own.
+#[derive(Clone, Copy, Debug, PartialEq, Eq)]
+pub enum NameKind {
+    Object(ObjectKind),
+    Function,
+}
+
+/// What an argument of a call stands for.
+#[derive(Clone, Copy, Debug, PartialEq, Eq)]
+pub enum ArgumentKind {
+    /// The number of an object.
+    Object(ObjectKind),
+    Priority,
+    Processor,
+    /// A number of ticks.
+    Time,
+    /// A number of ticks to wait at most.
+    Timeout,
+    /// The bits of an eventflag.
+    Pattern,
+    /// What is sent to a data queue.
+    Data,
+    /// How the bits of a pattern are waited for.
+    Mode,
+    /// A block of a pool.
+    Block,
+}
+
+/// An argument's value.
+#[derive(Clone, Copy, Debug, PartialEq, Eq)]
+pub enum Value {
+    Number(i32),
+    Pattern(u32),
+    Data(i64),
+    Mode(Mode),
+}
+
+impl Default for Value {
+    fn default() -> Self {
+        Value::Number(0)
+    }
+}

@@ -1,0 +1,15 @@
+//! What the service calls are called, and which arguments they have.
+#![tactic(auto)]
+
+mod kinds;
+mod laws;
+mod table;
+
+pub use kinds::{ArgumentKind, NameKind, ObjectKind, Value};
+pub use laws::tables_agree;
+pub use table::system::SystemName;
+pub use table::task::TaskName;
+pub use table::{CALL_NAMES, CallName, MOST_ARGUMENTS, find_call, values_of};
+
+#[cfg(test)]
+mod tests;

@@ -1,0 +1,32 @@
+-- What a reader returns, beside what reading gives.
+use Rattle.std.specs.Prelude.{◌≡◌, ℕ, ◌⊎◌, Result, Ok, Err}
+use Rattle.fmp_statements.specs.declared.fault.Fault.{Fault}
+use Rattle.fmp_statements.specs.declared.fault.ConfigKind.{ConfigKind}
+use Rattle.fmp_statements.specs.declared.fault.ConfigKind.TheVariants.{Memory}
+use Rattle.fmp_config.specs.declared.fault.ConfigFault.{ConfigFault}
+use Rattle.fmp_config.specs.declared.fault.ReadError.{ReadError}
+use Rattle.fmp_config.specs.declared.fault.ReadError.TheVariants as errors
+
+-- an error is the fault that reading gives, unless memory ran out
+abbrev pub Stops : {Y : Type 0} → ReadError → Result Y Fault → Type 0
+Stops errors.Memory read = Unit {0}
+Stops (errors.Fault fault) read = read ≡ Err fault
+
+-- the value is what reading gives with this state
+abbrev pub Reads : {X S : Type 0} → Result X ReadError → S → Result (S × X) Fault → Type 0
+Reads (Ok x) state read = read ≡ Ok (state, x)
+Reads (Err e) state read = Stops e read
+
+-- the value is what reading gives
+abbrev pub Gives : {Y : Type 0} → Result Y ReadError → Result Y Fault → Type 0
+Gives (Ok y) read = read ≡ Ok y
+Gives (Err e) read = Stops e read
+
+-- reading gives a fault of this kind in this line
+abbrev pub FaultIs : {Y : Type 0} → ConfigKind → ℕ → Result Y Fault → Type 0
+FaultIs kind line read = (fault : Fault) × (read ≡ Err fault) × (fault.kind ≡ kind) × (fault.line ≡ line)
+
+-- what a reader returned is what reading gives, or memory ran out
+abbrev pub GivesOrFails : {Y : Type 0} → Result Y ConfigFault → Result Y Fault → Type 0
+GivesOrFails (Ok y) read = read ≡ Ok y
+GivesOrFails (Err e) read = FaultIs e.kind e.line read ⊎ ((e.kind ≡ Memory) × (e.line ≡ 0))

@@ -1,0 +1,21 @@
+use Rattle.std.proofs.Common.{◌≡◌, ◌∙◌, Option, Result, Ok, sym, refl}
+use Rattle.std.proofs.lemmas.Result.{err_from_is_err_and}
+use Rattle.fmp_statements.specs.Numbers.{list_step}
+use Rattle.fmp_statements.proofs.Walking.{steps, stops, fails, nothing_left}
+use Rattle.fmp_statements.proofs.numbers.list_in.Goals as goal
+
+pub returns-in_err-next : goal.returns-in_err-next
+returns-in_err-next c =
+    let p = err_from_is_err_and c.from_residual.result c.from_residual.ensures.1 in
+    rw (p.1, p.2) (sym (fails (list_step c.args.processors c.args.statement.now) c.loop-place.listed c.args.tokens.now c.loop-place.place _ c.in_err-next.field-0.0 c.loop-place-test.true (sym (rw c.from_place.ensures at c.list_step.ensures) ∙ c.in_err-next.was) c.loop-place.invariant))
+
+pub returns-in-None : goal.returns-in-None
+returns-in-None c =
+    sym (stops (list_step c.args.processors c.args.statement.now) c.loop-place.listed c.args.tokens.now c.loop-place.place _ c.loop-place-test.true (sym (rw c.from_place.ensures at c.list_step.ensures) ∙ c.in_ok-next.was ∙ rw c.in-None.is refl) c.loop-place.invariant)
+
+pub loop-place-preserved : goal.loop-place-preserved
+loop-place-preserved c =
+    steps (list_step c.args.processors c.args.statement.now) c.loop-place.listed c.args.tokens.now c.loop-place.place _ c.in-Some.next c.loop-place-test.true (sym (rw c.from_place.ensures at c.list_step.ensures) ∙ c.in_ok-next.was ∙ rw c.in-Some.is refl) c.loop-place.invariant
+
+pub returns : goal.returns
+returns c = sym (nothing_left (list_step c.args.processors c.args.statement.now) c.loop-place.listed c.args.tokens.now c.loop-place.place _ c.loop-place-test.false c.loop-place.invariant)

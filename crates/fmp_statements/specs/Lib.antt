@@ -1,0 +1,9 @@
+pub mod Attributes
+pub mod Cursor
+pub mod Faults
+pub mod Fields
+pub mod Forms
+pub mod Numbers
+pub mod Scan
+pub mod Table
+pub mod Walk

@@ -1,0 +1,387 @@
+-- A call is read exactly where it is spelled.
+use Rattle.std.proofs.Common.{◌≡◌, Option, ℕ, ◌<◌, ◌≤◌, Bool, true, false, not, ◌&&◌, ◌||◌, cond, eqb, inl, inr, List, [], ◌∷◌, ◌++◌, length, Some, None, Ok, option_and_then, refl, sym, ap, ◌∙◌, arith}
+use Rattle.std.specs.List.{list_all, prefix_len, join_with_byte}
+use Rattle.std.specs.Option.{ok_or}
+use Rattle.std.specs.Str.{bytes_eq}
+use Rattle.std.proofs.lemmas.Bool.{cases_Bool, and_parts, and_from, or_cases, eq-eqb, ne_eqb, le-leb, eqb-true, false≢true}
+use Rattle.std.proofs.lemmas.Slice.Eq.{bytes_eq-Decides}
+use Rattle.fmp_codes.specs.declared.calls.Call.{Call}
+use Rattle.fmp_bytes.specs.declared.classes.Class.TheVariants.{Blank, Word, Argument, Line}
+use Rattle.fmp_bytes.specs.Bytes.{is_of, front, after, behind, cut_at, pieces_of, is_identifier}
+use Rattle.fmp_bytes.proofs.Fronts.{front-append, front-after, list_all-take_while, stops-cons, stops-append, stops-all, list_all-weaker, list_all-both, list_all-parts, list_all-join}
+use Rattle.fmp_bytes.proofs.Included.{line-blank, line-argument, not_argument-blank, not_word-blank, not_blank-argument}
+use Rattle.fmp_bytes.proofs.Tokens.{AreOfArgument, identifier_bytes, identifier_words, number_bytes}
+use Rattle.fmp_bytes.proofs.Spelled.{behind_is, behind-same}
+use Rattle.fmp_bytes.proofs.Cutting.{cut_at-append, cut_at-parts, pieces_of-join, join-pieces_of, some-pieces_of}
+use Rattle.fmp_calls.specs.declared.kinds.ArgumentKind.{ArgumentKind}
+use Rattle.fmp_calls.specs.declared.kinds.Value.{Value}
+use Rattle.fmp_calls.specs.declared.table.CallName.{CallName}
+use Rattle.fmp_calls.specs.declared.table.TheConstants.{CALL_NAMES}
+use Rattle.fmp_text.specs.declared.fault.TextKind.TheVariants.{BadByte, BadWord, WrongArguments}
+use Rattle.fmp_text.specs.Names.{NameLists, AreValid}
+use Rattle.fmp_calls.specs.Table.{text_of, kinds_of, name_of, values_of, call_of}
+use Rattle.fmp_text.specs.Argument.{is_argument, token_in, tokens_in, arguments_in, before_close, enclosed_in, value_at}
+use Rattle.fmp_text.specs.Reading.{◌>>=◌, named_call, values_at, call_with, call_after, call_at, call_in}
+use Rattle.fmp_text.specs.Grammar.{AreBlank, Padded, SpellsPieces, SpellsArguments, SpellsCall}
+use Rattle.fmp_text.proofs.Spelled.{value_at-spelled, value_is_spelled}
+use Rattle.fmp_calls.proofs.Matched.{call_of-parts, call_of-agrees, find-text_of, is_identifier-text_of, length-kinds_of-le}
+use Rattle.fmp_text.proofs.Parsed.{bind_parts, and_then_parts, ok_or_parts, tested_some, tested_ok, found_passes}
+
+-- ---- an argument with blanks around
+
+-- a byte that may stand between the parentheses, but for the comma
+abbrev pub inside : ℕ → Bool
+inside b = is_of Blank b || is_of Argument b
+
+line-inside : (b : ℕ) → inside b ≡ true → is_of Line b ≡ true
+line-inside b h = elim (or_cases (is_of Blank b) (is_of Argument b) h) [ inl t ↦ line-blank b t | inr t ↦ line-argument b t ]
+
+-- a byte that is neither blank nor of an argument is not inside
+outside : (c : ℕ) → inside c ≡ false → (b : ℕ) → inside b ≡ true → not (eqb b c) ≡ true
+outside c out b h =
+    let other : eqb b c ≡ false = ne_eqb b c (λ e. false≢true (sym out ∙ ap inside (sym e) ∙ h)) in
+    rw other refl
+
+inside-blank : (b : ℕ) → is_of Blank b ≡ true → inside b ≡ true
+inside-blank b h = rw h refl
+
+inside-argument : (b : ℕ) → is_of Argument b ≡ true → inside b ≡ true
+inside-argument b h = let blank = not_blank-argument b h in rw (blank, h) refl
+
+not-blank : (b : ℕ) → is_of Blank b ≡ true → not (is_of Argument b) ≡ true
+not-blank b h = let none = not_argument-blank b h in rw none refl
+
+pub not-word : (b : ℕ) → is_of Blank b ≡ true → not (is_of Word b) ≡ true
+not-word b h = let none = not_word-blank b h in rw none refl
+
+token_bytes : (token : List ℕ) → is_argument token ≡ true → AreOfArgument token
+unfolding is_argument
+token_bytes token h = elim (or_cases (is_identifier token) _ h) [ inl t ↦ identifier_bytes token t | inr t ↦ number_bytes token t ]
+
+-- an argument does not begin with a blank
+token_first : (token rest : List ℕ) → AreOfArgument token → prefix_len (is_of Blank) (token ++ rest) ≡ 0
+token_first [] rest bytes = absurd (omega (arith, bytes.0))
+token_first (b ∷ token) rest bytes = stops-cons (is_of Blank) b (token ++ rest) (not_blank-argument b (and_parts (is_of Argument b) (list_all (is_of Argument) token) bytes.1).0)
+
+-- a text with an argument is not blank
+not_all_blank : (before token rest : List ℕ) → AreOfArgument token → list_all (is_of Blank) (before ++ (token ++ rest)) ≡ true → ⊥
+not_all_blank before [] rest bytes all = absurd (omega (arith, bytes.0))
+not_all_blank before (b ∷ token) rest bytes all =
+    let tail = (list_all-parts (is_of Blank) before (b ∷ token ++ rest) all).1 in
+    let blank = (and_parts (is_of Blank b) (list_all (is_of Blank) (token ++ rest)) tail).0 in
+    false≢true (sym (not_blank-argument b (and_parts (is_of Argument b) (list_all (is_of Argument) token) bytes.1).0) ∙ blank)
+
+padded_read : (token piece : List ℕ) → Padded token piece → is_argument token ≡ true → token_in piece ≡ Some token
+unfolding token_in
+padded_read token piece padded form =
+    let bytes = token_bytes token form in
+    let start = front-append Blank padded.before (token ++ padded.behind) padded.before_blank (token_first token padded.behind bytes) in
+    let stop = stops-all (is_of Argument) padded.behind (list_all-weaker (is_of Blank) (λ b. not (is_of Argument b)) not-blank padded.behind padded.behind_blank) in
+    let whole = front-append Argument token padded.behind bytes.1 stop in
+    let skipped : after Blank piece ≡ token ++ padded.behind = ap (after Blank) padded.parts ∙ start.1 in
+    let one : front Argument (after Blank piece) ≡ token = ap (front Argument) skipped ∙ whole.0 in
+    let rest : after Argument (after Blank piece) ≡ padded.behind = ap (after Argument) skipped ∙ whole.1 in
+    let blank = padded.behind_blank in
+    rw (one, rest, form, blank) refl
+
+padded_inside : (token piece : List ℕ) → Padded token piece → is_argument token ≡ true → list_all inside piece ≡ true
+padded_inside token piece padded form =
+    ap (list_all inside) padded.parts
+    ∙ list_all-both inside padded.before (token ++ padded.behind) (list_all-weaker (is_of Blank) inside inside-blank padded.before padded.before_blank)
+    (list_all-both inside token padded.behind (list_all-weaker (is_of Argument) inside inside-argument token (token_bytes token form).1) (list_all-weaker (is_of Blank) inside inside-blank padded.behind padded.behind_blank))
+
+token_is_padded : (piece token : List ℕ) → token_in piece ≡ Some token → Padded token piece × (is_argument token ≡ true)
+unfolding token_in
+token_is_padded piece token e =
+    let t = tested_some (is_argument (front Argument (after Blank piece)) && list_all (is_of Blank) (after Argument (after Blank piece))) (front Argument (after Blank piece)) token e in
+    let p = and_parts (is_argument (front Argument (after Blank piece))) (list_all (is_of Blank) (after Argument (after Blank piece))) t.0 in
+    let whole : piece ≡ front Blank piece ++ (token ++ after Argument (after Blank piece)) = sym (front-after Blank piece) ∙ ap (λ (r : List ℕ). front Blank piece ++ r) (sym (front-after Argument (after Blank piece)) ∙ ap (λ (f : List ℕ). f ++ after Argument (after Blank piece)) t.1) in
+    (record { before = front Blank piece; behind = after Argument (after Blank piece); before_blank = list_all-take_while (is_of Blank) piece; behind_blank = p.1; parts = whole }, ap is_argument (sym t.1) ∙ p.0)
+
+-- ---- the pieces between commas
+
+-- what reading gives of pieces that are spelled
+pub record AreRead (names : NameLists) (kinds : List ArgumentKind) (values : List Value) (pieces : List (List ℕ)) : Type 0 where
+  pub tokens : List (List ℕ)
+  pub formed : tokens_in pieces ≡ Some tokens
+  pub judged : values_at names kinds tokens ≡ Ok values
+  pub as_many : length tokens ≡ length kinds
+  pub pieces_many : length pieces ≡ length kinds
+  pub inner : list_all (list_all inside) pieces ≡ true
+
+pieces_read : (names : NameLists) (kinds : List ArgumentKind) (values : List Value) (pieces : List (List ℕ)) → AreValid names → SpellsPieces names kinds values pieces → AreRead names kinds values pieces
+pieces_read names [] [] [] valid spelled = record { tokens = []; formed = refl; judged = refl; as_many = refl; pieces_many = refl; inner = refl }
+pieces_read names (kind ∷ kinds) (value ∷ values) (piece ∷ pieces) valid spelled =
+    let one = spelled.0 in
+    let here = value_at-spelled names kind one.0 value valid one.2 in
+    let token = padded_read one.0 piece one.1 here.0 in
+    let rest = pieces_read names kinds values pieces valid spelled.1 in
+    let formed = rest.formed in let judged = rest.judged in let value_read = here.1 in
+    record {
+      tokens = one.0 ∷ rest.tokens;
+      formed = rw (token, formed) refl;
+      judged = rw (value_read, judged) refl;
+      as_many = omega (arith, rest.as_many);
+      pieces_many = omega (arith, rest.pieces_many);
+      inner = and_from (list_all inside piece) (list_all (list_all inside) pieces) (padded_inside one.0 piece one.1 here.0) rest.inner;
+    }
+pieces_read names [] [] (piece ∷ pieces) valid spelled = absurd spelled
+pieces_read names [] (value ∷ values) pieces valid spelled = absurd spelled
+pieces_read names (kind ∷ kinds) [] pieces valid spelled = absurd spelled
+pieces_read names (kind ∷ kinds) (value ∷ values) [] valid spelled = absurd spelled
+
+-- ---- the arguments
+
+list_all-all : (p q : List ℕ → Bool) → ((x : List ℕ) → p x ≡ true → q x ≡ true) → (xs : List (List ℕ)) → list_all p xs ≡ true → list_all q xs ≡ true
+list_all-all p q step [] all = refl
+list_all-all p q step (x ∷ xs) all =
+    let parts = and_parts (p x) (list_all p xs) all in
+    and_from (q x) (list_all q xs) (step x parts.0) (list_all-all p q step xs parts.1)
+
+-- a text whose first piece holds an argument is not blank
+not_blank-joined : (names : NameLists) (kind : ArgumentKind) (kinds : List ArgumentKind) (values : List Value) (pieces : List (List ℕ)) → AreValid names → SpellsPieces names (kind ∷ kinds) values pieces
+    → list_all (is_of Blank) (join_with_byte 44 pieces) ≡ false
+not_blank-joined names kind kinds [] pieces valid spelled = absurd spelled
+not_blank-joined names kind kinds (value ∷ values) [] valid spelled = absurd spelled
+not_blank-joined names kind kinds (value ∷ values) (piece ∷ []) valid spelled =
+    let one = spelled.0 in
+    let bytes = token_bytes one.0 (value_at-spelled names kind one.0 value valid one.2).0 in
+    elim (cases_Bool (list_all (is_of Blank) piece)) [
+      | inl t ↦ absurd (not_all_blank one.1.before one.0 one.1.behind bytes (ap (list_all (is_of Blank)) (sym one.1.parts) ∙ t))
+      | inr f ↦ f
+    ]
+not_blank-joined names kind kinds (value ∷ values) (piece ∷ next ∷ pieces) valid spelled =
+    let one = spelled.0 in
+    let bytes = token_bytes one.0 (value_at-spelled names kind one.0 value valid one.2).0 in
+    elim (cases_Bool (list_all (is_of Blank) (piece ++ (44 ∷ join_with_byte 44 (next ∷ pieces))))) [
+      | inl t ↦ absurd (not_all_blank one.1.before one.0 one.1.behind bytes (ap (list_all (is_of Blank)) (sym one.1.parts) ∙ (list_all-parts (is_of Blank) piece (44 ∷ join_with_byte 44 (next ∷ pieces)) t).0))
+      | inr f ↦ f
+    ]
+
+-- what reading gives of arguments that are spelled
+pub record InnerRead (names : NameLists) (kinds : List ArgumentKind) (values : List Value) (inner : List ℕ) : Type 0 where
+  pub tokens : List (List ℕ)
+  pub formed : arguments_in 4 inner ≡ Some tokens
+  pub judged : values_at names kinds tokens ≡ Ok values
+  pub as_many : length tokens ≡ length kinds
+  pub in_line : list_all (is_of Line) inner ≡ true
+  pub no_close : list_all (λ b. not (eqb b 41)) inner ≡ true
+
+inner_read : (names : NameLists) (kinds : List ArgumentKind) (values : List Value) (inner : List ℕ) → AreValid names → length kinds ≤ 4 → SpellsArguments names kinds values inner → InnerRead names kinds values inner
+unfolding arguments_in is_of
+inner_read names [] values inner valid few spelled =
+    let blank = spelled.0 in let none = spelled.1 in
+    record {
+      tokens = [];
+      formed = rw blank refl;
+      judged = rw none refl;
+      as_many = refl;
+      in_line = list_all-weaker (is_of Blank) (is_of Line) line-blank inner blank;
+      no_close = list_all-weaker (is_of Blank) (λ b. not (eqb b 41)) (λ b h. outside 41 refl b (inside-blank b h)) inner blank;
+    }
+inner_read names (kind ∷ kinds) values inner valid few spelled =
+    let pieces = spelled.0 in
+    let read = pieces_read names (kind ∷ kinds) values pieces valid spelled.2 in
+    let some : 0 < length pieces = omega (arith, read.pieces_many) in
+    let not_blank : list_all (is_of Blank) inner ≡ false = ap (list_all (is_of Blank)) spelled.1 ∙ not_blank-joined names kind kinds values pieces valid spelled.2 in
+    let apart = list_all-all (list_all inside) (list_all (λ b. not (eqb b 44))) (λ piece h. list_all-weaker inside (λ b. not (eqb b 44)) (outside 44 refl) piece h) pieces read.inner in
+    let cut : pieces_of 44 inner ≡ pieces = ap (pieces_of 44) spelled.1 ∙ pieces_of-join 44 pieces some apart in
+    let formed = read.formed in
+    let within = le-leb (length read.tokens) 4 (omega (arith, read.as_many, few)) in
+    let line = list_all-join (is_of Line) 44 pieces refl (list_all-all (list_all inside) (list_all (is_of Line)) (λ piece h. list_all-weaker inside (is_of Line) line-inside piece h) pieces read.inner) in
+    let unclosed = list_all-join (λ b. not (eqb b 41)) 44 pieces refl (list_all-all (list_all inside) (list_all (λ b. not (eqb b 41))) (λ piece h. list_all-weaker inside (λ b. not (eqb b 41)) (outside 41 refl) piece h) pieces read.inner) in
+    record {
+      tokens = read.tokens;
+      formed = rw (not_blank, cut, formed, within) refl;
+      judged = read.judged;
+      as_many = read.as_many;
+      in_line = ap (list_all (is_of Line)) spelled.1 ∙ line;
+      no_close = ap (list_all (λ b. not (eqb b 41))) spelled.1 ∙ unclosed;
+    }
+
+-- ---- what is spelled is read
+
+enclosed_read : (between inner rest : List ℕ) → AreBlank between → list_all (λ b. not (eqb b 41)) inner ≡ true → AreBlank rest → enclosed_in (between ++ (40 ∷ (inner ++ (41 ∷ rest)))) ≡ Some inner
+unfolding enclosed_in before_close is_of
+enclosed_read between inner rest blank no_close ended =
+    let start = front-append Blank between (40 ∷ (inner ++ (41 ∷ rest))) blank (stops-cons (is_of Blank) 40 (inner ++ (41 ∷ rest)) refl) in
+    let skipped = start.1 in
+    rw (skipped, behind-same 40 (inner ++ (41 ∷ rest)), cut_at-append 41 inner rest no_close, ended) refl
+
+-- what follows the name
+after_read : (names : NameLists) (call : Call) (between inner rest : List ℕ) → AreValid names → AreBlank between → AreBlank rest → InnerRead names (kinds_of (name_of call)) (values_of call) inner
+    → call_after names (name_of call) (between ++ (40 ∷ (inner ++ (41 ∷ rest)))) ≡ Ok call
+unfolding call_after call_with
+after_read names call between inner rest valid blank ended read =
+    let formed = read.formed in let judged = read.judged in
+    let test = eq-eqb (length read.tokens) (length (kinds_of (name_of call))) read.as_many in
+    rw (enclosed_read between inner rest blank read.no_close ended, formed, test, judged, call_of-parts call) refl
+
+named_call-text_of : (name : CallName) → named_call (text_of name) ≡ Ok name
+unfolding named_call
+named_call-text_of name = ap (λ (found : Option CallName). ok_or found BadWord) (find-text_of name)
+
+-- the name is the first word
+name_read : (call : Call) (between rest : List ℕ) → AreBlank between → (front Word (text_of (name_of call) ++ (between ++ (40 ∷ rest))) ≡ text_of (name_of call)) × (after Word (text_of (name_of call) ++ (between ++ (40 ∷ rest))) ≡ between ++ (40 ∷ rest))
+unfolding is_of
+name_read call between rest blank =
+    let word = identifier_words (text_of (name_of call)) (is_identifier-text_of (name_of call)) in
+    let stop = stops-append (is_of Word) between 40 rest (list_all-weaker (is_of Blank) (λ b. not (is_of Word b)) not-word between blank) refl in
+    let whole = front-append Word (text_of (name_of call)) (between ++ (40 ∷ rest)) word stop in
+    (whole.0, whole.1)
+
+-- a call with no blanks before it
+at_read : (names : NameLists) (call : Call) (between inner rest : List ℕ) → AreValid names → AreBlank between → AreBlank rest → InnerRead names (kinds_of (name_of call)) (values_of call) inner
+    → call_at names (text_of (name_of call) ++ (between ++ (40 ∷ (inner ++ (41 ∷ rest))))) ≡ Ok call
+unfolding call_at
+at_read names call between inner rest valid blank ended read =
+    let whole = name_read call between (inner ++ (41 ∷ rest)) blank in
+    let name = whole.0 in let follows = whole.1 in
+    rw (name, follows, named_call-text_of (name_of call)) (after_read names call between inner rest valid blank ended read)
+
+-- the bytes of a call may stand in a line
+pub line_of_call : (names : NameLists) (text : List ℕ) (call : Call) → AreValid names → SpellsCall names text call → list_all (is_of Line) text ≡ true
+unfolding is_of
+line_of_call names text call valid s =
+    let read = inner_read names (kinds_of (name_of call)) (values_of call) s.inner valid (length-kinds_of-le (name_of call)) s.arguments in
+    let blanks : (bytes : List ℕ) → AreBlank bytes → list_all (is_of Line) bytes ≡ true = λ bytes blank. list_all-weaker (is_of Blank) (is_of Line) line-blank bytes blank in
+    let word = list_all-weaker (is_of Argument) (is_of Line) line-argument (text_of (name_of call)) (identifier_bytes (text_of (name_of call)) (is_identifier-text_of (name_of call))).1 in
+    let close = and_from (is_of Line 41) (list_all (is_of Line) s.behind) refl (blanks s.behind s.behind_blank) in
+    let inner = list_all-both (is_of Line) s.inner (41 ∷ s.behind) read.in_line close in
+    let enclosed = and_from (is_of Line 40) (list_all (is_of Line) (s.inner ++ (41 ∷ s.behind))) refl inner in
+    let between = list_all-both (is_of Line) s.between (40 ∷ (s.inner ++ (41 ∷ s.behind))) (blanks s.between s.between_blank) enclosed in
+    let named = list_all-both (is_of Line) (text_of (name_of call)) (s.between ++ (40 ∷ (s.inner ++ (41 ∷ s.behind)))) word between in
+    ap (list_all (is_of Line)) s.parts ∙ list_all-both (is_of Line) s.before (text_of (name_of call) ++ (s.between ++ (40 ∷ (s.inner ++ (41 ∷ s.behind))))) (blanks s.before s.before_blank) named
+
+-- what follows the blanks before it
+skipped_blanks : (names : NameLists) (text : List ℕ) (call : Call) (s : SpellsCall names text call) → after Blank text ≡ text_of (name_of call) ++ (s.between ++ (40 ∷ (s.inner ++ (41 ∷ s.behind))))
+skipped_blanks names text call s =
+    let bytes = identifier_bytes (text_of (name_of call)) (is_identifier-text_of (name_of call)) in
+    let start = front-append Blank s.before (text_of (name_of call) ++ (s.between ++ (40 ∷ (s.inner ++ (41 ∷ s.behind))))) s.before_blank (token_first (text_of (name_of call)) (s.between ++ (40 ∷ (s.inner ++ (41 ∷ s.behind)))) bytes) in
+    ap (after Blank) s.parts ∙ start.1
+
+pub word_of_call : (names : NameLists) (text : List ℕ) (call : Call) → SpellsCall names text call → front Word (after Blank text) ≡ text_of (name_of call)
+word_of_call names text call s = ap (front Word) (skipped_blanks names text call s) ∙ (name_read call s.between (s.inner ++ (41 ∷ s.behind)) s.between_blank).0
+
+-- behind the blanks before it
+pub call_at-spelled : (names : NameLists) (text : List ℕ) (call : Call) → AreValid names → SpellsCall names text call → call_at names (after Blank text) ≡ Ok call
+call_at-spelled names text call valid s =
+    let read = inner_read names (kinds_of (name_of call)) (values_of call) s.inner valid (length-kinds_of-le (name_of call)) s.arguments in
+    ap (call_at names) (skipped_blanks names text call s) ∙ at_read names call s.between s.inner s.behind valid s.between_blank s.behind_blank read
+
+pub call_in-spelled : (names : NameLists) (text : List ℕ) (call : Call) → AreValid names → SpellsCall names text call → call_in names text ≡ Ok call
+unfolding call_in
+call_in-spelled names text call valid s =
+    let line = line_of_call names text call valid s in
+    rw line (call_at-spelled names text call valid s)
+
+-- ---- what is read is spelled
+
+tokens_parts : (piece : List ℕ) (pieces tokens : List (List ℕ)) → tokens_in (piece ∷ pieces) ≡ Some tokens → (token : List ℕ) × (others : List (List ℕ)) × (token_in piece ≡ Some token) × (tokens_in pieces ≡ Some others) × (tokens ≡ token ∷ others)
+tokens_parts piece pieces tokens e =
+    let p = and_then_parts (token_in piece) (λ token. option_and_then (λ others. Some (token ∷ others)) (tokens_in pieces)) tokens e in
+    let q = and_then_parts (tokens_in pieces) (λ others. Some (p.0 ∷ others)) tokens p.2 in
+    let same : p.0 ∷ q.0 ≡ tokens = let e2 = q.2 in cc in
+    (p.0, q.0, p.1, q.1, sym same)
+
+values_parts : (names : NameLists) (kind : ArgumentKind) (kinds : List ArgumentKind) (token : List ℕ) (tokens : List (List ℕ)) (values : List Value) → values_at names (kind ∷ kinds) (token ∷ tokens) ≡ Ok values
+    → (value : Value) × (others : List Value) × (value_at names kind token ≡ Ok value) × (values_at names kinds tokens ≡ Ok others) × (values ≡ value ∷ others)
+values_parts names kind kinds token tokens values e =
+    let p = bind_parts (value_at names kind token) (λ value. values_at names kinds tokens >>= λ others. Ok (value ∷ others)) values e in
+    let q = bind_parts (values_at names kinds tokens) (λ others. Ok (p.0 ∷ others)) values p.2 in
+    let same : p.0 ∷ q.0 ≡ values = let e2 = q.2 in cc in
+    (p.0, q.0, p.1, q.1, sym same)
+
+pieces_spelled : (names : NameLists) (kinds : List ArgumentKind) (pieces tokens : List (List ℕ)) (values : List Value) → tokens_in pieces ≡ Some tokens → length tokens ≡ length kinds → values_at names kinds tokens ≡ Ok values → SpellsPieces names kinds values pieces
+pieces_spelled names [] [] tokens values formed as_many judged = let none : [] ≡ values = cc in rw (← none) tt
+pieces_spelled names (kind ∷ kinds) [] tokens values formed as_many judged = let none : [] ≡ tokens = cc in absurd (omega (arith, ap length none, as_many))
+pieces_spelled names [] (piece ∷ pieces) tokens values formed as_many judged = let p = tokens_parts piece pieces tokens formed in absurd (omega (arith, ap length p.4, as_many))
+pieces_spelled names (kind ∷ kinds) (piece ∷ pieces) tokens values formed as_many judged =
+    let p = tokens_parts piece pieces tokens formed in
+    let tokens_are = p.4 in
+    let v = values_parts names kind kinds p.0 p.1 values (rw tokens_are at judged) in
+    let padded = token_is_padded piece p.0 p.2 in
+    let rest = pieces_spelled names kinds pieces p.1 v.1 p.3 (omega (arith, ap length tokens_are, as_many)) v.3 in
+    let values_are = v.4 in
+    rw values_are ((p.0, padded.0, value_is_spelled names kind p.0 v.0 v.2), rest)
+
+-- some pieces have some arguments
+no_pieces : (names : NameLists) (pieces tokens : List (List ℕ)) (values : List Value) → tokens_in pieces ≡ Some tokens → length tokens ≡ 0 → 0 < length pieces → ⊥
+no_pieces names [] tokens values formed none some = omega (arith, some)
+no_pieces names (piece ∷ pieces) tokens values formed none some = let p = tokens_parts piece pieces tokens formed in omega (arith, ap length p.4, none)
+
+inner_spelled : (names : NameLists) (kinds : List ArgumentKind) (values : List Value) (inner : List ℕ) (tokens : List (List ℕ)) → arguments_in 4 inner ≡ Some tokens → length tokens ≡ length kinds → values_at names kinds tokens ≡ Ok values → SpellsArguments names kinds values inner
+unfolding arguments_in
+inner_spelled names [] values inner tokens formed as_many judged =
+    elim (cases_Bool (list_all (is_of Blank) inner)) [
+      | inl t ↦ let none : [] ≡ values = cc in (t, sym none)
+      | inr f ↦
+          let p = and_then_parts (tokens_in (pieces_of 44 inner)) _ tokens (rw f at formed) in
+          let few = tested_some _ p.0 tokens p.2 in
+          absurd (no_pieces names (pieces_of 44 inner) p.0 values p.1 (ap length few.1 ∙ as_many) (some-pieces_of 44 inner))
+    ]
+inner_spelled names (kind ∷ kinds) values inner tokens formed as_many judged =
+    elim (cases_Bool (list_all (is_of Blank) inner)) [
+      | inl t ↦ let e = rw t at formed in let none : [] ≡ tokens = cc in absurd (omega (arith, ap length none, as_many))
+      | inr f ↦
+          let p = and_then_parts (tokens_in (pieces_of 44 inner)) _ tokens (rw f at formed) in
+          let few = tested_some _ p.0 tokens p.2 in
+          let same = few.1 in
+          (pieces_of 44 inner, sym (join-pieces_of 44 inner), pieces_spelled names (kind ∷ kinds) (pieces_of 44 inner) tokens values (p.1 ∙ ap (λ (ts : List (List ℕ)). Some ts) same) as_many judged)
+    ]
+
+-- the parts of what stands between parentheses
+pub record Enclosed (text inner : List ℕ) : Type 0 where
+  pub between : List ℕ
+  pub behind : List ℕ
+  pub between_blank : AreBlank between
+  pub behind_blank : AreBlank behind
+  pub parts : text ≡ between ++ (40 ∷ (inner ++ (41 ∷ behind)))
+
+enclosed_spelled : (text inner : List ℕ) → enclosed_in text ≡ Some inner → Enclosed text inner
+unfolding enclosed_in before_close
+enclosed_spelled text inner e =
+    let p = and_then_parts (behind 40 (after Blank text)) before_close inner e in
+    let q = and_then_parts (cut_at 41 p.0).1 (λ rest. cond (list_all (is_of Blank) rest) (Some (cut_at 41 p.0).0) None) inner p.2 in
+    let t = tested_some (list_all (is_of Blank) q.0) (cut_at 41 p.0).0 inner q.2 in
+    let opened : after Blank text ≡ 40 ∷ p.0 = behind_is 40 (after Blank text) p.0 p.1 in
+    let closed : p.0 ≡ inner ++ (41 ∷ q.0) = cut_at-parts 41 p.0 q.0 q.1 ∙ ap (λ (i : List ℕ). i ++ (41 ∷ q.0)) t.1 in
+    record {
+      between = front Blank text;
+      behind = q.0;
+      between_blank = list_all-take_while (is_of Blank) text;
+      behind_blank = t.0;
+      parts = sym (front-after Blank text) ∙ ap (λ (r : List ℕ). front Blank text ++ r) (opened ∙ ap (λ (r : List ℕ). 40 ∷ r) closed);
+    }
+
+pub call_at_is_spelled : (names : NameLists) (text : List ℕ) (call : Call) → call_at names (after Blank text) ≡ Ok call → SpellsCall names text call
+unfolding call_at call_after call_with named_call
+call_at_is_spelled names text call e =
+    let t : List ℕ = after Blank text in
+    let n = bind_parts (named_call (front Word (after Blank text))) (λ name. call_after names name (after Word (after Blank text))) call e in
+    let word : text_of n.0 ≡ front Word (after Blank text) = (bytes_eq-Decides (text_of n.0) (front Word (after Blank text))).0 (found_passes (λ name. bytes_eq (text_of name) (front Word (after Blank text))) CALL_NAMES n.0 (ok_or_parts _ BadWord n.0 n.1)) in
+    let i = bind_parts (ok_or (enclosed_in (after Word (after Blank text))) WrongArguments) _ call n.2 in
+    let enclosed = enclosed_spelled (after Word (after Blank text)) i.0 (ok_or_parts _ WrongArguments i.0 i.1) in
+    let a = bind_parts (ok_or (arguments_in 4 i.0) WrongArguments) _ call i.2 in
+    let w = tested_ok (eqb (length a.0) (length (kinds_of n.0))) _ WrongArguments call a.2 in
+    let v = bind_parts (values_at names (kinds_of n.0) a.0) (λ values. ok_or (call_of n.0 values) WrongArguments) call w.1 in
+    let agrees = call_of-agrees n.0 v.0 call (ok_or_parts _ WrongArguments call v.2) in
+    let same_name = agrees.0 in let same_values = agrees.1 in
+    let arguments = inner_spelled names (kinds_of n.0) v.0 i.0 a.0 (ok_or_parts _ WrongArguments a.0 a.1) (eqb-true (length a.0) (length (kinds_of n.0)) w.0) v.1 in
+    let named : after Blank text ≡ text_of n.0 ++ (enclosed.between ++ (40 ∷ (i.0 ++ (41 ∷ enclosed.behind)))) =
+    sym (front-after Word (after Blank text)) ∙ ap (λ (r : List ℕ). front Word (after Blank text) ++ r) enclosed.parts ∙ ap (λ (f : List ℕ). f ++ (enclosed.between ++ (40 ∷ (i.0 ++ (41 ∷ enclosed.behind))))) (sym word) in
+    record {
+      before = front Blank text;
+      between = enclosed.between;
+      inner = i.0;
+      behind = enclosed.behind;
+      before_blank = list_all-take_while (is_of Blank) text;
+      between_blank = enclosed.between_blank;
+      behind_blank = enclosed.behind_blank;
+      arguments = rw (same_name, same_values) arguments;
+      parts = rw same_name (sym (front-after Blank text) ∙ ap (λ (r : List ℕ). front Blank text ++ r) named);
+    }
+
+pub call_is_spelled : (names : NameLists) (text : List ℕ) (call : Call) → call_in names text ≡ Ok call → SpellsCall names text call
+unfolding call_in
+call_is_spelled names text call e = call_at_is_spelled names text call (tested_ok (list_all (is_of Line) text) (call_at names (after Blank text)) BadByte call e).1

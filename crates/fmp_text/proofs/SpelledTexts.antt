@@ -1,0 +1,310 @@
+-- A text is read exactly where it is spelled.
+use Rattle.std.proofs.Common.{◌≡◌, ℕ, suc, ◌+◌, ◌-◌, ◌<◌, ◌≤◌, Bool, true, false, ◌&&◌, ◌||◌, ◌⊎◌, cond, eqb, ltb, inl, inr, List, [], ◌∷◌, ◌++◌, length, get_or, take, Option, Some, None, Result, Ok, Err, is_some, ◌≢◌, refl, sym, ap, subst, ◌∙◌, arith, length-append, append_assoc}
+use Rattle.std.specs.Prelude.{slice_index}
+use Rattle.std.specs.List.{list_all}
+use Rattle.std.proofs.lemmas.Bool.{cases_Bool, and_parts, or_cases, eqb-true, eqb-false, ltb-true, ltb-false, ne_eqb, lt-ltb, le-ltb, false≢true}
+use Rattle.std.proofs.lemmas.List.{take_at, take_all, take_more}
+use Rattle.std.proofs.Math.Seq.{take-append-add}
+use Rattle.fmp_codes.specs.declared.records.Event.{Event}
+use Rattle.fmp_bytes.specs.declared.classes.Class.TheVariants.{Blank, Line}
+use Rattle.fmp_bytes.specs.Bytes.{is_of, front, after, behind, pieces_of}
+use Rattle.fmp_bytes.proofs.Fronts.{front-append, front-after, list_all-take_while, stops-cons, list_all-parts, list_all-weaker}
+use Rattle.fmp_bytes.proofs.Included.{line-blank}
+use Rattle.fmp_bytes.proofs.Spelled.{behind_is, behind-same}
+use Rattle.fmp_bytes.proofs.Cutting.{pieces_of-join, join-pieces_of, some-pieces_of, apart-pieces_of}
+use Rattle.fmp_text.specs.declared.events.TheConstants.{MOST_BYTES, MOST_EVENTS}
+use Rattle.fmp_text.specs.declared.fault.TextFault.{TextFault}
+use Rattle.fmp_text.specs.declared.fault.TextKind.{TextKind}
+use Rattle.fmp_text.specs.declared.fault.TextKind.TheVariants.{CutShort}
+use Rattle.fmp_text.specs.Names.{NameLists, AreValid}
+use Rattle.fmp_text.specs.Reading.{◌>>=◌}
+use Rattle.fmp_text.specs.Lines.{event_in, is_skipped, without_return, line_event}
+use Rattle.fmp_text.specs.Events.{at_line, limited, line_events, events_from, events_in}
+use Rattle.fmp_text.specs.Grammar.{AreBlank}
+use Rattle.fmp_text.specs.TextGrammar.{IsComment, Ended, SpellsNothing, SpellsOne, IsRest, SpellsLines, SpellsText}
+use Rattle.fmp_text.proofs.Listed.{list_all-at}
+use Rattle.fmp_text.proofs.Parsed.{bind_parts}
+use Rattle.fmp_text.proofs.SpelledEvents.{event_in-spelled, event_is_spelled, line_of_spelled, event_begins}
+
+-- ---- the end of a line
+
+-- whether a line ends with a carriage return
+abbrev pub returns : List ℕ → Bool
+returns line = ltb 0 (length line) && eqb (slice_index line (length line - 1)) 13
+
+get_or-last : (xs : List ℕ) (y d : ℕ) → get_or (xs ++ y ∷ []) (length xs) d ≡ y
+get_or-last [] y d = refl
+get_or-last (x ∷ xs) y d = get_or-last xs y d
+
+without_return-push : (core : List ℕ) → without_return (core ++ (13 ∷ [])) ≡ core
+unfolding without_return
+without_return-push core =
+    let len : length (core ++ (13 ∷ [])) - 1 ≡ length core = omega (arith, length-append core (13 ∷ [])) in
+    let some = lt-ltb 0 (length (core ++ (13 ∷ []))) (omega (arith, length-append core (13 ∷ []))) in
+    let last : slice_index (core ++ (13 ∷ [])) (length core) ≡ 13 = get_or-last core 13 0 in
+    rw (some, len, last) (take_at core (13 ∷ []) (length core) refl)
+
+-- the line without its return, and whether it had one
+pub without_return-cases : (line : List ℕ) → ((returns line ≡ true) × (line ≡ without_return line ++ (13 ∷ []))) ⊎ ((returns line ≡ false) × (without_return line ≡ line))
+unfolding without_return
+without_return-cases line =
+    elim (cases_Bool (returns line)) [
+      | inl t ↦
+          let parts = and_parts (ltb 0 (length line)) (eqb (slice_index line (length line - 1)) 13) t in
+          let some = ltb-true 0 (length line) parts.0 in
+          let last : get_or line (length line - 1) 0 ≡ 13 = eqb-true (get_or line (length line - 1) 0) 13 parts.1 in
+          let all : take (length line - 1 + 1) line ≡ line = take_all (length line - 1 + 1) line (omega (arith, some)) in
+          let more = take_more line (length line - 1) 0 (omega (arith, some)) in
+          inl (t, rw t (sym all ∙ more ∙ ap (λ (b : ℕ). take (length line - 1) line ++ (b ∷ [])) last))
+      | inr f ↦ inr (f, rw f refl)
+    ]
+
+ended : (line : List ℕ) → Ended (without_return line) line
+ended line = elim (without_return-cases line) [ inl t ↦ inr t.1 | inr f ↦ inl (sym f.1) ]
+
+-- bytes of lines are no carriage return
+line_kept : (core : List ℕ) → list_all (is_of Line) core ≡ true → without_return core ≡ core
+unfolding is_of
+line_kept core line =
+    elim (without_return-cases core) [
+      | inl t ↦
+          let parts = and_parts (ltb 0 (length core)) (eqb (slice_index core (length core - 1)) 13) t.0 in
+          let last : get_or core (length core - 1) 0 ≡ 13 = eqb-true (get_or core (length core - 1) 0) 13 parts.1 in
+          let here = list_all-at (is_of Line) core (length core - 1) 0 (omega (arith, ltb-true 0 (length core) parts.0)) line in
+          absurd (false≢true (ap (is_of Line) (sym last) ∙ here))
+      | inr f ↦ f.1
+    ]
+
+-- the core of a line of an event's bytes
+core_of : (core line : List ℕ) → Ended core line → list_all (is_of Line) core ≡ true → without_return line ≡ core
+core_of core line (inl e) bytes = ap without_return e ∙ line_kept core bytes
+core_of core line (inr e) bytes = ap without_return e ∙ without_return-push core
+
+-- ---- lines that are skipped
+
+or_from_right : (b : Bool) → (b || true) ≡ true
+or_from_right true = refl
+or_from_right false = refl
+
+-- what follows the blanks before a byte that is none
+after_first : (before : List ℕ) (b : ℕ) (rest : List ℕ) → AreBlank before → is_of Blank b ≡ false → after Blank (before ++ (b ∷ rest)) ≡ b ∷ rest
+after_first before b rest blank other = (front-append Blank before (b ∷ rest) blank (stops-cons (is_of Blank) b rest other)).1
+
+blank_skipped : (core : List ℕ) → AreBlank core → is_skipped core ≡ true
+unfolding is_skipped
+blank_skipped core blank = rw blank refl
+
+comment_skipped : (line : List ℕ) → IsComment line → is_skipped line ≡ true
+unfolding is_skipped is_of
+comment_skipped line s =
+    let rest : after Blank line ≡ 35 ∷ s.rest = ap (after Blank) s.parts ∙ after_first s.before 35 s.rest s.before_blank refl in
+    rw (rest, behind-same 35 s.rest) (or_from_right (list_all (is_of Blank) line))
+
+-- a comment ends where its line does
+comment_ends : (before rest : List ℕ) → AreBlank before → returns (before ++ (35 ∷ rest)) ≡ true → IsComment (take (length (before ++ (35 ∷ rest)) - 1) (before ++ (35 ∷ rest)))
+comment_ends before [] blank t =
+    let parts = and_parts (ltb 0 (length (before ++ (35 ∷ [])))) (eqb (slice_index (before ++ (35 ∷ [])) (length (before ++ (35 ∷ [])) - 1)) 13) t in
+    let last = eqb-true (get_or (before ++ (35 ∷ [])) (length (before ++ (35 ∷ [])) - 1) 0) 13 parts.1 in
+    let len : length (before ++ (35 ∷ [])) - 1 ≡ length before = omega (arith, length-append before (35 ∷ [])) in
+    absurd (omega (arith, ap (λ (i : ℕ). get_or (before ++ (35 ∷ [])) i 0) len, get_or-last before 35 0, last))
+comment_ends before (r ∷ rest) blank t =
+    let len : length (before ++ (35 ∷ r ∷ rest)) - 1 ≡ length before + suc (length rest) = omega (arith, length-append before (35 ∷ r ∷ rest)) in
+    record { before = before; rest = take (length rest) (r ∷ rest); before_blank = blank; parts = rw len (take-append-add before (35 ∷ r ∷ rest) (suc (length rest))) }
+
+comment_kept : (line : List ℕ) → IsComment line → IsComment (without_return line)
+unfolding without_return
+comment_kept line s =
+    elim (cases_Bool (returns line)) [
+      | inl t ↦ let parts = s.parts in rw t (subst (λ (l : List ℕ). IsComment (take (length l - 1) l)) (sym parts) (comment_ends s.before s.rest s.before_blank (ap returns (sym parts) ∙ t)))
+      | inr f ↦ rw f s
+    ]
+
+line_of_blanks : (bytes : List ℕ) → AreBlank bytes → list_all (is_of Line) bytes ≡ true
+line_of_blanks bytes blank = list_all-weaker (is_of Blank) (is_of Line) line-blank bytes blank
+
+nothing_read : (line : List ℕ) → SpellsNothing line → is_skipped (without_return line) ≡ true
+nothing_read line (inl s) = ap is_skipped (core_of s.0 line s.1 (line_of_blanks s.0 s.2)) ∙ blank_skipped s.0 s.2
+nothing_read line (inr comment) = comment_skipped (without_return line) (comment_kept line comment)
+
+rest_read : (last : List ℕ) → IsRest last → is_skipped last ≡ true
+rest_read last (inl blank) = blank_skipped last blank
+rest_read last (inr comment) = comment_skipped last comment
+
+some_parts : {A : Type 0} (found : Option A) → is_some found ≡ true → (a : A) × (found ≡ Some a)
+some_parts (Some a) e = (a, refl)
+some_parts None e = absurd cc
+
+skipped_parts : (core : List ℕ) → is_skipped core ≡ true → IsRest core
+unfolding is_skipped
+skipped_parts core e =
+    elim (or_cases (list_all (is_of Blank) core) (is_some (behind 35 (after Blank core))) e) [
+      | inl blank ↦ inl blank
+      | inr found ↦
+          let p = some_parts (behind 35 (after Blank core)) found in
+          inr (record { before = front Blank core; rest = p.0; before_blank = list_all-take_while (is_of Blank) core; parts = sym (front-after Blank core) ∙ ap (λ (r : List ℕ). front Blank core ++ r) (behind_is 35 (after Blank core) p.0 p.1) })
+    ]
+
+comment_ended : (core line : List ℕ) → Ended core line → IsComment core → IsComment line
+comment_ended core line (inl e) s = record { before = s.before; rest = s.rest; before_blank = s.before_blank; parts = e ∙ s.parts }
+comment_ended core line (inr e) s = record { before = s.before; rest = s.rest ++ (13 ∷ []); before_blank = s.before_blank; parts = e ∙ ap (λ (c : List ℕ). c ++ (13 ∷ [])) s.parts ∙ append_assoc s.before (35 ∷ s.rest) (13 ∷ []) }
+
+nothing_spelled : (line : List ℕ) → is_skipped (without_return line) ≡ true → SpellsNothing line
+nothing_spelled line e =
+    elim (skipped_parts (without_return line) e) [
+      | inl blank ↦ inl (without_return line, ended line, blank)
+      | inr comment ↦ inr (comment_ended (without_return line) line (ended line) comment)
+    ]
+
+-- ---- lines with an event
+
+not_skipped : (before rest : List ℕ) → AreBlank before → is_skipped (before ++ (80 ∷ rest)) ≡ false
+unfolding is_skipped is_of behind
+not_skipped before rest blank =
+    let follows = after_first before 80 rest blank refl in
+    elim (cases_Bool (list_all (is_of Blank) (before ++ (80 ∷ rest)))) [
+      | inl t ↦ absurd (false≢true (and_parts false (list_all (is_of Blank) rest) (list_all-parts (is_of Blank) before (80 ∷ rest) t).1).0)
+      | inr f ↦ rw (f, follows) refl
+    ]
+
+one_read : (names : NameLists) (line : List ℕ) (event : Event) → AreValid names → SpellsOne names line event → line_event names line ≡ Ok (Some event)
+unfolding line_event
+one_read names line event valid s =
+    let core = core_of s.0 line s.1 (line_of_spelled names s.0 event valid s.2) in
+    let b = event_begins names s.0 event s.2 in
+    let stays : is_skipped s.0 ≡ false = ap is_skipped b.3 ∙ not_skipped b.0 b.1 b.2 in
+    let read = event_in-spelled names s.0 event valid s.2 in
+    rw (core, stays, read) refl
+
+line_read : (names : NameLists) (line : List ℕ) → SpellsNothing line → line_event names line ≡ Ok None
+unfolding line_event
+line_read names line s = let skipped = nothing_read line s in rw skipped refl
+
+-- what a line's event is spelled by
+abbrev pub LineSpelled : NameLists → List ℕ → Option Event → Type 0
+LineSpelled names line None = SpellsNothing line
+LineSpelled names line (Some event) = SpellsOne names line event
+
+some_event : (names : NameLists) (line core : List ℕ) (read : Result Event TextKind) (found : Option Event) → Ended core line → event_in names core ≡ read → (read >>= λ event. Ok (Some event)) ≡ Ok found → LineSpelled names line found
+some_event names line core (Err fault) found end h e = absurd cc
+some_event names line core (Ok event) None end h e = absurd cc
+some_event names line core (Ok event) (Some other) end h e = let same : event ≡ other = cc in (core, end, event_is_spelled names core other (h ∙ ap (λ (x : Event). Ok x) same))
+
+no_event : (names : NameLists) (line : List ℕ) (found : Option Event) → SpellsNothing line → ◌≡◌ {A = Result (Option Event) TextKind} (Ok None) (Ok found) → LineSpelled names line found
+no_event names line None s e = s
+no_event names line (Some event) s e = absurd cc
+
+line_spelled : (names : NameLists) (line : List ℕ) (found : Option Event) → line_event names line ≡ Ok found → LineSpelled names line found
+unfolding line_event
+line_spelled names line found e =
+    elim (cases_Bool (is_skipped (without_return line))) [
+      | inl t ↦ no_event names line found (nothing_spelled line t) (rw t at e)
+      | inr f ↦ some_event names line (without_return line) (event_in names (without_return line)) found (ended line) refl (rw f at e)
+    ]
+
+-- ---- lines
+
+none_read : (names : NameLists) (n count : ℕ) (line : List ℕ) → SpellsNothing line → line_events names n count line ≡ Ok []
+unfolding line_events
+none_read names n count line s = rw (line_read names line s) refl
+
+event_read : (names : NameLists) (n count : ℕ) (line : List ℕ) (event : Event) → AreValid names → SpellsOne names line event → count < MOST_EVENTS → line_events names n count line ≡ Ok (event ∷ [])
+unfolding line_events
+event_read names n count line event valid s few =
+    let room : eqb count MOST_EVENTS ≡ false = ne_eqb count MOST_EVENTS (λ e. omega (arith, few, e)) in
+    rw (one_read names line event valid s, room) refl
+
+lines_read : (names : NameLists) (n count : ℕ) (lines : List (List ℕ)) (events : List Event) → AreValid names → SpellsLines names lines events → count + length events ≤ MOST_EVENTS → events_from names n count lines ≡ Ok events
+unfolding events_from
+lines_read names n count [] events valid s few = absurd s
+lines_read names n count (last ∷ []) events valid s few = let skipped = rest_read last s.0 in let none = s.1 in rw (skipped, none) refl
+lines_read names n count (line ∷ next ∷ lines) events valid (inl s) few =
+    let rest = lines_read names (n + 1) (count + 0) (next ∷ lines) events valid s.1 (omega (arith, few)) in
+    rw (none_read names n count line s.0, rest) refl
+lines_read names n count (line ∷ next ∷ lines) events valid (inr s) few =
+    let same = s.3 in
+    let long = ap length same in
+    let rest = lines_read names (n + 1) (count + 1) (next ∷ lines) s.1 valid s.4 (omega (arith, few, long)) in
+    rw (event_read names n count line s.0 valid s.2 (omega (arith, few, long)), rest, same) refl
+
+at_line_parts : {A : Type 0} (n : ℕ) (read : Result A TextKind) (a : A) → at_line n read ≡ Ok a → read ≡ Ok a
+at_line_parts n (Ok x) a e = let same : x ≡ a = cc in ap (λ y. Ok y) same
+at_line_parts n (Err kind) a e = absurd cc
+
+-- a line's events: none, or one for which there was room
+abbrev pub FewSpelled : NameLists → ℕ → List ℕ → List Event → Type 0
+FewSpelled names count line events = (SpellsNothing line × (events ≡ [])) ⊎ ((event : Event) × SpellsOne names line event × (events ≡ event ∷ []) × (count ≢ MOST_EVENTS))
+
+limited_spelled : (names : NameLists) (n count : ℕ) (line : List ℕ) (found : Option Event) (events : List Event) → LineSpelled names line found → limited n count found ≡ Ok events → FewSpelled names count line events
+limited_spelled names n count line None events s e = let none : [] ≡ events = cc in inl (s, sym none)
+limited_spelled names n count line (Some event) events s e =
+    elim (cases_Bool (eqb count MOST_EVENTS)) [
+      | inl t ↦ let e2 = rw t at e in absurd cc
+      | inr f ↦ let e2 = rw f at e in let one : event ∷ [] ≡ events = cc in inr (event, s, sym one, eqb-false count MOST_EVENTS f)
+    ]
+
+line_events_spelled : (names : NameLists) (n count : ℕ) (line : List ℕ) (events : List Event) → line_events names n count line ≡ Ok events → FewSpelled names count line events
+unfolding line_events
+line_events_spelled names n count line events e =
+    let p = bind_parts (at_line n (line_event names line)) (limited n count) events e in
+    limited_spelled names n count line p.0 events (line_spelled names line p.0 (at_line_parts n (line_event names line) p.0 p.1)) p.2
+
+abbrev pub AllSpelled : NameLists → ℕ → List (List ℕ) → List Event → Type 0
+AllSpelled names count lines events = SpellsLines names lines events × (count + length events ≤ MOST_EVENTS)
+
+last_parts : (skipped : Bool) (n : ℕ) (events : List Event) → ◌≡◌ {A = Result (List Event) TextFault} (cond skipped (Ok []) (Err (record { kind = CutShort; line = n }))) (Ok events) → (skipped ≡ true) × (events ≡ [])
+last_parts true n events e = let none : [] ≡ events = cc in (refl, sym none)
+last_parts false n events e = absurd cc
+
+-- one line more in front
+module _ (names : NameLists) (count : ℕ) (line next : List ℕ) (lines : List (List ℕ)) where
+  more_lines : (events others : List Event) → count ≤ MOST_EVENTS → FewSpelled names count line events → (count + length events ≤ MOST_EVENTS → AllSpelled names (count + length events) (next ∷ lines) others) → AllSpelled names count (line ∷ next ∷ lines) (events ++ others)
+  more_lines events others few (inl s) rest =
+      let none = s.1 in let long = ap length none in
+      let more = rest (omega (arith, few, long)) in
+      rw none ((inl (s.0, more.0)), omega (arith, more.1, long))
+  more_lines events others few (inr s) rest =
+      let one = s.2 in let long = ap length one in let room = s.3 in
+      let more = rest (omega (arith, few, long, room)) in
+      rw one (inr (s.0, others, s.1, refl, more.0), omega (arith, more.1, long))
+
+lines_spelled : (names : NameLists) (n count : ℕ) (lines : List (List ℕ)) (events : List Event) → count ≤ MOST_EVENTS → 0 < length lines → events_from names n count lines ≡ Ok events → AllSpelled names count lines events
+unfolding events_from
+lines_spelled names n count [] events few some e = absurd (omega (arith, some))
+lines_spelled names n count (last ∷ []) events few some e =
+    let p = last_parts (is_skipped last) n events e in
+    let none = p.1 in
+    ((skipped_parts last p.0, none), omega (arith, few, ap length none))
+lines_spelled names n count (line ∷ next ∷ lines) events few some e =
+    let p = bind_parts (line_events names n count line) _ events e in
+    let q = bind_parts (events_from names (n + 1) (count + length p.0) (next ∷ lines)) _ events p.2 in
+    let same : p.0 ++ q.0 ≡ events = let e2 = q.2 in cc in
+    subst (AllSpelled names count (line ∷ next ∷ lines)) same
+    (more_lines names count line next lines p.0 q.0 few (line_events_spelled names n count line p.0 p.1) (λ within. lines_spelled names (n + 1) (count + length p.0) (next ∷ lines) q.0 within (omega arith) q.1))
+
+-- ---- whole texts
+
+some_lines : (names : NameLists) (lines : List (List ℕ)) (events : List Event) → SpellsLines names lines events → 0 < length lines
+some_lines names [] events s = absurd s
+some_lines names (line ∷ lines) events s = omega arith
+
+pub events_in-spelled : (names : NameLists) (text : List ℕ) (events : List Event) → AreValid names → SpellsText names text events → events_in names text ≡ Ok events
+unfolding events_in
+events_in-spelled names text events valid s =
+    let short = le-ltb MOST_BYTES (length text) s.short in
+    let pieces : pieces_of 10 text ≡ s.lines = ap (pieces_of 10) s.parts ∙ pieces_of-join 10 s.lines (some_lines names s.lines events s.spelled) s.cut in
+    rw (short, pieces) (lines_read names 1 0 s.lines events valid s.spelled (omega (arith, s.few)))
+
+too_long : (long : Bool) (read : Result (List Event) TextFault) (fault : TextFault) (events : List Event) → cond long (Err fault) read ≡ Ok events → (long ≡ false) × (read ≡ Ok events)
+too_long true read fault events e = absurd cc
+too_long false read fault events e = (refl, e)
+
+pub text_is_spelled : (names : NameLists) (text : List ℕ) (events : List Event) → events_in names text ≡ Ok events → SpellsText names text events
+unfolding events_in
+text_is_spelled names text events e =
+    let p = too_long (ltb MOST_BYTES (length text)) (events_from names 1 0 (pieces_of 10 text)) _ events e in
+    let all = lines_spelled names 1 0 (pieces_of 10 text) events (omega arith) (some-pieces_of 10 text) p.1 in
+    record { lines = pieces_of 10 text; parts = sym (join-pieces_of 10 text); cut = apart-pieces_of 10 text; spelled = all.0; few = omega (arith, all.1); short = ltb-false MOST_BYTES (length text) p.0 }
+
+-- a text spells at most one list of events
+pub one_list : (names : NameLists) (text : List ℕ) (a b : List Event) → AreValid names → SpellsText names text a → SpellsText names text b → a ≡ b
+one_list names text a b valid s t = let x = events_in-spelled names text a valid s in let y = events_in-spelled names text b valid t in cc

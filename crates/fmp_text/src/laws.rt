@@ -1,0 +1,63 @@
+//! Laws of the grammar: what is spelled is read, and what is read is spelled.
+ghost use Rattle.std.specs.Prelude.{◌≡◌, ℕ, List, true, Ok, Some};
+ghost use Rattle.fmp_codes.specs.declared.calls.Call.{Call};
+ghost use Rattle.fmp_codes.specs.declared.records.Event.{Event};
+ghost use Rattle.fmp_calls.specs.declared.kinds.ArgumentKind.{ArgumentKind};
+ghost use Rattle.fmp_calls.specs.declared.kinds.NameKind.{NameKind};
+ghost use Rattle.fmp_calls.specs.declared.kinds.Value.{Value};
+ghost use Rattle.fmp_text.specs.Names.{NameLists, AreValid, name_of, number_of};
+ghost use Rattle.fmp_text.specs.Argument.{is_argument, value_at};
+ghost use Rattle.fmp_text.specs.Reading.{call_in};
+ghost use Rattle.fmp_text.specs.Events.{events_in};
+ghost use Rattle.fmp_text.specs.Grammar.{SpellsValue, SpellsCall};
+ghost use Rattle.fmp_text.specs.TextGrammar.{SpellsText};
+
+/// A name and its number give each other back.
+pub fn names_and_numbers_agree()
+    ensures numbers { (names : NameLists) (kind : NameKind) (number : ℕ) (name : List ℕ) → AreValid names
+        → name_of names kind number ≡ Some name → number_of names kind name ≡ Some number }
+    ensures names { (names : NameLists) (kind : NameKind) (number : ℕ) (name : List ℕ)
+        → number_of names kind name ≡ Some number → name_of names kind number ≡ Some name }
+{}
+
+/// What spells a value is an argument, and is read as that value.
+pub fn spelled_values_are_read()
+    ensures { (names : NameLists) (kind : ArgumentKind) (token : List ℕ) (value : Value) → AreValid names
+        → SpellsValue names kind token value → (is_argument token ≡ true) × (value_at names kind token ≡ Ok value) }
+{}
+
+/// What is read as a value spells it.
+pub fn read_values_are_spelled()
+    ensures { (names : NameLists) (kind : ArgumentKind) (token : List ℕ) (value : Value)
+        → value_at names kind token ≡ Ok value → SpellsValue names kind token value }
+{}
+
+/// What spells a call is read as that call.
+pub fn spelled_calls_are_read()
+    ensures { (names : NameLists) (text : List ℕ) (call : Call) → AreValid names
+        → SpellsCall names text call → call_in names text ≡ Ok call }
+{}
+
+/// What is read as a call spells it.
+pub fn read_calls_are_spelled()
+    ensures { (names : NameLists) (text : List ℕ) (call : Call)
+        → call_in names text ≡ Ok call → SpellsCall names text call }
+{}
+
+/// What spells a list of events, within the limits, is read as that list.
+pub fn spelled_texts_are_read()
+    ensures { (names : NameLists) (text : List ℕ) (events : List Event) → AreValid names
+        → SpellsText names text events → events_in names text ≡ Ok events }
+{}
+
+/// What is read as a list of events spells it.
+pub fn read_texts_are_spelled()
+    ensures { (names : NameLists) (text : List ℕ) (events : List Event)
+        → events_in names text ≡ Ok events → SpellsText names text events }
+{}
+
+/// A text spells at most one list of events.
+pub fn texts_spell_one_list()
+    ensures { (names : NameLists) (text : List ℕ) (a b : List Event) → AreValid names
+        → SpellsText names text a → SpellsText names text b → a ≡ b }
+{}
