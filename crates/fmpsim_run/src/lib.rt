@@ -1,12 +1,19 @@
 //! The runs of the program: texts in, a text out, through devices that can fail.
 #![tactic(auto)]
 
+mod calls;
+mod fault;
 mod memory;
 mod simulate;
 mod sink;
 mod source;
+#[cfg(test)]
+mod tests;
+mod texts;
 mod whole;
 
+pub use calls::run_calls;
+pub use fault::RunFault;
 pub use memory::{MemSink, MemSource};
 pub use sink::{Sink, write_all};
 pub use source::{Failed, Source};

@@ -1,6 +1,6 @@
 //! Devices over memory, which tell their bytes, and can be made to fail at a chosen call.
-ghost use Rattle.std.specs.Prelude.{◌≡◌, ◌-◌, ◌<◌, ◌≤◌, [], true, vec_len, vec_capacity, IfOk, None, Some};
-ghost use Rattle.fmpsim_run.specs.Devices.{is_turn, next_turn};
+ghost use Rattle.std.specs.Prelude.{◌≡◌, ◌+◌, ◌-◌, ◌^◌, ◌<◌, ◌≤◌, ◌++◌, [], true, length, take, min, vec_len, vec_capacity, IsTrue, IfOk, OnErr, is_err, None, Some, if◌then◌else◌};
+ghost use Rattle.fmpsim_run.specs.Devices.{is_failed_write, is_turn, next_turn};
 
 use crate::sink::Sink;
 use crate::source::{Failed, Source};
@@ -67,7 +67,19 @@ impl Source for MemSource<'_> {
         self.failures
     }
 
-    fn read(&mut self, buffer: &mut [u8]) -> Result<usize, Failed> {
+    fn read(&mut self, buffer: &mut [u8]) -> Result<usize, Failed>
+        requires { self.old.failures < 2 ^ 64 - 1 }
+        ensures fits { IfOk result (λ n. n ≤ length buffer.old) }
+        ensures count { self.new.failures ≡ self.old.failures + (if is_err result then 1 else 0) }
+        ensures bytes { IsTrue true → IfOk result (λ n. self.old.rest.now ≡ take n buffer.new ++ self.new.rest.now) }
+        ensures end { IsTrue true → 0 < length buffer.old → IfOk result (λ n. n ≡ 0 → self.new.rest.now ≡ []) }
+        ensures err { IsTrue true → OnErr result (self.new.rest.now ≡ self.old.rest.now) }
+
+        // It takes as much as fits, and fails at the chosen call.
+        ensures most { IfOk result (λ n. n ≡ min (length self.old.rest.now) (length buffer.old)) }
+        ensures turn { is_err result ≡ is_turn self.old.until_failure }
+        ensures next { self.new.until_failure ≡ next_turn self.old.until_failure }
+    {
         if takes_turn(&mut self.until_failure) {
             self.failures += 1;
             return Err(Failed);
@@ -131,7 +143,19 @@ impl Sink for MemSink {
         self.failures
     }
 
-    fn write(&mut self, piece: &[u8]) -> Result<usize, Failed> {
+    fn write(&mut self, piece: &[u8]) -> Result<usize, Failed>
+        requires { self.old.failures < 2 ^ 64 - 1 }
+        ensures fits { IfOk result (λ n. n ≤ length piece.now) }
+        ensures count { self.new.failures ≡ self.old.failures + (if is_failed_write result piece.now then 1 else 0) }
+        ensures bytes { IsTrue true → IfOk result (λ n. self.new.bytes.items ≡ self.old.bytes.items ++ take n piece.now) }
+        ensures err { IsTrue true → OnErr result (self.new.bytes.items ≡ self.old.bytes.items) }
+
+        // It takes as much as fits, and fails at the chosen call.
+        ensures most { IfOk result (λ n. n ≡ min (length piece.now) (self.old.room - vec_len self.old.bytes)) }
+        ensures turn { is_err result ≡ is_turn self.old.until_failure }
+        ensures next { self.new.until_failure ≡ next_turn self.old.until_failure }
+        ensures room { self.new.room ≡ self.old.room }
+    {
         if takes_turn(&mut self.until_failure) {
             self.failures += 1;
             return Err(Failed);

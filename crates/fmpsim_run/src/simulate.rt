@@ -12,7 +12,8 @@ use std::alloc::{AllocError, Global};
 /// The records of a list of events. The room for all of them is asked for before the first event.
 pub fn simulate(alloc: Global, config: &Config, events: &[Event]) -> Result<Vec<Record>, AllocError>
     requires { length events.now ≤ 1000000 }
-    ensures { IfOk result (λ v. v.items ≡ answers numbered (booted config.now) events.now) }
+    ensures answers { IfOk result (λ v. v.items ≡ answers numbered (booted config.now) events.now) }
+    ensures count { IfOk result (λ v. length v.items ≡ length events.now) }
 {
     let mut records = Vec::with_capacity(alloc, events.len())?;
     let mut plain = Plain::boot(config)?;

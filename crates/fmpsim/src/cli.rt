@@ -1,0 +1,98 @@
+//! The command line.
+use clap::error::ErrorKind;
+use clap::{Arg, ArgAction, Command, Error};
+use std::alloc::{AllocError, Global};
+
+const ABOUT: &str = "Simulates a multiprocessor real-time kernel in the manner of TOPPERS/FMP";
+
+const CALLS_ABOUT: &str = "Writes the trace of a configuration over a list of events";
+
+const CALLS_HELP: &str = "\
+CFG is a configuration in the static API:
+
+  PROCESSORS(2);
+  DEF_CLASS(C1, 1, {1, 2});
+  CLASS(C1) {
+    CRE_TSK(T1, {TA_ACT, 0, main1, 10, 4096, NULL});
+    CRE_TSK(T2, {TA_NULL, 0, main2, 5, 4096, NULL});
+  }
+
+EVENTS has one event a line, a service call, a tick or an interrupt of a processor:
+
+  P1 act_tsk(T2)
+  P2 ipi
+  P1 tick
+
+The trace, on standard output, has one line for each event: its number, its processor,
+who made the call, the event, the answer, and what it changed:
+
+  1 P1 T1 act_tsk(T2) E_OK run=T2
+
+Exit status:
+  0  done
+  1  a fault in a text, told on standard error with its line
+  2  the command line is wrong
+  3  a file could not be read, or the output not be written
+  4  want of memory";
+
+/// The paths of a configuration and of a list of events.
+#[derive(Clone, Copy, Debug)]
+pub struct Paths<'a> {
+    pub config: &'a str,
+    pub events: &'a str,
+}
+
+/// What the command line asks for.
+#[derive(Clone, Copy, Debug)]
+pub enum Request<'a> {
+    Calls(Paths<'a>),
+}
+
+/// The status that a refused command line ends the program with; help ends it with 0.
+pub fn status_of(error: &Error) -> u8 {
+    match error.kind() {
+        ErrorKind::OutOfMemory => 4,
+        ErrorKind::DisplayHelp | ErrorKind::DisplayVersion => 0,
+        _ => 2,
+    }
+}
+
+fn path<'a>(alloc: Global, id: &'a str, about: &'a str) -> Arg<'a> {
+    Arg::new(alloc, id)
+        .required(true)
+        .action(ArgAction::Set)
+        .help(about)
+}
+
+fn calls_command<'a>(alloc: Global) -> Result<Command<'a>, AllocError> {
+    Command::new(alloc, "calls")
+        .about(CALLS_ABOUT)
+        .after_help(CALLS_HELP)
+        .bin_name("fmpsim calls")?
+        .arg(path(alloc, "CFG", "Path of the configuration"))?
+        .arg(path(alloc, "EVENTS", "Path of the list of events"))
+}
+
+/// The whole command line, for its help and for what is wrong in it.
+fn whole_command<'a>(alloc: Global) -> Result<Command<'a>, AllocError> {
+    Command::new(alloc, "fmpsim")
+        .about(ABOUT)
+        .version("0.1.0")
+        .subcommand_required(true)
+        .arg_required_else_help(true)
+        .subcommand(calls_command(alloc)?)
+}
+
+/// What the words of the command line ask for.
+pub fn parse<'a>(alloc: Global, words: &'a [String]) -> Result<Request<'a>, Error> {
+    if words.get(1).map(|word| word.as_str()) == Some("calls") {
+        let matches = calls_command(alloc)?.try_get_matches_from(&words[1..])?;
+        return Ok(Request::Calls(Paths {
+            config: matches.get_str("CFG").unwrap_or(""),
+            events: matches.get_str("EVENTS").unwrap_or(""),
+        }));
+    }
+    let mut whole = whole_command(alloc)?;
+    whole.try_get_matches_from_mut(words)?;
+    Err(whole.error(ErrorKind::MissingSubcommand, "a subcommand is wanted")?)
+}

@@ -1,0 +1,98 @@
+//! Readers and writers of std as devices.
+ghost use Rattle.std.specs.Prelude.{◌≡◌, false, []};
+
+use fmpsim_run::{Failed, Sink, Source};
+use std::io;
+use std::io::{Read, Write};
+
+/// A reader of std as a source, which does not tell its bytes.
+#[derive(Drop)]
+pub struct ReadSource<R> {
+    reader: R,
+    failures: u64,
+}
+
+impl<R> ReadSource<R> {
+    pub fn new(reader: R) -> ReadSource<R>
+        ensures { result.failures ≡ 0 }
+    {
+        ReadSource {
+            reader,
+            failures: 0,
+        }
+    }
+}
+
+impl<R: Read> Source for ReadSource<R> {
+    ghost tells = { false };
+
+    ghost left = { λ _. [] };
+
+    ghost failures = { λ s. s.failures };
+
+    fn failures(&self) -> u64 {
+        self.failures
+    }
+
+    fn read(&mut self, buffer: &mut [u8]) -> Result<usize, Failed> {
+        match self.reader.read(buffer) {
+            Ok(count) => Ok(count),
+            Err(_) => {
+                self.failures += 1;
+                Err(Failed)
+            }
+        }
+    }
+}
+
+/// A writer of std as a sink, which does not tell its bytes.
+#[derive(Drop)]
+pub struct WriteSink<W> {
+    writer: W,
+    failures: u64,
+}
+
+impl<W> WriteSink<W> {
+    pub fn new(writer: W) -> WriteSink<W>
+        ensures { result.failures ≡ 0 }
+    {
+        WriteSink {
+            writer,
+            failures: 0,
+        }
+    }
+}
+
+impl<W: Write> WriteSink<W> {
+    /// Writes out what the writer holds back.
+    pub fn flush(&mut self) -> io::Result<()> {
+        self.writer.flush()
+    }
+}
+
+impl<W: Write> Sink for WriteSink<W> {
+    ghost tells = { false };
+
+    ghost written = { λ _. [] };
+
+    ghost failures = { λ s. s.failures };
+
+    fn failures(&self) -> u64 {
+        self.failures
+    }
+
+    fn write(&mut self, piece: &[u8]) -> Result<usize, Failed> {
+        match self.writer.write(piece) {
+            Ok(count) => {
+                if count == 0 && !piece.is_empty() {
+                    self.failures += 1;
+                }
+                Ok(count)
+            }
+            Err(_) => {
+                self.failures += 1;
+                Err(Failed)
+            }
+        }
+    }
+}

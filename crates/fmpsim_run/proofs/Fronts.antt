@@ -1,0 +1,58 @@
+-- A text past its limit is judged the same from any front that is past it too.
+use Rattle.std.proofs.Common.{◌≡◌, ◌∙◌, ℕ, ◌<◌, ◌≤◌, Bool, true, false, List, [], ◌++◌, length, refl, ap, sym, arith, length-append}
+use Rattle.std.specs.Prelude.{nat_lt, Ok, Err}
+use Rattle.std.proofs.lemmas.Bool.{lt-ltb, ltb-true, ltb-false}
+use Rattle.std.proofs.lemmas.List.{append-nil}
+use Rattle.fmp_codes.specs.declared.records.Event.{Event}
+use Rattle.fmp_text.specs.declared.events.TheConstants.{MOST_BYTES as MOST_EVENT_BYTES}
+use Rattle.fmp_text.specs.declared.fault.TextKind.TheVariants as text_kind
+use Rattle.fmp_text.specs.Names.{NameLists}
+use Rattle.fmp_text.specs.Events.{events_in}
+use Rattle.fmp_statements.specs.declared.fault.ConfigKind.TheVariants as config_kind
+use Rattle.fmp_config.specs.declared.reading.TheConstants.{MOST_BYTES as MOST_CONFIG_BYTES}
+use Rattle.fmp_config.specs.Setup.{Setup}
+use Rattle.fmp_config.specs.Statements.{config_in}
+
+-- any function of a text that answers one thing past the limit
+same : {A : Type 0} (limit : ℕ) (f : List ℕ → A) (past : A) → ((text : List ℕ) → limit < length text → f text ≡ past)
+    → (all text rest : List ℕ) → all ≡ text ++ rest → (length text ≤ limit → rest ≡ []) → f all ≡ f text
+same limit f past gives all text rest split whole = go (nat_lt limit (length text)) refl
+  where
+    go : (b : Bool) → nat_lt limit (length text) ≡ b → f all ≡ f text
+    go true is =
+        let long : limit < length text = ltb-true limit (length text) is in
+        let longer : limit < length all = rw (split, length-append) (omega arith) in
+        gives all longer ∙ sym (gives text long)
+    go false is = ap f (split ∙ ap (λ xs. text ++ xs) (whole (ltb-false limit (length text) is)) ∙ append-nil text)
+
+pub config_in-front : (all text rest : List ℕ) → all ≡ text ++ rest → (length text ≤ MOST_CONFIG_BYTES → rest ≡ []) → config_in all ≡ config_in text
+unfolding config_in
+config_in-front all text rest split whole =
+    same MOST_CONFIG_BYTES config_in (Err (record { kind = config_kind.TooMany; line = 0; left = 0 })) (λ t long. rw (lt-ltb MOST_CONFIG_BYTES (length t) long) refl) all text rest split whole
+
+pub events_in-front : (names : NameLists) (all text rest : List ℕ) → all ≡ text ++ rest → (length text ≤ MOST_EVENT_BYTES → rest ≡ []) →
+    events_in names all ≡ events_in names text
+unfolding events_in
+events_in-front names all text rest split whole =
+    same MOST_EVENT_BYTES (events_in names) (Err (record { kind = text_kind.TooMany; line = 0 })) (λ t long. rw (lt-ltb MOST_EVENT_BYTES (length t) long) refl) all text rest split whole
+
+-- what is accepted is within the limit
+pub config_in-ok : (text : List ℕ) (config : Setup) → config_in text ≡ Ok config → length text ≤ MOST_CONFIG_BYTES
+unfolding config_in
+config_in-ok text config is = go (nat_lt MOST_CONFIG_BYTES (length text)) refl
+  where
+    go : (b : Bool) → nat_lt MOST_CONFIG_BYTES (length text) ≡ b → length text ≤ MOST_CONFIG_BYTES
+    go true long =
+        let bad = rw long at is in
+        cc
+    go false short = ltb-false MOST_CONFIG_BYTES (length text) short
+
+pub events_in-ok : (names : NameLists) (text : List ℕ) (events : List Event) → events_in names text ≡ Ok events → length text ≤ MOST_EVENT_BYTES
+unfolding events_in
+events_in-ok names text events is = go (nat_lt MOST_EVENT_BYTES (length text)) refl
+  where
+    go : (b : Bool) → nat_lt MOST_EVENT_BYTES (length text) ≡ b → length text ≤ MOST_EVENT_BYTES
+    go true long =
+        let bad = rw long at is in
+        cc
+    go false short = ltb-false MOST_EVENT_BYTES (length text) short

@@ -1,0 +1,20 @@
+use Rattle.std.proofs.Common.{◌∙◌, ap, sym, subst, inl, inr}
+use Rattle.fmp_config.specs.Statements.{config_in}
+use Rattle.fmp_config.specs.Faults.{FaultIs}
+use Rattle.fmpsim_run.proofs.Fronts.{config_in-front, config_in-ok}
+use Rattle.fmpsim_run.proofs.texts.config_from.Goals as goal
+
+pub returns-in-Ok-clause-ok : goal.returns-in-Ok-clause-ok
+returns-in-Ok-clause-ok g c = λ tells.
+    let read = c.in_ok-text.ensures.ok tells in
+    config_in-front _ _ _ read.front read.whole ∙ ap config_in (sym c.as_slice.ensures.value) ∙ c.in-Ok.ensures.exact
+
+pub returns-in-Ok-clause-read : goal.returns-in-Ok-clause-read
+returns-in-Ok-clause-read g c = λ tells.
+    (c.in_ok-text.ensures.ok tells).whole (rw c.as_slice.ensures.value at (config_in-ok c.as_slice.result.now _ c.in-Ok.ensures.exact))
+
+pub returns-clause-fault : goal.returns-clause-fault
+returns-clause-fault g c = λ tells other.
+    let read = c.in_ok-text.ensures.ok tells in
+    let same = config_in-front _ _ _ read.front read.whole ∙ ap config_in (sym c.as_slice.ensures.value) in
+    subst (FaultIs c.in-Err.fault.kind c.in-Err.fault.line) (sym same) (elim c.in-Err.ensures.exact [ inl e ↦ e | inr memory ↦ absurd (other memory.0) ])

@@ -1,0 +1,61 @@
+-- What a run over a configuration and events does.
+use Rattle.std.specs.Prelude.{◌≡◌, ◌≢◌, ℕ, ◌+◌, ◌≤◌, List, ◌++◌, Result, Ok, Err, if◌then◌else◌}
+use Rattle.fmp_codes.specs.declared.records.Event.{Event}
+use Rattle.fmp_text.specs.declared.fault.TextKind.TheVariants as text_kind
+use Rattle.fmp_text.specs.Events.{events_in}
+use Rattle.fmp_statements.specs.declared.fault.ConfigKind.TheVariants as config_kind
+use Rattle.fmp_text.specs.Names.{NameLists}
+use Rattle.fmp_config.specs.Statements.{config_in}
+use Rattle.fmp_config.specs.declared.fault.ConfigFault.{ConfigFault}
+use Rattle.fmp_config.specs.Faults.{FaultIs}
+use Rattle.fmp_config.specs.Setup.{Setup}
+use Rattle.fmp_config.specs.Boot.{booted}
+use Rattle.fmp_config.specs.Numbers.{numbered}
+use Rattle.fmp_config.specs.Step.{answers}
+use Rattle.fmp_trace.specs.Lines.{lines_from}
+use Rattle.fmpsim_run.specs.declared.fault.RunFault.{RunFault}
+use Rattle.fmpsim_run.specs.declared.fault.RunFault.TheVariants as run
+use Rattle.fmpsim_run.specs.Devices.{BeginsWith}
+use Rattle.fmpsim_run.specs.Faults.{failed_read}
+
+-- the output is the trace of the one text's machine over the other's events
+pub record Answered (config_text event_text output : List ℕ) : Type 0 where
+  pub config : Setup
+  pub events : List Event
+  pub configures : config_in config_text ≡ Ok config
+  pub lists : events_in config.names event_text ≡ Ok events
+  pub prints : output ≡ lines_from config.names 1 (answers numbered (booted config) events)
+
+-- the output was written after old, all of it
+abbrev pub IsAnswered : List ℕ → List ℕ → List ℕ → List ℕ → Type 0
+IsAnswered config_text event_text old new = (output : List ℕ) × Answered config_text event_text output × (new ≡ old ++ output)
+
+-- a front of the output was written after old
+abbrev pub IsBegun : List ℕ → List ℕ → List ℕ → List ℕ → Type 0
+IsBegun config_text event_text old new = (output : List ℕ) × Answered config_text event_text output × BeginsWith old output new
+
+-- want of memory, or the kind and the line of the text's first fault
+abbrev pub IsFirstFault : List ℕ → ConfigFault → Type 0
+IsFirstFault text fault = fault.kind ≢ config_kind.Memory → FaultIs fault.kind fault.line (config_in text)
+
+-- a fault of the configuration is the first one of its text
+abbrev pub FirstConfigFault : List ℕ → RunFault → Type 0
+FirstConfigFault text (run.Config fault) = IsFirstFault text fault
+FirstConfigFault text other = Unit {0}
+
+-- a fault of the events is the first one of their text
+abbrev pub FirstEventFault : NameLists → List ℕ → RunFault → Type 0
+FirstEventFault names text (run.Text fault) = fault.kind ≢ text_kind.Memory → events_in names text ≡ Err fault
+FirstEventFault names text other = Unit {0}
+
+-- the same, for the names of a right configuration
+abbrev pub FirstTextFault : List ℕ → List ℕ → RunFault → Type 0
+FirstTextFault config_text event_text (run.Text fault) =
+    (config : Setup) × (config_in config_text ≡ Ok config) × FirstEventFault config.names event_text (run.Text fault)
+FirstTextFault config_text event_text other = Unit {0}
+
+-- of two readers one read failed where the run ended so, and else none
+pub record CountsReads {T : Type 0} (result : Result T RunFault) (first_old first_new second_old second_new : ℕ) : Type 0 where
+  pub sum : first_new + second_new ≡ first_old + second_old + (if failed_read result then 1 else 0)
+  pub first : first_old ≤ first_new
+  pub second : second_old ≤ second_new

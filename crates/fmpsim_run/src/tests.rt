@@ -1,0 +1,312 @@
+//! Whole runs over memory. Each trace is worked out by hand from the rules of docs/PROFILE.md.
+ghost use Rattle.std.specs.Prelude.{false, []};
+
+use crate::{Failed, MemSink, MemSource, RunFault, Sink, Source, run_calls};
+use std::alloc::Global;
+use std::process::Abort;
+use std::test::Fail;
+
+/// Two processors with a task on the first, to which each scenario adds.
+const MACHINE: &[u8] = b"\
+PROCESSORS(2);
+DEF_CLASS(C1, 1, {1, 2});
+DEF_CLASS(C2, 2, {1, 2});
+DEF_CLASS(FIX1, 1, {1});
+CLASS(C1) {
+  CRE_TSK(T1, {TA_ACT, 0, main1, 10, 4096, NULL});
+}
+";
+
+/// A second task on the first processor, of higher priority.
+const NEIGHBOUR: &[u8] = b"\
+PROCESSORS(2);
+DEF_CLASS(C1, 1, {1, 2});
+CLASS(C1) {
+  CRE_TSK(T1, {TA_ACT, 0, main1, 10, 4096, NULL});
+  CRE_TSK(T2, {TA_NULL, 0, main2, 5, 4096, NULL});
+}
+";
+
+/// A second task on the second processor.
+const REMOTE: &[u8] = b"\
+PROCESSORS(2);
+DEF_CLASS(C1, 1, {1, 2});
+DEF_CLASS(C2, 2, {1, 2});
+DEF_CLASS(FIX1, 1, {1});
+CLASS(C1) {
+  CRE_TSK(T1, {TA_ACT, 0, main1, 10, 4096, NULL});
+}
+CLASS(C2) {
+  CRE_TSK(T2, {TA_NULL, 0, main2, 10, 4096, NULL});
+}
+";
+
+/// An interrupt that comes late and then once more, and then a queued activation.
+const EVENTS: &[u8] = b"\
+P1 act_tsk(T2)
+P2 get_pid()
+P2 ipi
+P2 ipi
+P1 act_tsk(T2)
+P1 act_tsk(T2)
+P2 ext_tsk()
+P2 ext_tsk()
+";
+
+const TRACE: &[u8] = b"\
+1 P1 T1 act_tsk(T2) E_OK ipi=2
+2 P2 - get_pid() idle
+3 P2 - ipi taken run=T2
+4 P2 T2 ipi none
+5 P1 T1 act_tsk(T2) E_OK
+6 P1 T1 act_tsk(T2) E_QOVR
+7 P2 T2 ext_tsk() gone
+8 P2 T2 ext_tsk() gone run=idle
+";
+
+/// Runs over memory, and tells what is written.
+fn run(alloc: Global, config: &[u8], events: &[u8]) -> Result<MemSink, RunFault> {
+    let mut trace = MemSink::with_room(alloc, 1000)?;
+    run_calls(
+        alloc,
+        &mut MemSource::new(config),
+        &mut MemSource::new(events),
+        &mut trace,
+    )?;
+    Ok(trace)
+}
+
+fn writes(
+    rt: &impl Abort,
+    alloc: Global,
+    config: &[u8],
+    events: &[u8],
+    trace: &[u8],
+) -> Result<(), Fail> {
+    assert_eq!(rt; run(alloc, config, events)?.bytes(), trace);
+    Ok(())
+}
+
+/// The run is refused with this fault, and nothing is written.
+fn is_refused(
+    rt: &impl Abort,
+    alloc: Global,
+    config: &[u8],
+    events: &[u8],
+    fault: &str,
+) -> Result<(), Fail> {
+    let mut trace = MemSink::with_room(alloc, 1000)?;
+    let refused = run_calls(
+        alloc,
+        &mut MemSource::new(config),
+        &mut MemSource::new(events),
+        &mut trace,
+    );
+    let Err(told) = refused else {
+        return Err("the run is refused")?;
+    };
+    assert_eq!(rt; format!(in alloc; "{told}")?.as_str(), fault);
+    assert!(rt; trace.bytes().is_empty());
+    Ok(())
+}
+
+#[test]
+fn no_event(rt: HostRuntime) -> Result<(), Fail> {
+    writes(&rt, rt.alloc(), MACHINE, b"", b"")
+}
+
+#[test]
+fn activation_on_the_same_processor(rt: HostRuntime) -> Result<(), Fail> {
+    let trace = b"1 P1 T1 act_tsk(T2) E_OK run=T2\n";
+    writes(&rt, rt.alloc(), NEIGHBOUR, b"P1 act_tsk(T2)\n", trace)
+}
+
+#[test]
+fn late_interrupt_and_queued_activation(rt: HostRuntime) -> Result<(), Fail> {
+    writes(&rt, rt.alloc(), REMOTE, EVENTS, TRACE)
+}
+
+/// The example of a queued activation.
+#[test]
+fn queued_activation(rt: HostRuntime) -> Result<(), Fail> {
+    let events = b"\
+P1 act_tsk(T2)
+P2 ipi
+P1 act_tsk(T2)
+P1 act_tsk(T2)
+P2 ext_tsk()
+P2 get_pid()
+P2 ext_tsk()
+";
+    let trace = b"\
+1 P1 T1 act_tsk(T2) E_OK ipi=2
+2 P2 - ipi taken run=T2
+3 P1 T1 act_tsk(T2) E_OK
+4 P1 T1 act_tsk(T2) E_QOVR
+5 P2 T2 ext_tsk() gone
+6 P2 T2 get_pid() E_OK:2
+7 P2 T2 ext_tsk() gone run=idle
+";
+    writes(&rt, rt.alloc(), REMOTE, events, trace)
+}
+
+/// The example of priorities on one processor.
+#[test]
+fn priorities(rt: HostRuntime) -> Result<(), Fail> {
+    let config = b"\
+PROCESSORS(1);
+DEF_CLASS(MAIN, 1, {1});
+CLASS(MAIN) {
+  CRE_TSK(WORKER, {TA_ACT, 0, worker, 10, 4096, NULL});
+  CRE_TSK(URGENT, {TA_NULL, 0, urgent, 3, 4096, NULL});
+  CRE_TSK(PEER, {TA_NULL, 0, peer, 10, 4096, NULL});
+}
+";
+    let events = b"\
+# the peer becomes ready behind the worker, the urgent task before it
+P1 act_tsk(PEER)
+P1 act_tsk(URGENT)
+P1 ext_tsk()
+P1 ext_tsk()
+P1 tick
+P1 ext_tsk()
+P1 act_tsk(WORKER)
+";
+    let trace = b"\
+1 P1 WORKER act_tsk(PEER) E_OK
+2 P1 WORKER act_tsk(URGENT) E_OK run=URGENT
+3 P1 URGENT ext_tsk() gone run=WORKER
+4 P1 WORKER ext_tsk() gone run=PEER
+5 P1 PEER tick taken
+6 P1 PEER ext_tsk() gone run=idle
+7 P1 - act_tsk(WORKER) idle
+";
+    writes(&rt, rt.alloc(), config, events, trace)
+}
+
+#[test]
+fn refused_configurations(rt: HostRuntime) -> Result<(), Fail> {
+    let cut = b"\
+PROCESSORS(1);
+DEF_CLASS(C1, 1, {1});
+CLASS(C1) {
+  CRE_TSK(T1, {TA_ACT, 0, main1,";
+    let left_out = b"\
+PROCESSORS(1);
+DEF_CLASS(C1, 1, {1});
+CLASS(C1) {
+  DEF_INH(5, {TA_NULL, hdr});
+}
+";
+    is_refused(&rt, rt.alloc(), cut, b"", "line 4: F2 cut short")?;
+    is_refused(
+        &rt,
+        rt.alloc(),
+        left_out,
+        b"P1 jump\n",
+        "line 4: F3 unsupported API DEF_INH",
+    )
+}
+
+#[test]
+fn refused_events(rt: HostRuntime) -> Result<(), Fail> {
+    for (events, fault) in [
+        (b"P3 tick\n".as_slice(), "line 1: E5 number out of range"),
+        (b"P1 act_tsk(T9)\n".as_slice(), "line 1: E3 unknown name"),
+        (b"P1 act_tsk()\n".as_slice(), "line 1: E4 wrong arguments"),
+        (b"P1 jump(T1)\n".as_slice(), "line 1: E2 bad word"),
+        (b"P1 tick".as_slice(), "line 1: E6 cut short"),
+    ] {
+        is_refused(&rt, rt.alloc(), MACHINE, events, fault)?;
+    }
+    Ok(())
+}
+
+/// A device that gives or takes one byte at a time.
+#[derive(Drop)]
+struct OneByte<D> {
+    device: D,
+}
+
+impl<S: Source> Source for OneByte<S> {
+    ghost tells = { false };
+
+    ghost left = { λ _. [] };
+
+    ghost failures = { λ s. S.failures s.device };
+
+    fn failures(&self) -> u64 {
+        self.device.failures()
+    }
+
+    fn read(&mut self, buffer: &mut [u8]) -> Result<usize, Failed> {
+        let count = buffer.len().min(1);
+        self.device.read(&mut buffer[..count])
+    }
+}
+
+impl<W: Sink> Sink for OneByte<W> {
+    ghost tells = { false };
+
+    ghost written = { λ _. [] };
+
+    ghost failures = { λ s. W.failures s.device };
+
+    fn failures(&self) -> u64 {
+        self.device.failures()
+    }
+
+    fn write(&mut self, piece: &[u8]) -> Result<usize, Failed> {
+        let count = piece.len().min(1);
+        self.device.write(&piece[..count])
+    }
+}
+
+#[test]
+fn one_byte_at_a_time(rt: HostRuntime) -> Result<(), Fail> {
+    let mut trace = OneByte {
+        device: MemSink::with_room(rt.alloc(), 1000)?,
+    };
+    let mut config = OneByte {
+        device: MemSource::new(REMOTE),
+    };
+    let mut events = OneByte {
+        device: MemSource::new(EVENTS),
+    };
+    run_calls(rt.alloc(), &mut config, &mut events, &mut trace)?;
+    assert_eq!(rt; trace.device.bytes(), TRACE);
+    Ok(())
+}
+
+/// Each read and each write fails in turn. A failed write leaves a beginning of the trace, a failed read nothing.
+#[test]
+fn each_call_of_a_device_fails(rt: HostRuntime) -> Result<(), Fail> {
+    for calls in 0..2 {
+        let mut trace = MemSink::with_room(rt.alloc(), 1000)?;
+        let fault = run_calls(
+            rt.alloc(),
+            &mut MemSource::new(REMOTE).failing_after(calls),
+            &mut MemSource::new(EVENTS),
+            &mut trace,
+        );
+        assert!(rt; matches!(&fault, Err(RunFault::Read)) && trace.bytes().is_empty());
+        let fault = run_calls(
+            rt.alloc(),
+            &mut MemSource::new(REMOTE),
+            &mut MemSource::new(EVENTS).failing_after(calls),
+            &mut trace,
+        );
+        assert!(rt; matches!(&fault, Err(RunFault::Read)) && trace.bytes().is_empty());
+    }
+    for room in 0..TRACE.len() {
+        let mut trace = MemSink::with_room(rt.alloc(), room)?;
+        let fault = run_calls(
+            rt.alloc(),
+            &mut MemSource::new(REMOTE),
+            &mut MemSource::new(EVENTS),
+            &mut trace,
+        );
+        assert!(rt; matches!(&fault, Err(RunFault::Write)) && TRACE.starts_with(trace.bytes()));
+    }
+    Ok(())
+}
