@@ -38,9 +38,9 @@ create_task s class statement end = do
   form ← form_in CreTsk statement end
   fields ← created s.setup statement form
   Ok (
-      record s { setup = with_task s.setup class (first_text (part statement form 1)) (first_text (part statement form 8)) fields },
-      left_behind statement form,
-    )
+    record s { setup = with_task s.setup class (first_text (part statement form 1)) (first_text (part statement form 8)) fields },
+    left_behind statement form,
+  )
 
 -- a statement outside a class
 unfoldable pub outside : State → StatementName → List Lexeme → End → Result (State × ℕ) Fault

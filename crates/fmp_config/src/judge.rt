@@ -12,12 +12,12 @@ ghost use Rattle.fmp_config.specs.Reading as spec;
 use crate::config::is_class_of;
 use crate::parts::{Parts, TaskFields};
 use crate::setup::Class;
+use fmp_calls::{NameKind, ObjectKind};
 use fmp_codes::Proc;
 use fmp_statements::{
     ConfigKind, Fault, Form, Listed, StatementName, Value, after_first, fault_at, fault_in,
     fields_in, first_text, list_in, numeral_in, processor_of,
 };
-use fmp_calls::{NameKind, ObjectKind};
 use fmp_tokens::Token;
 
 /// The greatest number of classes.
@@ -188,6 +188,11 @@ pub fn created(parts: &Parts, statement: &[Token<'_>], form: &Form) -> Result<Ta
 {
     let room = parts.names.has_room(NameKind::Object(ObjectKind::Task));
     new_name(parts, room, statement, part(statement, form, NAME))?;
-    let values = fields_in(StatementName::CreTsk.kinds(), 4, form, after_first(statement))?;
+    let values = fields_in(
+        StatementName::CreTsk.kinds(),
+        4,
+        form,
+        after_first(statement),
+    )?;
     task_fields(values.as_slice()).ok_or(fault_at(ConfigKind::Syntax, statement))
 }

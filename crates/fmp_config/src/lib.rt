@@ -13,6 +13,8 @@ mod machine;
 mod parts;
 mod reading;
 mod setup;
+#[cfg(test)]
+mod tests;
 
 pub use config::Config;
 pub use effect::Effect;

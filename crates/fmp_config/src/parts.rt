@@ -11,8 +11,8 @@ ghost use Rattle.fmp_config.specs.Parts.{setup_of};
 ghost use Rattle.fmp_config.specs.Valid.{IsValid, is_class_of};
 
 use crate::setup::{Class, TaskSetup};
-use fmp_codes::Pri;
 use fmp_calls::{NameKind, ObjectKind};
+use fmp_codes::Pri;
 use fmp_text::{Names, is_reserved};
 use std::alloc::{AllocError, Global};
 
@@ -112,7 +112,9 @@ impl Parts {
     fn named(&self, name: &[u8]) -> Option<&NamedClass>
         ensures { option_copied result ≡ find (λ c. bytes_eq name.now c.name.items) self.now.classes.items }
     {
-        self.classes.iter().find(|class| name == class.name.as_slice())
+        self.classes
+            .iter()
+            .find(|class| name == class.name.as_slice())
     }
 
     /// The class of this name.

@@ -27,11 +27,7 @@ const TOO_LONG: Fault = Fault {
     left: 0,
 };
 
-fn counted(
-    name: StatementName,
-    statement: &[Token<'_>],
-    end: End,
-) -> Result<(u64, usize), Fault>
+fn counted(name: StatementName, statement: &[Token<'_>], end: End) -> Result<(u64, usize), Fault>
     ensures value { result ≡ spec.counted name statement.now end }
     ensures least { IfOk result (λ p. 1 ≤ p.0) }
     ensures most { IfOk result (λ p. p.0 ≤ 8) }

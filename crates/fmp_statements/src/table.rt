@@ -5,11 +5,11 @@ ghost use Rattle.fmp_statements.specs.Cursor.{after_first};
 ghost use Rattle.fmp_statements.specs.Forms.{form_of};
 ghost use Rattle.fmp_statements.specs.Table as spec;
 
+use crate::attributes::Allowed;
 use crate::cursor::{after_first, first_text, is_word_next};
 use crate::fault::{ConfigKind, Fault, fault_at, misfit};
-use crate::forms::{Form, form_of};
-use crate::attributes::Allowed;
 use crate::fields::FieldKind;
+use crate::forms::{Form, form_of};
 use crate::scan::{Item, Shape};
 use fmp_tokens::{End, Token};
 
@@ -37,24 +37,52 @@ pub const STATEMENT_NAMES: [StatementName; 4] = [
 ];
 
 const OPEN: Shape = Shape::Mark(b'(');
+
 const CLOSE: Shape = Shape::Mark(b')');
+
 const BEGIN: Shape = Shape::Mark(b'{');
+
 const FINISH: Shape = Shape::Mark(b'}');
+
 const COMMA: Shape = Shape::Mark(b',');
+
 const STOP: Shape = Shape::Mark(b';');
+
 const NAME: Shape = Shape::One(Item::Name);
+
 const NUMBER: Shape = Shape::One(Item::Number);
+
 const NUMBERS: Shape = Shape::Series(b',', Item::Number);
+
 const ATTRIBUTES: Shape = Shape::Series(b'|', Item::Name);
 
 const OF_PROCESSORS: [Shape; 4] = [OPEN, NUMBER, CLOSE, STOP];
+
 const OF_DEF_CLASS: [Shape; 10] = [
     OPEN, NAME, COMMA, NUMBER, COMMA, BEGIN, NUMBERS, FINISH, CLOSE, STOP,
 ];
+
 const OF_CLASS: [Shape; 4] = [OPEN, NAME, CLOSE, BEGIN];
+
 const OF_CRE_TSK: [Shape; 18] = [
-    OPEN, NAME, COMMA, BEGIN, ATTRIBUTES, COMMA, Shape::Free, COMMA, NAME, COMMA, NUMBER, COMMA,
-    Shape::Free, COMMA, Shape::Free, FINISH, CLOSE, STOP,
+    OPEN,
+    NAME,
+    COMMA,
+    BEGIN,
+    ATTRIBUTES,
+    COMMA,
+    Shape::Free,
+    COMMA,
+    NAME,
+    COMMA,
+    NUMBER,
+    COMMA,
+    Shape::Free,
+    COMMA,
+    Shape::Free,
+    FINISH,
+    CLOSE,
+    STOP,
 ];
 
 const KINDS_OF_CRE_TSK: [FieldKind; 6] = [

@@ -9,11 +9,10 @@ returns-in_err-due-clause-exact c =
     rw (p.1, p.2) (stops_at c.args.end (state_of c.loop-place.draft, c.loop-place.due) c.args.tokens.now c.loop-place.place _ c.in_err-due.field-0.0 c.loop-place-test.true (rw c.from_place.ensures at c.in_err-due.ensures.exact) c.loop-place.invariant.0)
 
 pub loop-place-preserved : goal.loop-place-preserved
-loop-place-preserved c =
-    (
-      reads_on c.args.end (state_of c.loop-place.draft, c.loop-place.due) c.args.tokens.now c.loop-place.place _ _ c.loop-place-test.true (rw c.from_place.ensures at c.in_ok-due.ensures.exact) c.loop-place.invariant.0,
-      c.in_ok-due.ensures.sound
-    )
+loop-place-preserved c = (
+  reads_on c.args.end (state_of c.loop-place.draft, c.loop-place.due) c.args.tokens.now c.loop-place.place _ _ c.loop-place-test.true (rw c.from_place.ensures at c.in_ok-due.ensures.exact) c.loop-place.invariant.0,
+  c.in_ok-due.ensures.sound,
+)
 
 pub returns : goal.returns
 returns c = record {

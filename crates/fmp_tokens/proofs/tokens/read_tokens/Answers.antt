@@ -11,15 +11,14 @@ returns-in-Bad c =
 
 pub loop-byte-preserved : goal.loop-byte-preserved
 loop-byte-preserved c =
-    let whole : c.loop-byte.rest.now ≡ c.in-Some.byte.now ∷ c.in-Some.after.now = c.in-Some.ensures.cases.0 in
-    (
+    let whole : c.loop-byte.rest.now ≡ c.in-Some.byte.now ∷ c.in-Some.after.now = c.in-Some.ensures.cases.0 in (
       rw c.line_after-line.ensures.value (elim c.match-step_of.branch [
         | in-Pass w ↦
             rw (w.list-is, w.mode-is) (passes c.loop-byte.list.items c.loop-byte.mode c.loop-byte.line c.loop-byte.rest.now _ c.in-Some.byte.now c.in-Some.after.now _ whole w.in-Pass.ensures c.loop-byte.invariant.0)
         | in-Begin+in_ok-push-in-Begin w ↦
             rw (w.list-is, w.mode-is, w.push.ensures.items, w.in_ok-push-in-Begin.was, w.behind-mode.ensures, w.token_text-text.ensures) (begins c.loop-byte.list.items c.loop-byte.mode c.loop-byte.line c.loop-byte.rest.now _ c.in-Some.byte.now c.in-Some.after.now _ whole w.in-Begin.ensures c.loop-byte.invariant.0)
       ]),
-      omega (arith, c.line_after-line.ensures.bound, c.in-Some.ensures.cases.1, c.loop-byte.invariant.1)
+      omega (arith, c.line_after-line.ensures.bound, c.in-Some.ensures.cases.1, c.loop-byte.invariant.1),
     )
 
 pub returns : goal.returns
