@@ -1,7 +1,7 @@
 -- A configuration stays valid as it grows.
 use Rattle.std.proofs.Common.{◌≡◌, ℕ, ◌+◌, ◌≤◌, ◌<◌, zero, suc, Bool, true, false, cond, not, ◌&&◌, List, [], ◌∷◌, ◌++◌, length, map, get_or, Option, Some, None, refl, sym, ap, ◌∙◌, inl, inr, arith, length-append}
 use Rattle.std.specs.Prelude.{All, Contains, nat_le}
-use Rattle.std.specs.List.{list_all, list_any}
+use Rattle.std.specs.List.{list_all}
 use Rattle.std.specs.Str.{bytes_eq}
 use Rattle.std.proofs.lemmas.Bool.{cases_Bool, and_parts, and_from, false≢true, ltb-true, leb-true, le-leb}
 use Rattle.std.proofs.lemmas.List.Elements.{All-append, Contains-append_left, Contains-append_right}
@@ -9,13 +9,13 @@ use Rattle.std.proofs.lemmas.List.Sums.{AllPass-from_list_all, list_all-from_All
 use Rattle.std.proofs.lemmas.Slice.Eq.{bytes_eq-Decides}
 use Rattle.fmp_calls.specs.declared.kinds.NameKind.TheVariants.{Object}
 use Rattle.fmp_calls.specs.declared.kinds.ObjectKind.TheVariants.{Task}
-use Rattle.fmp_text.specs.Names.{NameLists, has_name, has_room, is_name, is_object, is_reserved, times, with_name}
+use Rattle.fmp_text.specs.Names.{NameLists, has_room, is_name, is_object, is_reserved, times, with_name}
 use Rattle.fmp_text.proofs.Listed.{list_all-push, times-none, times-push}
 use Rattle.fmp_config.specs.declared.draft.OpenClass.{OpenClass}
 use Rattle.fmp_config.specs.declared.parts.TaskFields.{TaskFields}
 use Rattle.fmp_config.specs.declared.setup.Class.{Class}
 use Rattle.fmp_config.specs.declared.setup.TaskSetup.{TaskSetup}
-use Rattle.fmp_config.specs.Building.{class_in, class_named, function_number, is_refused, task_setup, with_class, with_function, with_task, with_task_names}
+use Rattle.fmp_config.specs.Building.{class_in, class_named, function_number, is_refused, task_setup, with_class, with_task, with_task_names}
 use Rattle.fmp_config.specs.Draft.{IsSound, IsSoundClass, IsSoundOpen}
 use Rattle.fmp_config.specs.Reading.{part}
 use Rattle.fmp_tokens.specs.Lexing.{Lexeme}

@@ -1,9 +1,8 @@
 -- Reading statements one after the other, as a loop does.
-use Rattle.std.proofs.Common.{◌≡◌, ℕ, ◌+◌, ◌<◌, ◌≤◌, List, length, drop, Some, Result, Ok, Err, refl, sym, ◌∙◌}
+use Rattle.std.proofs.Common.{◌≡◌, ℕ, ◌+◌, ◌<◌, ◌≤◌, List, length, drop, Some, Result, Ok, Err, refl}
 use Rattle.fmp_tokens.specs.Lexing.{Lexeme}
 use Rattle.fmp_tokens.specs.declared.tokens.End.{End}
 use Rattle.fmp_statements.specs.declared.fault.Fault.{Fault}
-use Rattle.fmp_statements.specs.Walk.{◌>>=◌, walk}
 use Rattle.fmp_statements.proofs.Walking.{steps, fails, nothing_left}
 use Rattle.fmp_config.specs.declared.fault.ReadError.{ReadError}
 use Rattle.fmp_config.specs.declared.fault.ReadError.TheVariants as errors

@@ -1,5 +1,5 @@
 -- A configuration grows by classes and tasks.
-use Rattle.std.specs.Prelude.{ℕ, Bool, false, ◌||◌, List, [], ◌∷◌, ◌++◌, Option, Some, None, unwrap_or, if◌then◌else◌}
+use Rattle.std.specs.Prelude.{ℕ, Bool, ◌||◌, List, [], ◌∷◌, ◌++◌, Option, Some, None, unwrap_or, if◌then◌else◌}
 use Rattle.std.specs.Str.{bytes_eq}
 use Rattle.fmp_calls.specs.declared.kinds.NameKind.TheVariants.{Object, Function}
 use Rattle.fmp_calls.specs.declared.kinds.ObjectKind.TheVariants.{Task}

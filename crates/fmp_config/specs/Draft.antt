@@ -1,5 +1,5 @@
 -- What was read of a configuration, and what holds of it.
-use Rattle.std.specs.Prelude.{◌≡◌, Option, None, Some, IsTrue, Contains}
+use Rattle.std.specs.Prelude.{Option, None, Some, IsTrue, Contains}
 use Rattle.fmp_config.specs.declared.draft.Draft.{Draft}
 use Rattle.fmp_config.specs.declared.draft.OpenClass.{OpenClass}
 use Rattle.fmp_config.specs.declared.setup.Class.{Class}

@@ -1,32 +1,28 @@
 -- Reading a configuration from left to right, with the first fault.
-use Rattle.std.specs.Prelude.{ℕ, Bool, ◌&&◌, List, [], ◌∷◌, length, Option, Some, None, Result, Ok, Err, nat_le, nat_lt, if◌then◌else◌}
+use Rattle.std.specs.Prelude.{ℕ, Bool, List, [], ◌∷◌, length, Option, Some, None, Result, Ok, Err, nat_lt, if◌then◌else◌}
 use Rattle.std.specs.Option.{ok_or, option_map_or}
 use Rattle.fmp_codes.specs.declared.numbers.Proc.{Proc}
 use Rattle.fmp_calls.specs.declared.kinds.NameKind.TheVariants.{Object}
 use Rattle.fmp_calls.specs.declared.kinds.ObjectKind.TheVariants as objects
 use Rattle.fmp_text.specs.Names.{has_room}
-use Rattle.fmp_tokens.specs.Lexing.{Lexeme, lexed_text}
-use Rattle.fmp_tokens.specs.declared.tokens.End.{End}
-use Rattle.fmp_tokens.specs.declared.tokens.End.TheVariants as ends
+use Rattle.fmp_tokens.specs.Lexing.{Lexeme}
 use Rattle.fmp_statements.specs.declared.fault.Fault.{Fault}
-use Rattle.fmp_statements.specs.declared.fault.ConfigKind.TheVariants.{Syntax, OutsideClass, UnknownClass, NameTaken, TooMany, NoProcessors, BadClass}
+use Rattle.fmp_statements.specs.declared.fault.ConfigKind.TheVariants.{Syntax, UnknownClass, NameTaken, TooMany, BadClass}
 use Rattle.fmp_statements.specs.declared.fields.Value.{Value}
 use Rattle.fmp_statements.specs.declared.fields.Value.TheVariants as values
 use Rattle.fmp_statements.specs.declared.numbers.Listed.{Listed}
-use Rattle.fmp_statements.specs.declared.table.StatementName.{StatementName}
-use Rattle.fmp_statements.specs.declared.table.StatementName.TheVariants.{Processors, DefClass, Class, CreTsk}
-use Rattle.fmp_statements.specs.Cursor.{after_first, first_text, is_mark_next}
-use Rattle.fmp_statements.specs.Faults.{fault_at, fault_in, run_out}
+use Rattle.fmp_statements.specs.declared.table.StatementName.TheVariants.{CreTsk}
+use Rattle.fmp_statements.specs.Cursor.{after_first, first_text}
+use Rattle.fmp_statements.specs.Faults.{fault_at, fault_in}
 use Rattle.fmp_statements.specs.Fields.{fields_in}
 use Rattle.fmp_statements.specs.Forms.{Form, field, rest_of}
-use Rattle.fmp_statements.specs.Numbers.{list_in, number_in, numeral_in, processor_of}
-use Rattle.fmp_statements.specs.Table.{form_in, kinds_of, statement_name}
-use Rattle.fmp_statements.specs.Walk.{◌>>=◌, walk}
+use Rattle.fmp_statements.specs.Numbers.{list_in, numeral_in, processor_of}
+use Rattle.fmp_statements.specs.Table.{kinds_of}
+use Rattle.fmp_statements.specs.Walk.{◌>>=◌}
 use Rattle.fmp_config.specs.declared.draft.OpenClass.{OpenClass}
 use Rattle.fmp_config.specs.declared.parts.TaskFields.{TaskFields}
-use Rattle.fmp_config.specs.declared.reading.TheConstants.{MOST_BYTES}
 use Rattle.fmp_config.specs.declared.setup.Class.{Class as ClassSetup}
-use Rattle.fmp_config.specs.Building.{class_named, is_refused, of_processors, with_class, with_task}
+use Rattle.fmp_config.specs.Building.{class_named, is_refused}
 use Rattle.fmp_config.specs.Setup.{Setup}
 use Rattle.fmp_config.specs.Valid.{is_class_of}
 

@@ -1,6 +1,6 @@
 -- The statements of a configuration, one after the other.
-use Rattle.std.specs.Prelude.{◌≡◌, ℕ, Bool, false, ◌&&◌, List, [], ◌∷◌, length, map, Option, Some, None, is_some, Result, Ok, Err, OnOk, Contains, IsTrue, nat_le, nat_lt, if◌then◌else◌}
-use Rattle.fmp_tokens.specs.Lexing.{Lexeme, Lexed, lexed_text}
+use Rattle.std.specs.Prelude.{ℕ, Bool, ◌&&◌, List, [], ◌∷◌, length, Option, Some, None, is_some, Result, Ok, Err, nat_le, nat_lt, if◌then◌else◌}
+use Rattle.fmp_tokens.specs.Lexing.{Lexeme, lexed_text}
 use Rattle.fmp_tokens.specs.declared.tokens.End.{End}
 use Rattle.fmp_tokens.specs.declared.tokens.End.TheVariants as ends
 use Rattle.fmp_statements.specs.declared.fault.Fault.{Fault}

@@ -3,7 +3,6 @@ use Rattle.std.specs.Prelude.{◌≡◌, ℕ, ◌≤◌, Bool, true, not, ◌&&�
 use Rattle.std.specs.List.{list_all, list_any}
 use Rattle.fmp_text.specs.Names.{is_name, is_object, is_reserved, times}
 use Rattle.fmp_config.specs.declared.setup.Class.{Class}
-use Rattle.fmp_config.specs.declared.setup.TaskSetup.{TaskSetup}
 use Rattle.fmp_config.specs.Setup.{Setup, of_parts, has_member}
 
 -- on a machine of n processors: the initial processor is one of the class, and the class has none past the last

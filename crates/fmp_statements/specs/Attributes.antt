@@ -1,5 +1,5 @@
 -- The attributes of objects.
-use Rattle.std.specs.Prelude.{ℕ, true, false, List, [], ◌∷◌, find, Option, Some, None, Result, Ok, Err, codes, if◌then◌else◌}
+use Rattle.std.specs.Prelude.{ℕ, true, false, List, [], ◌∷◌, find, Option, Some, None, Result, Ok, codes, if◌then◌else◌}
 use Rattle.std.specs.Option.{ok_or}
 use Rattle.std.specs.Str.{bytes_eq}
 use Rattle.fmp_text.specs.Names.{is_name}

@@ -1,5 +1,5 @@
 -- Numbers and processors.
-use Rattle.std.specs.Prelude.{ℕ, ◌-◌, Bool, true, false, ◌&&◌, List, [], ◌∷◌, replicate, slice_set, Option, Some, None, option_map, option_and_then, Result, Ok, Err, nat_le, if◌then◌else◌}
+use Rattle.std.specs.Prelude.{ℕ, ◌-◌, Bool, true, false, ◌&&◌, List, [], ◌∷◌, replicate, slice_set, Option, Some, None, option_map, option_and_then, Result, Ok, nat_le, if◌then◌else◌}
 use Rattle.std.specs.Option.{ok_or, option_map_or, option_or}
 use Rattle.fmp_bytes.specs.declared.numerals.Number.{Number}
 use Rattle.fmp_bytes.specs.Numerals.{number_of}

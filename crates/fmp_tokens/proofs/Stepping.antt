@@ -2,7 +2,6 @@
 use Rattle.std.proofs.Common.{◌≡◌, ℕ, List, [], ◌∷◌, ◌++◌, refl, sym, ap, ◌∙◌, length, append_assoc, arith}
 use Rattle.std.proofs.lemmas.List.{append-nil}
 use Rattle.fmp_tokens.specs.declared.tokens.TokenKind.{TokenKind}
-use Rattle.fmp_tokens.specs.declared.tokens.End.{End}
 use Rattle.fmp_tokens.specs.declared.tokens.End.TheVariants as ends
 use Rattle.fmp_tokens.specs.declared.modes.Mode.{Mode}
 use Rattle.fmp_tokens.specs.declared.modes.Step.TheVariants.{Pass, Begin, Bad}

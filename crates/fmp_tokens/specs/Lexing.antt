@@ -1,6 +1,5 @@
 -- The tokens of a text, with their lines, byte by byte.
 use Rattle.std.specs.Prelude.{ℕ, ◌+◌, Bool, not, ◌&&◌, ◌||◌, List, [], ◌∷◌, ◌==◌, take, if◌then◌else◌}
-use Rattle.std.specs.List.{take_while}
 use Rattle.std.specs.Char.{is_ascii_graphic}
 use Rattle.fmp_bytes.specs.declared.classes.Class.TheVariants as class
 use Rattle.fmp_bytes.specs.Bytes.{is_of, front}

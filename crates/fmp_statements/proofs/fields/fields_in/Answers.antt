@@ -1,8 +1,7 @@
-use Rattle.std.proofs.Common.{◌≡◌, ◌∙◌, sym, ap, arith}
+use Rattle.std.proofs.Common.{◌∙◌, sym, arith}
 use Rattle.std.proofs.lemmas.Result.{err_from_is_err_and}
 use Rattle.fmp_statements.specs.declared.attributes.Allowed.TheVariants.{Task}
 use Rattle.fmp_statements.specs.declared.fields.FieldKind.TheVariants.{Attributes}
-use Rattle.fmp_statements.specs.Fields.{value_in}
 use Rattle.fmp_statements.proofs.Walking.{value_read, value_refused, values_done}
 use Rattle.fmp_statements.proofs.fields.fields_in.Goals as goal
 

@@ -1,7 +1,6 @@
-use Rattle.std.proofs.Common.{◌≡◌, ◌∙◌, length, drop, sym, ap, arith}
+use Rattle.std.proofs.Common.{length, ap, arith}
 use Rattle.std.proofs.lemmas.List.{length-drop}
 use Rattle.fmp_statements.specs.declared.scan.Shape.TheVariants.{Mark}
-use Rattle.fmp_statements.specs.Scan.{scan, scan_of}
 use Rattle.fmp_statements.proofs.Walking.{is_false, is_true, part_fits, part_misfits, all_fit}
 use Rattle.fmp_statements.proofs.forms.form_of.Goals as goal
 

@@ -1,4 +1,4 @@
-use Rattle.std.proofs.Common.{◌∙◌, sym, arith}
+use Rattle.std.proofs.Common.{arith}
 use Rattle.fmp_statements.proofs.Walking.{goes_on, ends, runs_out}
 use Rattle.fmp_statements.proofs.scan.reach_of.Goals as goal
 

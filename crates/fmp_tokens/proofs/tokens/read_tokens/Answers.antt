@@ -1,4 +1,4 @@
-use Rattle.std.proofs.Common.{◌≡◌, ◌∙◌, ◌∷◌, length, sym, arith}
+use Rattle.std.proofs.Common.{◌≡◌, ◌∷◌, arith}
 use Rattle.fmp_tokens.specs.Lexing.{lexed_text}
 use Rattle.fmp_tokens.proofs.Stepping.{passes, begins, is_bad, is_done}
 use Rattle.fmp_tokens.proofs.tokens.read_tokens.Goals as goal

@@ -1,5 +1,4 @@
-use Rattle.std.proofs.Common.{◌≡◌, true, refl, arith}
-use Rattle.fmp_text.specs.Names.{is_name}
+use Rattle.std.proofs.Common.{◌≡◌, refl, arith}
 use Rattle.fmp_statements.specs.declared.table.StatementName.TheVariants.{CreTsk}
 use Rattle.fmp_statements.specs.Cursor.{first_text}
 use Rattle.fmp_config.specs.Parts.{setup_of}

@@ -1,4 +1,4 @@
-use Rattle.std.proofs.Common.{◌≡◌, ◌≤◌, map, arith}
+use Rattle.std.proofs.Common.{◌≡◌, map, arith}
 use Rattle.fmp_config.proofs.Growing.{main_within, task_pushed}
 use Rattle.fmp_config.proofs.Named.{not_refused}
 use Rattle.fmp_config.specs.Building.{function_number}

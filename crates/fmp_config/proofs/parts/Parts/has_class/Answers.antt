@@ -1,4 +1,4 @@
-use Rattle.std.proofs.Common.{◌≡◌, ◌∙◌, sym}
+use Rattle.std.proofs.Common.{◌∙◌, sym}
 use Rattle.fmp_config.proofs.Classes.{named_by}
 use Rattle.fmp_config.proofs.parts.Parts.has_class.Goals as goal
 
