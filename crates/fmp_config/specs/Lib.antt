@@ -1,8 +1,5 @@
 pub mod Setup
 pub mod Valid
-pub mod Building
-pub mod Faults
-pub mod Parts
 pub mod World
 pub mod Keeping
 pub mod Tasks
@@ -16,6 +13,9 @@ pub mod Tick
 pub mod Step
 pub mod Boot
 pub mod Outcomes
+pub mod Building
+pub mod Faults
+pub mod Parts
 pub mod Reading
 pub mod Statements
 pub mod Draft
