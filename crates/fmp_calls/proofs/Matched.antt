@@ -29,7 +29,8 @@ task_parts (task_calls.ActTsk a) = refl
 task_parts _ = refl
 
 system_parts : (call : SystemCall) → system.call_of (system.name_of call) (system.values_of call) ≡ Some call
-system_parts system_calls.GetPid = refl
+system_parts system_calls.GetTid = refl
+system_parts _ = refl
 
 pub call_of-parts : (call : Call) → call_of (name_of call) (values_of call) ≡ Some call
 call_of-parts (calls.Task call) = ap (option_map calls.Task) (task_parts call)
@@ -53,7 +54,16 @@ SystemAgrees name list (Some call) = (system.name_of call ≡ name) × (system.v
 
 system_agrees : (name : SystemName) (list : List Value) → SystemAgrees name list (system.call_of name list)
 unfolding SystemAgrees
+system_agrees system_names.GetTid [] = (refl, refl)
 system_agrees system_names.GetPid [] = (refl, refl)
+system_agrees system_names.LocCpu [] = (refl, refl)
+system_agrees system_names.UnlCpu [] = (refl, refl)
+system_agrees system_names.DisDsp [] = (refl, refl)
+system_agrees system_names.EnaDsp [] = (refl, refl)
+system_agrees system_names.SnsCtx [] = (refl, refl)
+system_agrees system_names.SnsLoc [] = (refl, refl)
+system_agrees system_names.SnsDsp [] = (refl, refl)
+system_agrees system_names.SnsDpn [] = (refl, refl)
 system_agrees _ _ = tt
 
 abbrev pub Agrees : CallName → List Value → Call → Type 0
@@ -82,7 +92,8 @@ task_texts task_names.ActTsk = refl
 task_texts _ = refl
 
 system_texts : (name : SystemName) → find (λ n. bytes_eq (text_of n) (system.text_of name)) CALL_NAMES ≡ Some (names.System name)
-system_texts system_names.GetPid = refl
+system_texts system_names.GetTid = refl
+system_texts _ = refl
 
 pub find-text_of : (name : CallName) → find (λ n. bytes_eq (text_of n) (text_of name)) CALL_NAMES ≡ Some name
 find-text_of (names.Task name) = task_texts name
@@ -95,7 +106,8 @@ task_words _ = refl
 
 system_words : (name : SystemName) → is_identifier (system.text_of name) ≡ true
 unfolding is_of
-system_words system_names.GetPid = refl
+system_words system_names.GetTid = refl
+system_words _ = refl
 
 pub is_identifier-text_of : (name : CallName) → is_identifier (text_of name) ≡ true
 is_identifier-text_of (names.Task name) = task_words name
@@ -108,7 +120,8 @@ task_other task_names.ActTsk = (refl, refl)
 task_other _ = (refl, refl)
 
 system_other : (name : SystemName) → (bytes_eq (system.text_of name) (codes "tick") ≡ false) × (bytes_eq (system.text_of name) (codes "ipi") ≡ false)
-system_other system_names.GetPid = (refl, refl)
+system_other system_names.GetTid = (refl, refl)
+system_other _ = (refl, refl)
 
 pub no_tick : (name : CallName) → bytes_eq (text_of name) (codes "tick") ≡ false
 no_tick (names.Task name) = (task_other name).0
@@ -125,7 +138,8 @@ task_few task_names.ActTsk = omega arith
 task_few _ = omega arith
 
 system_few : (name : SystemName) → length (system.kinds_of name) ≤ 4
-system_few system_names.GetPid = omega arith
+system_few system_names.GetTid = omega arith
+system_few _ = omega arith
 
 pub length-kinds_of-le : (name : CallName) → length (kinds_of name) ≤ 4
 length-kinds_of-le (names.Task name) = task_few name

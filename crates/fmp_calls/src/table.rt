@@ -24,10 +24,19 @@ pub enum CallName {
 }
 
 /// All of them.
-pub const CALL_NAMES: [CallName; 3] = [
+pub const CALL_NAMES: [CallName; 12] = [
     CallName::Task(TaskName::ActTsk),
     CallName::Task(TaskName::ExtTsk),
+    CallName::System(SystemName::GetTid),
     CallName::System(SystemName::GetPid),
+    CallName::System(SystemName::LocCpu),
+    CallName::System(SystemName::UnlCpu),
+    CallName::System(SystemName::DisDsp),
+    CallName::System(SystemName::EnaDsp),
+    CallName::System(SystemName::SnsCtx),
+    CallName::System(SystemName::SnsLoc),
+    CallName::System(SystemName::SnsDsp),
+    CallName::System(SystemName::SnsDpn),
 ];
 
 /// A list of values.

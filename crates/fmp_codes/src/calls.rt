@@ -26,5 +26,14 @@ pub enum TaskCall {
 /// Calls on the processors and on the state of dispatching.
 #[derive(Clone, Copy, Debug, PartialEq, Eq)]
 pub enum SystemCall {
+    GetTid,
     GetPid,
+    LocCpu,
+    UnlCpu,
+    DisDsp,
+    EnaDsp,
+    SnsCtx,
+    SnsLoc,
+    SnsDsp,
+    SnsDpn,
 }

@@ -1,5 +1,6 @@
 -- Locks and flags of a processor.
 use Rattle.std.specs.Prelude.{Bool, false, Option, None, Some, map, ◌==◌, if◌then◌else◌}
+use Rattle.std.specs.List.{list_any}
 use Rattle.fmp_codes.specs.declared.numbers.Proc.{Proc}
 use Rattle.fmp_config.specs.World.{World, processor, with_processor}
 
@@ -15,6 +16,10 @@ with_lock w p b = with_processor w p (record (processor w p) { locked = b })
 -- its dispatching is disabled from now on, or no longer
 abbrev pub with_dispatching_disabled : {Q : Type 0} → World Q → Proc → Bool → World Q
 with_dispatching_disabled w p b = with_processor w p (record (processor w p) { disabled = b })
+
+-- the processor holds a spin lock
+abbrev pub holds_lock : {Q : Type 0} → World Q → Proc → Bool
+holds_lock w p = list_any (is_at p) w.holders
 
 -- the processor leaves the CPU-locked state and frees a spin lock that it holds
 abbrev pub unlocked : {Q : Type 0} → World Q → Proc → World Q

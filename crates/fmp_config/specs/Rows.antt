@@ -72,9 +72,16 @@ called w p row = called_by w row.effect (check w p row)
 abbrev pub in_task : Rule
 in_task = record { context = context.Task; when_locked = false; unheld = false }
 
+abbrev pub anywhere : Rule
+anywhere = record { context = context.Any; when_locked = true; unheld = false }
+
 -- the call may also be made in the CPU-locked state
 abbrev pub when_locked : {Q : Type 0} → Row Q → Row Q
 when_locked row = record row { rule = record row.rule { when_locked = true } }
+
+-- the call may be made from a task and from a handler, and in the CPU-locked state
+abbrev pub from_anywhere : {Q : Type 0} → Row Q → Row Q
+from_anywhere row = record row { rule = anywhere }
 
 -- a call from a task that has no arguments and no errors
 abbrev pub row : {Q : Type 0} → World Q × Effect → Row Q

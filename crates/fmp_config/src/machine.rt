@@ -164,6 +164,13 @@ impl Rule {
         unheld: false,
     };
 
+    /// From a task and from a handler, also in the CPU-locked state.
+    pub const ANYWHERE: Rule = Rule {
+        context: Context::Any,
+        when_locked: true,
+        unheld: false,
+    };
+
     /// The same, but also in the CPU-locked state.
     pub const fn when_locked(self) -> Rule
         ensures { result ≡ record self { when_locked = true } }

@@ -1,9 +1,9 @@
 //! The state of the machine, and its reads and writes. Where there is none of a number, a read gives a blank record and a
 //! write does nothing.
-ghost use Rattle.std.specs.Prelude.{◌≡◌, ◌≤◌, [], false, length};
+ghost use Rattle.std.specs.Prelude.{◌≡◌, ◌≤◌, [], false, true, length};
 ghost use Rattle.fmp_config.specs.World.{task, processor, with_processor, handler, runner_of, is_held, first};
 ghost use Rattle.fmp_config.specs.Keeping.{note};
-ghost use Rattle.fmp_config.specs.Processors.{with_dispatching_disabled, unlocked, opened};
+ghost use Rattle.fmp_config.specs.Processors.{holds_lock, opened, unlocked, with_dispatching_disabled, with_lock};
 
 use arrayvec::ArrayVec;
 use fmp_codes::{Proc, Runner, Task};
@@ -157,8 +157,22 @@ impl Machine {
         self.next
     }
 
+    /// Lets a processor enter the CPU-locked state.
+    pub fn lock(&mut self, p: Proc)
+        ensures { self.new ≡ with_lock self.old p true }
+    {
+        let processor = self.processor(p);
+        self.set_processor(
+            p,
+            Processor {
+                locked: true,
+                ..processor
+            },
+        );
+    }
+
     /// Disables the dispatching of a processor, or enables it.
-    fn set_dispatching_disabled(&mut self, p: Proc, disabled: bool)
+    pub fn set_dispatching_disabled(&mut self, p: Proc, disabled: bool)
         ensures { self.new ≡ with_dispatching_disabled self.old p disabled }
     {
         let processor = self.processor(p);
@@ -172,8 +186,10 @@ impl Machine {
     }
 
     /// Lets a processor leave the CPU-locked state and free the spin lock that it holds. There are no spin locks yet.
-    fn unlock(&mut self, p: Proc)
-        ensures { self.new ≡ unlocked self.old p }
+    pub fn unlock(&mut self, p: Proc)
+        ensures unlocked { self.new ≡ unlocked self.old p }
+        ensures no_holder { holds_lock self.old p ≡ false }
+        ensures lock { self.new ≡ with_lock self.old p false }
     {
         if let Some(processor) = self.processors.get_mut(p.index()) {
             processor.locked = false;

@@ -64,6 +64,40 @@ const TRACE: &[u8] = b"\
 8 P2 T2 ext_tsk() gone run=idle
 ";
 
+/// A task keeps its processor, first by disabled dispatching, and then locked too.
+const KEEPING_EVENTS: &[u8] = b"\
+# T2 keeps its processor while it works on shared data
+P2 dis_dsp()
+P1 act_tsk(T3)
+P2 ipi
+P2 tick
+P2 sns_dpn()
+P2 loc_cpu()
+P2 tick
+P2 get_tid()
+P2 unl_cpu()
+P2 sns_dsp()
+P2 ena_dsp()
+P2 ipi
+P2 get_tid()
+";
+
+const KEEPING_TRACE: &[u8] = b"\
+1 P2 T2 dis_dsp() E_OK
+2 P1 T1 act_tsk(T3) E_OK ipi=2
+3 P2 T2 ipi held
+4 P2 T2 tick taken
+5 P2 T2 sns_dpn() E_OK:1
+6 P2 T2 loc_cpu() E_OK
+7 P2 T2 tick held
+8 P2 T2 get_tid() E_CTX
+9 P2 T2 unl_cpu() E_OK
+10 P2 T2 sns_dsp() E_OK:1
+11 P2 T2 ena_dsp() E_OK run=T3
+12 P2 T3 ipi none
+13 P2 T3 get_tid() E_OK:3
+";
+
 /// Runs over memory, and tells what is written.
 fn run(alloc: Global, config: &[u8], events: &[u8]) -> Result<MemSink, RunFault> {
     let mut trace = MemSink::with_room(alloc, 1000)?;
@@ -182,6 +216,48 @@ P1 act_tsk(WORKER)
 7 P1 - act_tsk(WORKER) idle
 ";
     writes(&rt, rt.alloc(), config, events, trace)
+}
+
+/// The processor is locked and unlocked twice.
+#[test]
+fn lock_states(rt: HostRuntime) -> Result<(), Fail> {
+    let events = b"\
+P1 loc_cpu()
+P1 loc_cpu()
+P1 sns_loc()
+P1 sns_dpn()
+P1 get_tid()
+P1 unl_cpu()
+P1 unl_cpu()
+P1 sns_dpn()
+";
+    let trace = b"\
+1 P1 T1 loc_cpu() E_OK
+2 P1 T1 loc_cpu() E_OK
+3 P1 T1 sns_loc() E_OK:1
+4 P1 T1 sns_dpn() E_OK:1
+5 P1 T1 get_tid() E_CTX
+6 P1 T1 unl_cpu() E_OK
+7 P1 T1 unl_cpu() E_OK
+8 P1 T1 sns_dpn() E_OK:0
+";
+    writes(&rt, rt.alloc(), MACHINE, events, trace)
+}
+
+/// The example of disabled dispatching.
+#[test]
+fn disabled_dispatching(rt: HostRuntime) -> Result<(), Fail> {
+    let config = b"\
+PROCESSORS(2);
+DEF_CLASS(C1, 1, {1, 2});
+DEF_CLASS(C2, 2, {1, 2});
+CLASS(C1) { CRE_TSK(T1, {TA_ACT, 0, main1, 10, 4096, NULL}); }
+CLASS(C2) {
+  CRE_TSK(T2, {TA_ACT, 0, main2, 10, 4096, NULL});
+  CRE_TSK(T3, {TA_NULL, 0, main3, 5, 4096, NULL});
+}
+";
+    writes(&rt, rt.alloc(), config, KEEPING_EVENTS, KEEPING_TRACE)
 }
 
 #[test]

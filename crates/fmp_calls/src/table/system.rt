@@ -10,7 +10,16 @@ use fmp_codes::SystemCall;
 /// The names of the calls on the processors and on the state of dispatching.
 #[derive(Clone, Copy, Debug, PartialEq, Eq)]
 pub enum SystemName {
+    GetTid,
     GetPid,
+    LocCpu,
+    UnlCpu,
+    DisDsp,
+    EnaDsp,
+    SnsCtx,
+    SnsLoc,
+    SnsDsp,
+    SnsDpn,
 }
 
 impl SystemName {
@@ -19,7 +28,16 @@ impl SystemName {
         ensures { result ≡ spec.name_of call }
     {
         match call {
+            SystemCall::GetTid => SystemName::GetTid,
             SystemCall::GetPid => SystemName::GetPid,
+            SystemCall::LocCpu => SystemName::LocCpu,
+            SystemCall::UnlCpu => SystemName::UnlCpu,
+            SystemCall::DisDsp => SystemName::DisDsp,
+            SystemCall::EnaDsp => SystemName::EnaDsp,
+            SystemCall::SnsCtx => SystemName::SnsCtx,
+            SystemCall::SnsLoc => SystemName::SnsLoc,
+            SystemCall::SnsDsp => SystemName::SnsDsp,
+            SystemCall::SnsDpn => SystemName::SnsDpn,
         }
     }
 
@@ -28,7 +46,16 @@ impl SystemName {
         ensures { result.now ≡ spec.text_of self }
     {
         match self {
+            SystemName::GetTid => b"get_tid",
             SystemName::GetPid => b"get_pid",
+            SystemName::LocCpu => b"loc_cpu",
+            SystemName::UnlCpu => b"unl_cpu",
+            SystemName::DisDsp => b"dis_dsp",
+            SystemName::EnaDsp => b"ena_dsp",
+            SystemName::SnsCtx => b"sns_ctx",
+            SystemName::SnsLoc => b"sns_loc",
+            SystemName::SnsDsp => b"sns_dsp",
+            SystemName::SnsDpn => b"sns_dpn",
         }
     }
 
@@ -38,7 +65,16 @@ impl SystemName {
         ensures few { length result.now ≤ MOST_ARGUMENTS }
     {
         match self {
+            SystemName::GetTid => &[],
             SystemName::GetPid => &[],
+            SystemName::LocCpu => &[],
+            SystemName::UnlCpu => &[],
+            SystemName::DisDsp => &[],
+            SystemName::EnaDsp => &[],
+            SystemName::SnsCtx => &[],
+            SystemName::SnsLoc => &[],
+            SystemName::SnsDsp => &[],
+            SystemName::SnsDpn => &[],
         }
     }
 
@@ -47,7 +83,16 @@ impl SystemName {
         ensures { result ≡ spec.call_of self values.now }
     {
         match (self, values) {
+            (SystemName::GetTid, []) => Some(SystemCall::GetTid),
             (SystemName::GetPid, []) => Some(SystemCall::GetPid),
+            (SystemName::LocCpu, []) => Some(SystemCall::LocCpu),
+            (SystemName::UnlCpu, []) => Some(SystemCall::UnlCpu),
+            (SystemName::DisDsp, []) => Some(SystemCall::DisDsp),
+            (SystemName::EnaDsp, []) => Some(SystemCall::EnaDsp),
+            (SystemName::SnsCtx, []) => Some(SystemCall::SnsCtx),
+            (SystemName::SnsLoc, []) => Some(SystemCall::SnsLoc),
+            (SystemName::SnsDsp, []) => Some(SystemCall::SnsDsp),
+            (SystemName::SnsDpn, []) => Some(SystemCall::SnsDpn),
             _ => None,
         }
     }
@@ -58,6 +103,15 @@ pub fn values_of(call: SystemCall) -> ArrayVec<Value, MOST_ARGUMENTS>
     ensures { result.items ≡ spec.values_of call }
 {
     match call {
+        SystemCall::GetTid => listed(&[]),
         SystemCall::GetPid => listed(&[]),
+        SystemCall::LocCpu => listed(&[]),
+        SystemCall::UnlCpu => listed(&[]),
+        SystemCall::DisDsp => listed(&[]),
+        SystemCall::EnaDsp => listed(&[]),
+        SystemCall::SnsCtx => listed(&[]),
+        SystemCall::SnsLoc => listed(&[]),
+        SystemCall::SnsDsp => listed(&[]),
+        SystemCall::SnsDpn => listed(&[]),
     }
 }
