@@ -1,9 +1,9 @@
 pub mod Judged
 pub mod Listed
-pub mod Numbered
 pub mod Parsed
 pub mod Pieces
 pub mod Placed
+pub mod Scanned
 pub mod Spelled
 pub mod SpelledCalls
 pub mod SpelledEvents

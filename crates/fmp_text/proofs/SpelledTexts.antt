@@ -1,8 +1,8 @@
 -- A text is read exactly where it is spelled.
-use Rattle.std.proofs.Common.{◌≡◌, ℕ, suc, ◌+◌, ◌-◌, ◌<◌, ◌≤◌, Bool, true, false, ◌&&◌, ◌||◌, ◌⊎◌, cond, eqb, ltb, inl, inr, List, [], ◌∷◌, ◌++◌, length, get_or, take, Option, Some, None, Result, Ok, Err, is_some, ◌≢◌, refl, sym, ap, subst, ◌∙◌, arith, length-append, append_assoc}
+use Rattle.std.proofs.Common.{◌≡◌, ℕ, suc, ◌+◌, ◌-◌, ◌<◌, ◌≤◌, Bool, true, false, not, ◌&&◌, ◌||◌, ◌⊎◌, cond, eqb, ltb, inl, inr, List, [], ◌∷◌, ◌++◌, length, get_or, take, Option, Some, None, Result, Ok, Err, is_some, refl, sym, ap, subst, ◌∙◌, arith, length-append, append_assoc}
 use Rattle.std.specs.Prelude.{slice_index}
-use Rattle.std.specs.List.{list_all}
-use Rattle.std.proofs.lemmas.Bool.{cases_Bool, and_parts, or_cases, eqb-true, eqb-false, ltb-true, ltb-false, ne_eqb, lt-ltb, le-ltb, false≢true}
+use Rattle.std.specs.List.{list_all, join_with_byte}
+use Rattle.std.proofs.lemmas.Bool.{cases_Bool, and_parts, or_cases, eqb-true, ltb-true, ltb-false, lt-ltb, le-ltb, false≢true}
 use Rattle.std.proofs.lemmas.List.{take_at, take_all, take_more}
 use Rattle.std.proofs.Math.Seq.{take-append-add}
 use Rattle.fmp_codes.specs.declared.records.Event.{Event}
@@ -11,19 +11,19 @@ use Rattle.fmp_bytes.specs.Bytes.{is_of, front, after, behind, pieces_of}
 use Rattle.fmp_bytes.proofs.Fronts.{front-append, front-after, list_all-take_while, stops-cons, list_all-parts, list_all-weaker}
 use Rattle.fmp_bytes.proofs.Included.{line-blank}
 use Rattle.fmp_bytes.proofs.Spelled.{behind_is, behind-same}
-use Rattle.fmp_bytes.proofs.Cutting.{pieces_of-join, join-pieces_of, some-pieces_of, apart-pieces_of}
+use Rattle.fmp_bytes.proofs.Cutting.{join-pieces_of, some-pieces_of, apart-pieces_of}
 use Rattle.fmp_text.specs.declared.events.TheConstants.{MOST_BYTES, MOST_EVENTS}
 use Rattle.fmp_text.specs.declared.fault.TextFault.{TextFault}
 use Rattle.fmp_text.specs.declared.fault.TextKind.{TextKind}
-use Rattle.fmp_text.specs.declared.fault.TextKind.TheVariants.{CutShort}
+use Rattle.fmp_text.specs.declared.fault.TextKind.TheVariants.{CutShort, TooMany}
 use Rattle.fmp_text.specs.Names.{NameLists, AreValid}
 use Rattle.fmp_text.specs.Reading.{◌>>=◌}
 use Rattle.fmp_text.specs.Lines.{event_in, is_skipped, without_return, line_event}
-use Rattle.fmp_text.specs.Events.{at_line, limited, line_events, events_from, events_in}
+use Rattle.fmp_text.specs.Events.{HasNoFeed, Reading, after_line, fault_at, faultless, reading_from, reading_of, with_event}
 use Rattle.fmp_text.specs.Grammar.{AreBlank}
 use Rattle.fmp_text.specs.TextGrammar.{IsComment, Ended, SpellsNothing, SpellsOne, IsRest, SpellsLines, SpellsText}
 use Rattle.fmp_text.proofs.Listed.{list_all-at}
-use Rattle.fmp_text.proofs.Parsed.{bind_parts}
+use Rattle.fmp_text.proofs.Scanned.{reading_from-cut, reading_from-last}
 use Rattle.fmp_text.proofs.SpelledEvents.{event_in-spelled, event_is_spelled, line_of_spelled, event_begins}
 
 -- ---- the end of a line
@@ -203,83 +203,91 @@ line_spelled names line found e =
 
 -- ---- lines
 
-none_read : (names : NameLists) (n count : ℕ) (line : List ℕ) → SpellsNothing line → line_events names n count line ≡ Ok []
-unfolding line_events
-none_read names n count line s = rw (line_read names line s) refl
+no_feed : (line : List ℕ) → list_all (λ b. not (eqb b 10)) line ≡ true → HasNoFeed line
+no_feed line apart k lt is = false≢true (sym (ap (λ (b : ℕ). not (eqb b 10)) is) ∙ list_all-at (λ b. not (eqb b 10)) line k 0 lt apart)
 
-event_read : (names : NameLists) (n count : ℕ) (line : List ℕ) (event : Event) → AreValid names → SpellsOne names line event → count < MOST_EVENTS → line_events names n count line ≡ Ok (event ∷ [])
-unfolding line_events
-event_read names n count line event valid s few =
-    let room : eqb count MOST_EVENTS ≡ false = ne_eqb count MOST_EVENTS (λ e. omega (arith, few, e)) in
-    rw (one_read names line event valid s, room) refl
+-- one line more in front of what is read
+module _ (names : NameLists) (n count : ℕ) (line : List ℕ) (without behind : Reading) where
+  without_event : SpellsNothing line → (events : List Event) → without ≡ faultless events → after_line (n + 1) count (line_event names line) without behind ≡ faultless events
+  without_event s events rest = rw (line_read names line s) rest
 
-lines_read : (names : NameLists) (n count : ℕ) (lines : List (List ℕ)) (events : List Event) → AreValid names → SpellsLines names lines events → count + length events ≤ MOST_EVENTS → events_from names n count lines ≡ Ok events
-unfolding events_from
-lines_read names n count [] events valid s few = absurd s
-lines_read names n count (last ∷ []) events valid s few = let skipped = rest_read last s.0 in let none = s.1 in rw (skipped, none) refl
-lines_read names n count (line ∷ next ∷ lines) events valid (inl s) few =
-    let rest = lines_read names (n + 1) (count + 0) (next ∷ lines) events valid s.1 (omega (arith, few)) in
-    rw (none_read names n count line s.0, rest) refl
-lines_read names n count (line ∷ next ∷ lines) events valid (inr s) few =
+  one_event : (event : Event) → AreValid names → SpellsOne names line event → count < MOST_EVENTS → (others : List Event) → behind ≡ faultless others
+      → after_line (n + 1) count (line_event names line) without behind ≡ faultless (event ∷ others)
+  one_event event valid s few others rest =
+      let room = lt-ltb count MOST_EVENTS few in
+      rw (one_read names line event valid s, room, rest) refl
+
+lines_read : (names : NameLists) (n count : ℕ) (lines : List (List ℕ)) (events : List Event) → AreValid names → list_all (list_all (λ b. not (eqb b 10))) lines ≡ true → SpellsLines names lines events → count + length events ≤ MOST_EVENTS
+    → reading_from names false n count [] (join_with_byte 10 lines) ≡ faultless events
+lines_read names n count [] events valid apart s few = absurd s
+lines_read names n count (last ∷ []) events valid apart s few =
+    let skipped = rest_read last s.0 in
+    let none = s.1 in
+    reading_from-last names false n count last (no_feed last (and_parts (list_all (λ b. not (eqb b 10)) last) true apart).0) ∙ rw (skipped, none) refl
+lines_read names n count (line ∷ next ∷ lines) events valid apart (inl s) few =
+    let parts = and_parts (list_all (λ b. not (eqb b 10)) line) (list_all (list_all (λ b. not (eqb b 10))) (next ∷ lines)) apart in
+    let rest = lines_read names (n + 1) count (next ∷ lines) events valid parts.1 s.1 few in
+    reading_from-cut names false n count [] line (join_with_byte 10 (next ∷ lines)) (no_feed line parts.0) ∙ without_event names n count line _ _ s.0 events rest
+lines_read names n count (line ∷ next ∷ lines) events valid apart (inr s) few =
+    let parts = and_parts (list_all (λ b. not (eqb b 10)) line) (list_all (list_all (λ b. not (eqb b 10))) (next ∷ lines)) apart in
     let same = s.3 in
     let long = ap length same in
-    let rest = lines_read names (n + 1) (count + 1) (next ∷ lines) s.1 valid s.4 (omega (arith, few, long)) in
-    rw (event_read names n count line s.0 valid s.2 (omega (arith, few, long)), rest, same) refl
+    let rest = lines_read names (n + 1) (count + 1) (next ∷ lines) s.1 valid parts.1 s.4 (omega (arith, few, long)) in
+    reading_from-cut names false n count [] line (join_with_byte 10 (next ∷ lines)) (no_feed line parts.0)
+    ∙ one_event names n count line _ _ s.0 valid s.2 (omega (arith, few, long)) s.1 rest ∙ ap faultless (sym same)
 
-at_line_parts : {A : Type 0} (n : ℕ) (read : Result A TextKind) (a : A) → at_line n read ≡ Ok a → read ≡ Ok a
-at_line_parts n (Ok x) a e = let same : x ≡ a = cc in ap (λ y. Ok y) same
-at_line_parts n (Err kind) a e = absurd cc
+-- ---- what was read without a fault
 
--- a line's events: none, or one for which there was room
-abbrev pub FewSpelled : NameLists → ℕ → List ℕ → List Event → Type 0
-FewSpelled names count line events = (SpellsNothing line × (events ≡ [])) ⊎ ((event : Event) × SpellsOne names line event × (events ≡ event ∷ []) × (count ≢ MOST_EVENTS))
+-- one event, where there was room for it
+pub record IsTaken (count : ℕ) (event : Event) (behind : Reading) (events : List Event) : Type 0 where
+  pub room : count < MOST_EVENTS
+  pub rest : behind ≡ faultless behind.events
+  pub parts : events ≡ event ∷ behind.events
 
-limited_spelled : (names : NameLists) (n count : ℕ) (line : List ℕ) (found : Option Event) (events : List Event) → LineSpelled names line found → limited n count found ≡ Ok events → FewSpelled names count line events
-limited_spelled names n count line None events s e = let none : [] ≡ events = cc in inl (s, sym none)
-limited_spelled names n count line (Some event) events s e =
-    elim (cases_Bool (eqb count MOST_EVENTS)) [
-      | inl t ↦ let e2 = rw t at e in absurd cc
-      | inr f ↦ let e2 = rw f at e in let one : event ∷ [] ≡ events = cc in inr (event, s, sym one, eqb-false count MOST_EVENTS f)
+event_parts : (line count : ℕ) (event : Event) (behind : Reading) (events : List Event) → with_event line count event behind ≡ faultless events → IsTaken count event behind events
+event_parts line count event behind events e =
+    elim (cases_Bool (ltb count MOST_EVENTS)) [
+      | inl t ↦
+          let e2 = rw t at e in
+          let none : behind.fault ≡ None = ap (λ (r : Reading). r.fault) e2 in
+          record { room = ltb-true count MOST_EVENTS t; rest = ap (λ (f : Option TextFault). record { events = behind.events; fault = f }) none; parts = sym (ap (λ (r : Reading). r.events) e2) }
+      | inr f ↦ let e2 = rw f at e in let bad = ap (λ (r : Reading). r.fault) e2 in absurd cc
     ]
 
-line_events_spelled : (names : NameLists) (n count : ℕ) (line : List ℕ) (events : List Event) → line_events names n count line ≡ Ok events → FewSpelled names count line events
-unfolding line_events
-line_events_spelled names n count line events e =
-    let p = bind_parts (at_line n (line_event names line)) (limited n count) events e in
-    limited_spelled names n count line p.0 events (line_spelled names line p.0 (at_line_parts n (line_event names line) p.0 p.1)) p.2
+-- a line without a fault has no event or one
+line_parts : (line count : ℕ) (said : Result (Option Event) TextKind) (without behind : Reading) (events : List Event) → after_line line count said without behind ≡ faultless events
+    → ((said ≡ Ok None) × (without ≡ faultless events)) ⊎ ((event : Event) × (said ≡ Ok (Some event)) × IsTaken count event behind events)
+line_parts line count (Ok None) without behind events e = inl (refl, e)
+line_parts line count (Ok (Some event)) without behind events e = inr (event, refl, event_parts line count event behind events e)
+line_parts line count (Err kind) without behind events e = let bad = ap (λ (r : Reading). r.fault) e in absurd cc
 
 abbrev pub AllSpelled : NameLists → ℕ → List (List ℕ) → List Event → Type 0
 AllSpelled names count lines events = SpellsLines names lines events × (count + length events ≤ MOST_EVENTS)
 
-last_parts : (skipped : Bool) (n : ℕ) (events : List Event) → ◌≡◌ {A = Result (List Event) TextFault} (cond skipped (Ok []) (Err (record { kind = CutShort; line = n }))) (Ok events) → (skipped ≡ true) × (events ≡ [])
-last_parts true n events e = let none : [] ≡ events = cc in (refl, sym none)
-last_parts false n events e = absurd cc
+last_parts : (skipped : Bool) (n : ℕ) (events : List Event) → cond skipped (faultless []) (fault_at CutShort n) ≡ faultless events → (skipped ≡ true) × (events ≡ [])
+last_parts true n events e = (refl, sym (ap (λ (r : Reading). r.events) e))
+last_parts false n events e = let bad = ap (λ (r : Reading). r.fault) e in absurd cc
 
--- one line more in front
-module _ (names : NameLists) (count : ℕ) (line next : List ℕ) (lines : List (List ℕ)) where
-  more_lines : (events others : List Event) → count ≤ MOST_EVENTS → FewSpelled names count line events → (count + length events ≤ MOST_EVENTS → AllSpelled names (count + length events) (next ∷ lines) others) → AllSpelled names count (line ∷ next ∷ lines) (events ++ others)
-  more_lines events others few (inl s) rest =
-      let none = s.1 in let long = ap length none in
-      let more = rest (omega (arith, few, long)) in
-      rw none ((inl (s.0, more.0)), omega (arith, more.1, long))
-  more_lines events others few (inr s) rest =
-      let one = s.2 in let long = ap length one in let room = s.3 in
-      let more = rest (omega (arith, few, long, room)) in
-      rw one (inr (s.0, others, s.1, refl, more.0), omega (arith, more.1, long))
-
-lines_spelled : (names : NameLists) (n count : ℕ) (lines : List (List ℕ)) (events : List Event) → count ≤ MOST_EVENTS → 0 < length lines → events_from names n count lines ≡ Ok events → AllSpelled names count lines events
-unfolding events_from
-lines_spelled names n count [] events few some e = absurd (omega (arith, some))
-lines_spelled names n count (last ∷ []) events few some e =
-    let p = last_parts (is_skipped last) n events e in
+lines_spelled : (names : NameLists) (n count : ℕ) (lines : List (List ℕ)) (events : List Event) → count ≤ MOST_EVENTS → 0 < length lines → list_all (list_all (λ b. not (eqb b 10))) lines ≡ true
+    → reading_from names false n count [] (join_with_byte 10 lines) ≡ faultless events → AllSpelled names count lines events
+lines_spelled names n count [] events few some apart e = absurd (omega (arith, some))
+lines_spelled names n count (last ∷ []) events few some apart e =
+    let p = last_parts (is_skipped last) (n + 1) events (sym (reading_from-last names false n count last (no_feed last (and_parts (list_all (λ b. not (eqb b 10)) last) true apart).0)) ∙ e) in
     let none = p.1 in
     ((skipped_parts last p.0, none), omega (arith, few, ap length none))
-lines_spelled names n count (line ∷ next ∷ lines) events few some e =
-    let p = bind_parts (line_events names n count line) _ events e in
-    let q = bind_parts (events_from names (n + 1) (count + length p.0) (next ∷ lines)) _ events p.2 in
-    let same : p.0 ++ q.0 ≡ events = let e2 = q.2 in cc in
-    subst (AllSpelled names count (line ∷ next ∷ lines)) same
-    (more_lines names count line next lines p.0 q.0 few (line_events_spelled names n count line p.0 p.1) (λ within. lines_spelled names (n + 1) (count + length p.0) (next ∷ lines) q.0 within (omega arith) q.1))
+lines_spelled names n count (line ∷ next ∷ lines) events few some apart e =
+    let parts = and_parts (list_all (λ b. not (eqb b 10)) line) (list_all (list_all (λ b. not (eqb b 10))) (next ∷ lines)) apart in
+    elim (line_parts (n + 1) count (line_event names line) _ _ events (sym (reading_from-cut names false n count [] line (join_with_byte 10 (next ∷ lines)) (no_feed line parts.0)) ∙ e)) [
+      | inl s ↦
+          let rest = lines_spelled names (n + 1) count (next ∷ lines) events few (omega arith) parts.1 s.1 in
+          (inl (line_spelled names line None s.0, rest.0), rest.1)
+      | inr s ↦
+          let taken = s.2 in
+          let others = (reading_from names false (n + 1) (count + 1) [] (join_with_byte 10 (next ∷ lines))).events in
+          let rest = lines_spelled names (n + 1) (count + 1) (next ∷ lines) others (omega (arith, taken.room)) (omega arith) parts.1 taken.rest in
+          let long = ap length taken.parts in
+          (inr (s.0, others, line_spelled names line (Some s.0) s.1, taken.parts, rest.0), omega (arith, rest.1, long))
+    ]
 
 -- ---- whole texts
 
@@ -287,24 +295,24 @@ some_lines : (names : NameLists) (lines : List (List ℕ)) (events : List Event)
 some_lines names [] events s = absurd s
 some_lines names (line ∷ lines) events s = omega arith
 
-pub events_in-spelled : (names : NameLists) (text : List ℕ) (events : List Event) → AreValid names → SpellsText names text events → events_in names text ≡ Ok events
-unfolding events_in
-events_in-spelled names text events valid s =
+pub reading_of-spelled : (names : NameLists) (text : List ℕ) (events : List Event) → AreValid names → SpellsText names text events → reading_of names text ≡ faultless events
+unfolding reading_of
+reading_of-spelled names text events valid s =
     let short = le-ltb MOST_BYTES (length text) s.short in
-    let pieces : pieces_of 10 text ≡ s.lines = ap (pieces_of 10) s.parts ∙ pieces_of-join 10 s.lines (some_lines names s.lines events s.spelled) s.cut in
-    rw (short, pieces) (lines_read names 1 0 s.lines events valid s.spelled (omega (arith, s.few)))
+    rw short (ap (reading_from names false 0 0 []) s.parts ∙ lines_read names 0 0 s.lines events valid s.cut s.spelled (omega (arith, s.few)))
 
-too_long : (long : Bool) (read : Result (List Event) TextFault) (fault : TextFault) (events : List Event) → cond long (Err fault) read ≡ Ok events → (long ≡ false) × (read ≡ Ok events)
-too_long true read fault events e = absurd cc
-too_long false read fault events e = (refl, e)
+too_long : (long : Bool) (reading : Reading) (events : List Event) → cond long (fault_at TooMany 0) reading ≡ faultless events → (long ≡ false) × (reading ≡ faultless events)
+too_long true reading events e = let bad = ap (λ (r : Reading). r.fault) e in absurd cc
+too_long false reading events e = (refl, e)
 
-pub text_is_spelled : (names : NameLists) (text : List ℕ) (events : List Event) → events_in names text ≡ Ok events → SpellsText names text events
-unfolding events_in
+pub text_is_spelled : (names : NameLists) (text : List ℕ) (events : List Event) → reading_of names text ≡ faultless events → SpellsText names text events
+unfolding reading_of
 text_is_spelled names text events e =
-    let p = too_long (ltb MOST_BYTES (length text)) (events_from names 1 0 (pieces_of 10 text)) _ events e in
-    let all = lines_spelled names 1 0 (pieces_of 10 text) events (omega arith) (some-pieces_of 10 text) p.1 in
-    record { lines = pieces_of 10 text; parts = sym (join-pieces_of 10 text); cut = apart-pieces_of 10 text; spelled = all.0; few = omega (arith, all.1); short = ltb-false MOST_BYTES (length text) p.0 }
+    let p = too_long (ltb MOST_BYTES (length text)) (reading_from names false 0 0 [] text) events e in
+    let joined = join-pieces_of 10 text in
+    let all = lines_spelled names 0 0 (pieces_of 10 text) events (omega arith) (some-pieces_of 10 text) (apart-pieces_of 10 text) (ap (reading_from names false 0 0 []) joined ∙ p.1) in
+    record { lines = pieces_of 10 text; parts = sym joined; cut = apart-pieces_of 10 text; spelled = all.0; few = omega (arith, all.1); short = ltb-false MOST_BYTES (length text) p.0 }
 
 -- a text spells at most one list of events
 pub one_list : (names : NameLists) (text : List ℕ) (a b : List Event) → AreValid names → SpellsText names text a → SpellsText names text b → a ≡ b
-one_list names text a b valid s t = let x = events_in-spelled names text a valid s in let y = events_in-spelled names text b valid t in cc
+one_list names text a b valid s t = ap (λ (r : Reading). r.events) (sym (reading_of-spelled names text a valid s) ∙ reading_of-spelled names text b valid t)

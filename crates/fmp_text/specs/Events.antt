@@ -1,57 +1,71 @@
--- Reading the lines of an event text, with the first fault and its line.
-use Rattle.std.specs.Prelude.{◌≡◌, ℕ, ◌+◌, ◌⊎◌, List, [], ◌∷◌, ◌++◌, length, Option, Some, None, Result, Ok, Err, nat_lt, ◌==◌, if◌then◌else◌}
+-- Reading the lines of an event text, up to the first fault.
+use Rattle.std.specs.Prelude.{◌≡◌, ◌≢◌, ◌<◌, ℕ, ◌+◌, ◌⊎◌, ◌==◌, nat_lt, Bool, false, List, [], ◌∷◌, ◌++◌, length, drop, slice_index, Option, Some, None, Result, Ok, Err, if◌then◌else◌}
 use Rattle.fmp_codes.specs.declared.records.Event.{Event}
-use Rattle.fmp_bytes.specs.Bytes.{pieces_of}
 use Rattle.fmp_text.specs.declared.events.TheConstants.{MOST_BYTES, MOST_EVENTS}
 use Rattle.fmp_text.specs.declared.fault.TextFault.{TextFault}
 use Rattle.fmp_text.specs.declared.fault.TextKind.{TextKind}
 use Rattle.fmp_text.specs.declared.fault.TextKind.TheVariants.{CutShort, TooMany, Memory}
+use Rattle.fmp_text.specs.declared.scan.Scan.{Scan}
 use Rattle.fmp_text.specs.Names.{NameLists}
-use Rattle.fmp_text.specs.Reading.{◌>>=◌}
 use Rattle.fmp_text.specs.Lines.{line_event, is_skipped}
 
--- the fault of a line, with its number
-abbrev pub at_line : {A : Type 0} → ℕ → Result A TextKind → Result A TextFault
-at_line n (Ok x) = Ok x
-at_line n (Err kind) = Err (record { kind = kind; line = n })
-
--- an event as a list, where there is room for it behind so many others
-abbrev pub limited : ℕ → ℕ → Option Event → Result (List Event) TextFault
-limited n count None = Ok []
-limited n count (Some event) = if count == MOST_EVENTS then Err (record { kind = TooMany; line = n }) else Ok (event ∷ [])
-
--- the events of a whole line, behind so many others
-unfoldable pub line_events : NameLists → ℕ → ℕ → List ℕ → Result (List Event) TextFault
-line_events names n count line = at_line n (line_event names line) >>= limited n count
-
--- the events of the lines from line n on, behind so many others. The last line has no line feed
-unfoldable pub events_from : NameLists → ℕ → ℕ → List (List ℕ) → Result (List Event) TextFault
-events_from names n count [] = Ok []
-events_from names n count (last ∷ []) = if is_skipped last then Ok [] else Err (record { kind = CutShort; line = n })
-events_from names n count (line ∷ next ∷ lines) = do
-  events ← line_events names n count line
-  others ← events_from names (n + 1) (count + length events) (next ∷ lines)
-  Ok (events ++ others)
-
--- all of a text
-unfoldable pub events_in : NameLists → List ℕ → Result (List Event) TextFault
-events_in names text =
-    if nat_lt MOST_BYTES (length text) then Err (record { kind = TooMany; line = 0 }) else events_from names 1 0 (pieces_of 10 text)
+-- what a text gives: the events of its lines before the first fault, and that fault
+pub record Reading : Type 0 where
+  pub events : List Event
+  pub fault : Option TextFault
 
 -- want of memory, which has no line
 abbrev pub IsMemory : TextFault → Type 0
 IsMemory fault = (fault.kind ≡ Memory) × (fault.line ≡ 0)
 
--- an error is the fault that reading gives, or want of memory
-abbrev pub Fails : {Y : Type 0} → TextFault → Result Y TextFault → Type 0
-Fails fault read = (read ≡ Err fault) ⊎ IsMemory fault
+-- the first fault, or want of memory
+abbrev pub IsFirst : Reading → TextFault → Type 0
+IsFirst reading fault = (reading.fault ≡ Some fault) ⊎ IsMemory fault
 
--- what a function returned, seen by view, is what reading gives, unless memory ran out
-abbrev pub GivesOrFails : {X Y : Type 0} → (X → Y) → Result X TextFault → Result Y TextFault → Type 0
-GivesOrFails view (Ok x) read = read ≡ Ok (view x)
-GivesOrFails view (Err e) read = Fails e read
+-- these events, and no fault
+abbrev pub faultless : List Event → Reading
+faultless events = record { events = events; fault = None }
 
--- what is read was added to a list
-abbrev pub AddsTo : {X : Type 0} → Result X TextFault → List Event → List Event → Result (List Event) TextFault → Type 0
-AddsTo (Ok x) old new read = (added : List Event) × (read ≡ Ok added) × (new ≡ old ++ added)
-AddsTo (Err e) old new read = Fails e read
+-- no event, and this fault
+abbrev pub fault_at : TextKind → ℕ → Reading
+fault_at kind line = record { events = []; fault = Some (record { kind = kind; line = line }) }
+
+-- events before those of a reading
+abbrev pub with_events : List Event → Reading → Reading
+with_events events reading = record { events = events ++ reading.events; fault = reading.fault }
+
+-- an event of this line, where there is room for it behind so many others, and then the rest
+abbrev pub with_event : ℕ → ℕ → Event → Reading → Reading
+with_event line count event rest = if nat_lt count MOST_EVENTS then with_events (event ∷ []) rest else fault_at TooMany line
+
+-- a whole line behind so many events, and what follows: where the line has no event, and where it has one
+abbrev pub after_line : ℕ → ℕ → Result (Option Event) TextKind → Reading → Reading → Reading
+after_line line count (Ok None) without behind = without
+after_line line count (Ok (Some event)) without behind = with_event line count event behind
+after_line line count (Err kind) without behind = fault_at kind line
+
+-- the end of a text whose last line has no line feed. A text that went on past its limit is too long
+abbrev pub at_end : Bool → ℕ → List ℕ → Reading
+at_end cut line last = if cut then fault_at TooMany 0 else (if is_skipped last then faultless [] else fault_at CutShort line)
+
+-- what bytes give behind so many whole lines and events, and the beginning of a line. The text went on past its
+-- limit, where it was cut
+unfoldable pub reading_from : NameLists → Bool → ℕ → ℕ → List ℕ → List ℕ → Reading
+reading_from names cut lines count begun [] = at_end cut (lines + 1) begun
+reading_from names cut lines count begun (byte ∷ bytes) =
+    if byte == 10 then after_line (lines + 1) count (line_event names begun) (reading_from names cut (lines + 1) count [] bytes) (reading_from names cut (lines + 1) (count + 1) [] bytes)
+    else reading_from names cut lines count (begun ++ byte ∷ []) bytes
+
+-- what a whole text gives. One that is too long has that fault before all others
+unfoldable pub reading_of : NameLists → List ℕ → Reading
+reading_of names text = if nat_lt MOST_BYTES (length text) then fault_at TooMany 0 else reading_from names false 0 0 [] text
+
+-- there is no line feed among the bytes
+abbrev pub HasNoFeed : List ℕ → Type 0
+HasNoFeed bytes = (k : ℕ) → k < length bytes → slice_index bytes k ≢ 10
+
+-- however the text goes on, the bytes behind so many lines give what the line that was found gives, and then what
+-- follows it
+abbrev pub ScansTo : NameLists → ℕ → List ℕ → Scan → Type 0
+ScansTo names lines bytes scan = (cut : Bool) (count : ℕ) (more : List ℕ) → reading_from names cut lines count [] (bytes ++ more)
+    ≡ after_line scan.lines count scan.said (reading_from names cut scan.lines count [] (drop scan.used bytes ++ more)) (reading_from names cut scan.lines (count + 1) [] (drop scan.used bytes ++ more))

@@ -1,5 +1,5 @@
-//! Laws of the grammar: what is spelled is read, and what is read is spelled.
-ghost use Rattle.std.specs.Prelude.{◌≡◌, ℕ, List, true, Ok, Some};
+//! Laws of the grammar: what is spelled is read, and what is read is spelled. And laws of reading on.
+ghost use Rattle.std.specs.Prelude.{◌≡◌, ℕ, ◌+◌, Bool, true, List, [], ◌∷◌, ◌++◌, Ok, Some};
 ghost use Rattle.fmp_codes.specs.declared.calls.Call.{Call};
 ghost use Rattle.fmp_codes.specs.declared.records.Event.{Event};
 ghost use Rattle.fmp_calls.specs.declared.kinds.ArgumentKind.{ArgumentKind};
@@ -8,7 +8,8 @@ ghost use Rattle.fmp_calls.specs.declared.kinds.Value.{Value};
 ghost use Rattle.fmp_text.specs.Names.{NameLists, AreValid, name_of, number_of};
 ghost use Rattle.fmp_text.specs.Argument.{is_argument, value_at};
 ghost use Rattle.fmp_text.specs.Reading.{call_in};
-ghost use Rattle.fmp_text.specs.Events.{events_in};
+ghost use Rattle.fmp_text.specs.Lines.{line_event};
+ghost use Rattle.fmp_text.specs.Events.{HasNoFeed, after_line, reading_of, reading_from, faultless};
 ghost use Rattle.fmp_text.specs.Grammar.{SpellsValue, SpellsCall};
 ghost use Rattle.fmp_text.specs.TextGrammar.{SpellsText};
 
@@ -47,17 +48,26 @@ pub fn read_calls_are_spelled()
 /// What spells a list of events, within the limits, is read as that list.
 pub fn spelled_texts_are_read()
     ensures { (names : NameLists) (text : List ℕ) (events : List Event) → AreValid names
-        → SpellsText names text events → events_in names text ≡ Ok events }
+        → SpellsText names text events → reading_of names text ≡ faultless events }
 {}
 
 /// What is read as a list of events spells it.
 pub fn read_texts_are_spelled()
     ensures { (names : NameLists) (text : List ℕ) (events : List Event)
-        → events_in names text ≡ Ok events → SpellsText names text events }
+        → reading_of names text ≡ faultless events → SpellsText names text events }
 {}
 
 /// A text spells at most one list of events.
 pub fn texts_spell_one_list()
     ensures { (names : NameLists) (text : List ℕ) (a b : List Event) → AreValid names
         → SpellsText names text a → SpellsText names text b → a ≡ b }
+{}
+
+/// However a text goes on, it gives what its first whole line gives and then what follows, and bytes without a line feed only make the line longer that was begun.
+pub fn texts_are_read_line_by_line()
+    ensures whole { (names : NameLists) (cut : Bool) (lines count : ℕ) (begun line rest : List ℕ) → HasNoFeed line
+        → reading_from names cut lines count begun (line ++ 10 ∷ rest) ≡ after_line (lines + 1) count (line_event names (begun ++ line))
+        (reading_from names cut (lines + 1) count [] rest) (reading_from names cut (lines + 1) (count + 1) [] rest) }
+    ensures begun { (names : NameLists) (cut : Bool) (lines count : ℕ) (begun bytes more : List ℕ) → HasNoFeed bytes
+        → reading_from names cut lines count begun (bytes ++ more) ≡ reading_from names cut lines count (begun ++ bytes) more }
 {}

@@ -8,6 +8,7 @@ mod fault;
 mod laws;
 mod line;
 mod names;
+mod scan;
 
 pub use call::read_call;
 pub use events::{MOST_BYTES, MOST_EVENTS, read_events};
@@ -15,7 +16,7 @@ pub use fault::{TextFault, TextKind};
 pub use laws::{
     names_and_numbers_agree, read_calls_are_spelled, read_texts_are_spelled,
     read_values_are_spelled, spelled_calls_are_read, spelled_texts_are_read,
-    spelled_values_are_read, texts_spell_one_list,
+    spelled_values_are_read, texts_are_read_line_by_line, texts_spell_one_list,
 };
 pub use names::{MOST_NAME_BYTES, Names, is_constant, is_name, is_reserved};
 

@@ -1,5 +1,7 @@
 //! Readers and writers of std as devices.
-ghost use Rattle.std.specs.Prelude.{◌≡◌, false, []};
+ghost use Rattle.std.specs.Prelude.{◌≡◌, ◌+◌, ◌-◌, ◌^◌, ◌<◌, ◌≤◌, false, [], length, IfOk, is_err, if◌then◌else◌};
+ghost use Rattle.std.specs.Io.KnownBytes.{ReadConsumes, WriteAppends};
+ghost use Rattle.fmpsim_run.specs.Devices.{is_failed_write};
 
 use fmpsim_run::{Failed, Sink, Source};
 use std::io;
@@ -34,7 +36,14 @@ impl<R: Read> Source for ReadSource<R> {
         self.failures
     }
 
-    fn read(&mut self, buffer: &mut [u8]) -> Result<usize, Failed> {
+    fn read(&mut self, buffer: &mut [u8]) -> Result<usize, Failed>
+        requires { self.old.failures < 2 ^ 64 - 1 }
+        ensures fits { IfOk result (λ n. n ≤ length buffer.old) }
+        ensures count { self.new.failures ≡ self.old.failures + (if is_err result then 1 else 0) }
+
+        // What it answers is what the reader did.
+        ensures reader { ReadConsumes (R.remaining self.old.reader) (R.remaining self.new.reader) result buffer.new }
+    {
         match self.reader.read(buffer) {
             Ok(count) => Ok(count),
             Err(_) => {
@@ -81,7 +90,14 @@ impl<W: Write> Sink for WriteSink<W> {
         self.failures
     }
 
-    fn write(&mut self, piece: &[u8]) -> Result<usize, Failed> {
+    fn write(&mut self, piece: &[u8]) -> Result<usize, Failed>
+        requires { self.old.failures < 2 ^ 64 - 1 }
+        ensures fits { IfOk result (λ n. n ≤ length piece.now) }
+        ensures count { self.new.failures ≡ self.old.failures + (if is_failed_write result piece.now then 1 else 0) }
+
+        // What it answers is what the writer did.
+        ensures writer { WriteAppends (W.contents self.old.writer) (W.contents self.new.writer) result piece.now }
+    {
         match self.writer.write(piece) {
             Ok(count) => {
                 if count == 0 && !piece.is_empty() {

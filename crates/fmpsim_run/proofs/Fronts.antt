@@ -7,7 +7,7 @@ use Rattle.fmp_codes.specs.declared.records.Event.{Event}
 use Rattle.fmp_text.specs.declared.events.TheConstants.{MOST_BYTES as MOST_EVENT_BYTES}
 use Rattle.fmp_text.specs.declared.fault.TextKind.TheVariants as text_kind
 use Rattle.fmp_text.specs.Names.{NameLists}
-use Rattle.fmp_text.specs.Events.{events_in}
+use Rattle.fmp_text.specs.Events.{reading_of, faultless, fault_at}
 use Rattle.fmp_statements.specs.declared.fault.ConfigKind.TheVariants as config_kind
 use Rattle.fmp_config.specs.declared.reading.TheConstants.{MOST_BYTES as MOST_CONFIG_BYTES}
 use Rattle.fmp_config.specs.Setup.{Setup}
@@ -30,11 +30,11 @@ unfolding config_in
 config_in-front all text rest split whole =
     same MOST_CONFIG_BYTES config_in (Err (record { kind = config_kind.TooMany; line = 0; left = 0 })) (λ t long. rw (lt-ltb MOST_CONFIG_BYTES (length t) long) refl) all text rest split whole
 
-pub events_in-front : (names : NameLists) (all text rest : List ℕ) → all ≡ text ++ rest → (length text ≤ MOST_EVENT_BYTES → rest ≡ []) →
-    events_in names all ≡ events_in names text
-unfolding events_in
-events_in-front names all text rest split whole =
-    same MOST_EVENT_BYTES (events_in names) (Err (record { kind = text_kind.TooMany; line = 0 })) (λ t long. rw (lt-ltb MOST_EVENT_BYTES (length t) long) refl) all text rest split whole
+pub reading_of-front : (names : NameLists) (all text rest : List ℕ) → all ≡ text ++ rest → (length text ≤ MOST_EVENT_BYTES → rest ≡ []) →
+    reading_of names all ≡ reading_of names text
+unfolding reading_of
+reading_of-front names all text rest split whole =
+    same MOST_EVENT_BYTES (reading_of names) (fault_at text_kind.TooMany 0) (λ t long. rw (lt-ltb MOST_EVENT_BYTES (length t) long) refl) all text rest split whole
 
 -- what is accepted is within the limit
 pub config_in-ok : (text : List ℕ) (config : Setup) → config_in text ≡ Ok config → length text ≤ MOST_CONFIG_BYTES
@@ -47,12 +47,12 @@ config_in-ok text config is = go (nat_lt MOST_CONFIG_BYTES (length text)) refl
         cc
     go false short = ltb-false MOST_CONFIG_BYTES (length text) short
 
-pub events_in-ok : (names : NameLists) (text : List ℕ) (events : List Event) → events_in names text ≡ Ok events → length text ≤ MOST_EVENT_BYTES
-unfolding events_in
-events_in-ok names text events is = go (nat_lt MOST_EVENT_BYTES (length text)) refl
+pub reading_of-ok : (names : NameLists) (text : List ℕ) (events : List Event) → reading_of names text ≡ faultless events → length text ≤ MOST_EVENT_BYTES
+unfolding reading_of
+reading_of-ok names text events is = go (nat_lt MOST_EVENT_BYTES (length text)) refl
   where
     go : (b : Bool) → nat_lt MOST_EVENT_BYTES (length text) ≡ b → length text ≤ MOST_EVENT_BYTES
     go true long =
-        let bad = rw long at is in
+        let bad = ap (λ r. r.fault) (rw long at is) in
         cc
     go false short = ltb-false MOST_EVENT_BYTES (length text) short

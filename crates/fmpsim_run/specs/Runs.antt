@@ -1,8 +1,8 @@
 -- What a run over a configuration and events does.
-use Rattle.std.specs.Prelude.{◌≡◌, ◌≢◌, ℕ, ◌+◌, ◌≤◌, List, ◌++◌, Result, Ok, Err, if◌then◌else◌}
+use Rattle.std.specs.Prelude.{◌≡◌, ◌≢◌, ℕ, ◌+◌, ◌≤◌, List, ◌++◌, Result, Ok, Some, if◌then◌else◌}
 use Rattle.fmp_codes.specs.declared.records.Event.{Event}
 use Rattle.fmp_text.specs.declared.fault.TextKind.TheVariants as text_kind
-use Rattle.fmp_text.specs.Events.{events_in}
+use Rattle.fmp_text.specs.Events.{reading_of, faultless}
 use Rattle.fmp_statements.specs.declared.fault.ConfigKind.TheVariants as config_kind
 use Rattle.fmp_text.specs.Names.{NameLists}
 use Rattle.fmp_config.specs.Statements.{config_in}
@@ -23,7 +23,7 @@ pub record Answered (config_text event_text output : List ℕ) : Type 0 where
   pub config : Setup
   pub events : List Event
   pub configures : config_in config_text ≡ Ok config
-  pub lists : events_in config.names event_text ≡ Ok events
+  pub lists : reading_of config.names event_text ≡ faultless events
   pub prints : output ≡ lines_from config.names 1 (answers numbered (booted config) events)
 
 -- the output was written after old, all of it
@@ -45,7 +45,7 @@ FirstConfigFault text other = Unit {0}
 
 -- a fault of the events is the first one of their text
 abbrev pub FirstEventFault : NameLists → List ℕ → RunFault → Type 0
-FirstEventFault names text (run.Text fault) = fault.kind ≢ text_kind.Memory → events_in names text ≡ Err fault
+FirstEventFault names text (run.Text fault) = fault.kind ≢ text_kind.Memory → (reading_of names text).fault ≡ Some fault
 FirstEventFault names text other = Unit {0}
 
 -- the same, for the names of a right configuration

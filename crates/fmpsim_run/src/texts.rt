@@ -1,7 +1,7 @@
 //! Reading the two texts of a run, and judging them.
 ghost use Rattle.std.specs.Prelude.{◌≡◌, ◌+◌, ◌-◌, ◌≤◌, ◌^◌, ◌<◌, [], IsTrue, OnOk, IfOk, IfErr, Ok, false, vec_len, if◌then◌else◌};
 ghost use Rattle.fmp_config.specs.Statements.{config_in};
-ghost use Rattle.fmp_text.specs.Events.{events_in};
+ghost use Rattle.fmp_text.specs.Events.{reading_of, faultless};
 ghost use Rattle.fmpsim_run.specs.Faults.{failed_read, is_config, is_text, is_write};
 ghost use Rattle.fmpsim_run.specs.Runs.{FirstConfigFault, FirstEventFault};
 
@@ -36,7 +36,7 @@ pub fn events_from<S: Source>(
     source: &mut S,
 ) -> Result<Vec<Event>, RunFault>
     requires { S.failures source.old < 2 ^ 64 - 1 }
-    ensures ok { IsTrue S.tells → IfOk result (λ events. events_in names.now (S.left source.old) ≡ Ok events.items) }
+    ensures ok { IsTrue S.tells → IfOk result (λ events. reading_of names.now (S.left source.old) ≡ faultless events.items) }
     ensures few { IfOk result (λ events. vec_len events ≤ 1000000) }
     ensures read { IsTrue S.tells → OnOk result (S.left source.new ≡ []) }
     ensures fault { IsTrue S.tells → IfErr result (FirstEventFault names.now (S.left source.old)) }
