@@ -86,7 +86,13 @@ pub enum Value {
 }
 
 impl Default for Value {
-    fn default() -> Self {
+    ghost use Rattle.std.specs.Prelude.{◌≡◌, pos};
+    ghost use Rattle.fmp_calls.specs.declared.kinds.Value.TheVariants.{Number};
+
+    /// What stands where there is no argument.
+    fn default() -> Self
+        ensures { result ≡ Number (pos 0) }
+    {
         Value::Number(0)
     }
 }

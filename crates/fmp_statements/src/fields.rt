@@ -33,7 +33,12 @@ pub enum Value {
 }
 
 impl Default for Value {
-    fn default() -> Self {
+    ghost use Rattle.fmp_statements.specs.declared.fields.Value.TheVariants.{Other};
+
+    /// What stands where there is no field.
+    fn default() -> Self
+        ensures { result ≡ Other }
+    {
         Value::Other
     }
 }
