@@ -1,0 +1,5 @@
+use Rattle.fmp_config_laws.proofs.Confirmed.{config_was}
+use Rattle.fmp_config_laws.proofs.laws.read_texts_configure.Goals as goal
+
+pub returns : goal.returns
+returns c = config_was
