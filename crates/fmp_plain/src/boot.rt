@@ -3,6 +3,7 @@ ghost use Rattle.std.specs.Prelude.{◌≡◌, ◌≤◌, length};
 ghost use Rattle.fmp_config.specs.World.{processors_to};
 ghost use Rattle.fmp_config.specs.Boot.{all_started, with_top_running, with_tops_running, booted};
 ghost use Rattle.fmp_config.specs.Numbers.{numbered};
+ghost use Rattle.fmp_safety.specs.Safe.{Safe};
 
 use fmp_codes::{Proc, Task};
 use fmp_config::{Config, Processor, TaskSetup};
@@ -52,6 +53,7 @@ fn run_tops(machine: &mut Machine, count: u8)
 /// The machine at boot: tasks are started, and each processor runs its top.
 pub fn boot(config: &Config) -> Machine
     ensures state { result ≡ booted config.now }
+    ensures safe { Safe numbered result }
     ensures next { result.order.next ≤ 64 }
 {
     let mut machine = Machine::blank(config);

@@ -3,6 +3,8 @@ ghost use Rattle.std.specs.Prelude.{◌≡◌, ◌+◌, ◌<◌, IsOk, IfOk};
 ghost use Rattle.fmp_config.specs.Boot.{booted};
 ghost use Rattle.fmp_config.specs.Numbers.{numbered};
 ghost use Rattle.fmp_config.specs.Step.{step};
+ghost use Rattle.fmp_safety.specs.Safe.{Safe};
+ghost use Rattle.fmp_safety.specs.Laws.{FindsNothing, TakesRequest, RunsTop};
 
 use crate::boot::boot;
 use crate::step::step;
@@ -35,6 +37,7 @@ impl Plain {
     pub fn boot(config: &Config) -> Result<Plain, AllocError>
         ensures made { IsOk result }
         ensures state { IfOk result (λ m. m ≡ record { state = booted config.now; steps = 0 }) }
+        ensures safe { IfOk result (λ m. Safe numbered m.state) }
     {
         Ok(Plain {
             machine: boot(config),
@@ -47,6 +50,11 @@ impl Plain {
         requires { self.old.steps < 4294967295 }
         ensures step { (self.new.state, result) ≡ step numbered self.old.state event }
         ensures steps { self.new.steps ≡ self.old.steps + 1 }
+
+        // What interrupts do, and that a processor which is not held in the end runs its top.
+        ensures nothing { FindsNothing numbered self.old.state event result self.new.state }
+        ensures taken { TakesRequest self.old.state event result self.new.state }
+        ensures top { RunsTop numbered self.old.state event result self.new.state }
     {
         self.steps += 1;
         step(&mut self.machine, event)

@@ -1,0 +1,68 @@
+-- What is so where a call is accepted.
+use Rattle.std.proofs.Common.{◌≡◌, Bool, true, false, not, ◌||◌, ◌&&◌, refl, sym, ap, Option, Some, None}
+use Rattle.std.specs.Prelude.{if◌then◌else◌, is_some, unwrap_or}
+use Rattle.std.proofs.lemmas.Bool.{or_parts, not-false, false≢true}
+use Rattle.std.proofs.lemmas.Option.{none-some}
+use Rattle.fmp_codes.specs.Numbers.{as_task}
+use Rattle.fmp_codes.specs.declared.numbers.Proc.{Proc}
+use Rattle.fmp_codes.specs.declared.numbers.Task.{Task}
+use Rattle.fmp_codes.specs.declared.codes.Code.{Code}
+use Rattle.fmp_codes.specs.declared.codes.Code.TheVariants as code
+use Rattle.fmp_config.specs.declared.machine.Context.TheVariants as context
+use Rattle.fmp_config.specs.World.{World, processor, handler, is_held}
+use Rattle.fmp_config.specs.Rows.{Row, is_refused_context, first_error, check, called, called_by}
+use Rattle.fmp_config.specs.Keeping.{Keeping}
+use Rattle.fmp_config.specs.Arguments.{caller}
+use Rattle.fmp_safety.specs.Safe.{SafeAt}
+use Rattle.fmp_safety.proofs.Keeps.{Occupied, Keeps, keeps_all}
+
+-- no error of a call applies
+pub record Accepts {Q : Type 0} (w : World Q) (p : Proc) (row : Row Q) : Type 0 where
+  pub rule : is_refused_context w p row.rule ≡ false
+  pub known : row.known ≡ true
+  pub proper : row.proper ≡ true
+  pub errors : first_error row.errors ≡ None
+
+-- none of the tests passes
+pub none_parts : (b : Bool) (c : Code) (o : Option Code) → (if b then Some c else o) ≡ None → (b ≡ false) × (o ≡ None)
+none_parts true c o e = absurd (none-some c (sym e))
+none_parts false c o e = (refl, e)
+
+module _ {Q : Type 0} (w : World Q) (p : Proc) where
+  accepts : (row : Row Q) → check w p row ≡ None → Accepts w p row
+  accepts row e =
+      let one = none_parts (is_refused_context w p row.rule) code.Context _ e in
+      let two = none_parts (not row.known) code.Identifier _ one.1 in
+      let three = none_parts (not row.proper) code.Parameter _ two.1 in
+      record { rule = one.0; known = not-false _ two.0; proper = not-false _ three.0; errors = three.1 }
+
+  -- a call keeps what its effect keeps where it is accepted
+  pub keeps_called : (row : Row Q) → Occupied w p → (Accepts w p row → Keeps w row.effect.0 p) → Keeps w (called w p row).0 p
+  keeps_called row o keeps = go (check w p row) refl
+    where
+      go : (c : Option Code) → check w p row ≡ c → Keeps w (called_by w row.effect c).0 p
+      go None e = keeps (accepts row e)
+      go (Some c) e = keeps_all w p o
+
+  pub record FromTask : Type 0 where
+    pub handler : is_some (handler w p) ≡ false
+    pub running : (processor w p).running ≡ Some (caller w p)
+
+  -- a call from a task: no handler is due, and a task runs
+  pub from_task : (when_locked unheld : Bool) → is_refused_context w p (record { context = context.Task; when_locked = when_locked; unheld = unheld }) ≡ false → FromTask
+  from_task when_locked unheld e =
+      let lock : Bool = (processor w p).locked && not when_locked in
+      let wrong : Bool = is_some (handler w p) || not (is_some (processor w p).running) in
+      let parts = or_parts wrong lock (or_parts (wrong || lock) (unheld && is_held w p) e).0 in
+      let both = or_parts (is_some (handler w p)) (not (is_some (processor w p).running)) parts.0 in
+      record { handler = both.0; running = there (processor w p).running (not-false _ both.1) }
+    where
+      there : (o : Option Task) → is_some o ≡ true → o ≡ Some (unwrap_or o (as_task 1))
+      there None h = absurd (false≢true h)
+      there (Some t) h = refl
+
+  pub occupied_at : {k : Keeping Q} → SafeAt k w p → Occupied w p
+  occupied_at s = record { held = s.occupied; disabled = s.disabled }
+
+  pub some_runs : FromTask → is_some (processor w p).running ≡ true
+  some_runs f = ap is_some f.running

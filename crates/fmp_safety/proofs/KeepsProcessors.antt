@@ -1,0 +1,73 @@
+-- Changes of the locks and flags of a processor.
+use Rattle.std.proofs.Common.{◌≡◌, ℕ, zero, suc, ◌==◌, Bool, true, false, List, [], ◌∷◌, map, refl, sym, ap, ◌∙◌, subst, Option, Some, None}
+use Rattle.std.specs.Prelude.{if◌then◌else◌, is_some, slice_index_or, slice_set, ◌-◌}
+use Rattle.std.specs.List.{list_any}
+use Rattle.std.proofs.lemmas.Bool.{both_ways, eq-eqb, or_parts}
+use Rattle.std.proofs.lemmas.List.{length-set}
+use Rattle.std.proofs.Math.ListN.{get_or-map}
+use Rattle.std.proofs.lemmas.Option.{none-some, same_Some}
+use Rattle.fmp_codes.specs.declared.numbers.Proc.{Proc}
+use Rattle.fmp_config.specs.declared.machine.Processor.{Processor}
+use Rattle.fmp_config.specs.World.{World, processor}
+use Rattle.fmp_config.specs.Processors.{is_at, with_lock, holds_lock, unlocked, opened}
+use Rattle.fmp_safety.specs.Objects.{holder}
+use Rattle.fmp_safety.specs.Safe.{IsNumberOf}
+use Rattle.fmp_safety.proofs.Items.{proc_same}
+use Rattle.fmp_safety.proofs.Keeps.{Keeps, keeps_then, keeps_processor, processor_here}
+
+abbrev freed : Proc → Option Proc → Option Proc
+freed p h = if is_at p h then None else h
+
+still_held : (p q : Proc) (h : Option Proc) → freed p h ≡ Some q → (h ≡ Some q) × (q.number ≡ p.number → ⊥)
+still_held p q None e = absurd (none-some q e)
+still_held p q (Some r) e = go (p.number == r.number) refl e
+  where
+    go : (b : Bool) → (p.number == r.number) ≡ b → if◌then◌else◌ {A = Option Proc} b None (Some r) ≡ Some q → (Some r ≡ Some q) × (q.number ≡ p.number → ⊥)
+    go true i bad = absurd (none-some q bad)
+    go false i same = (same, λ (j : q.number ≡ p.number). both_ways (p.number == r.number) i (eq-eqb p.number r.number (sym j ∙ ap (λ (x : Proc). x.number) (sym (same_Some r q same)))))
+
+no_holder : (hs : List (Option Proc)) (i : ℕ) (p q : Proc) → list_any (is_at p) hs ≡ false → slice_index_or hs i None ≡ Some q → q.number ≡ p.number → ⊥
+no_holder [] i p q none e same = absurd (none-some q e)
+no_holder (h ∷ hs) zero p q none e same =
+    let at : is_at p (Some q) ≡ false = subst (λ x. is_at p x ≡ false) e (or_parts (is_at p h) (list_any (is_at p) hs) none).0 in
+    both_ways _ at (eq-eqb p.number q.number (sym same))
+no_holder (h ∷ hs) (suc i) p q none e same = no_holder hs i p q (or_parts (is_at p h) (list_any (is_at p) hs) none).1 e same
+
+module _ {Q : Type 0} (w : World Q) (p : Proc) (within : IsNumberOf w.processors p.number) (some : is_some (processor w p).running ≡ true) where
+  -- the record of p changes, but not what runs, and p stays CPU-locked if it was
+  pub keeps_flags : (f : Processor) → f.running ≡ (processor w p).running → ((processor w p).locked ≡ true → f.locked ≡ true) →
+      Keeps w (record w { processors = slice_set w.processors (p.number - 1) f }) p
+  keeps_flags f e locked =
+      keeps_processor w p within f w.holders e some
+      (λ r l q h. (h, λ i. locked (subst (λ (x : Proc). (processor w x).locked ≡ true) (proc_same q p i) (r.in_range.locked l q h))))
+
+  -- p leaves the CPU-locked state, where it holds no spin lock
+  pub keeps_unlocked_alone : holds_lock w p ≡ false → Keeps w (with_lock w p false) p
+  keeps_unlocked_alone none =
+      keeps_processor w p within (record (processor w p) { locked = false }) w.holders refl some
+      (λ r l q h. (h, λ i. absurd (no_holder w.holders (l.number - 1) p q none h i)))
+
+  pub keeps_unlocked : Keeps w (unlocked w p) p
+  keeps_unlocked =
+      keeps_processor w p within (record (processor w p) { locked = false }) (map (freed p) w.holders) refl some
+      (λ r l q h.
+      let kept = still_held p q (holder w l) (sym (get_or-map (freed p) w.holders (l.number - 1) None) ∙ h) in
+      (kept.0, λ i. absurd (kept.1 i)))
+
+  unlocked_here : processor (unlocked w p) p ≡ record (processor w p) { locked = false }
+  unlocked_here = processor_here w p within (record (processor w p) { locked = false }) (map (freed p) w.holders)
+
+  within_unlocked : IsNumberOf (unlocked w p).processors p.number
+  within_unlocked = (within.0, rw (length-set w.processors (p.number - 1) (record (processor w p) { locked = false })) within.1)
+
+  pub opened_here : processor (opened w p) p ≡ record (processor w p) { locked = false; disabled = false }
+  opened_here =
+      processor_here (unlocked w p) p within_unlocked (record (processor (unlocked w p) p) { disabled = false }) (unlocked w p).holders
+      ∙ ap (λ (c : Processor). record c { disabled = false }) unlocked_here
+
+module _ {Q : Type 0} (w : World Q) (p : Proc) (within : IsNumberOf w.processors p.number) (some : is_some (processor w p).running ≡ true) where
+  pub keeps_opened : Keeps w (opened w p) p
+  keeps_opened =
+      let ran : is_some (processor (unlocked w p) p).running ≡ true = subst (λ (c : Processor). is_some c.running ≡ true) (sym (unlocked_here w p within some)) some in
+      keeps_then w p (unlocked w p) (opened w p) refl (keeps_unlocked w p within some)
+      (keeps_flags (unlocked w p) p (within_unlocked w p within some) ran (record (processor (unlocked w p) p) { disabled = false }) refl (λ e. e))

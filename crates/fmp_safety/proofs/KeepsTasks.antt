@@ -1,0 +1,93 @@
+-- What the record of a task may become.
+use Rattle.std.proofs.Common.{◌≡◌, ◌-◌, ◌==◌, ◌&&◌, true, false, refl, sym, ◌∙◌, arith, Option, Some, None}
+use Rattle.std.specs.Prelude.{nat_lt, is_none, unwrap_or}
+use Rattle.std.proofs.lemmas.Bool.{and_parts, both_ways, cond_both, eqb-true, true≢false, ltb-false}
+use Rattle.std.proofs.lemmas.Option.{none-some}
+use Rattle.fmp_codes.specs.declared.numbers.Proc.{Proc}
+use Rattle.fmp_codes.specs.declared.numbers.Task.{Task}
+use Rattle.fmp_config.specs.declared.setup.Class.{Class}
+use Rattle.fmp_config.specs.declared.setup.Limits.{Limits}
+use Rattle.fmp_config.specs.declared.machine.TaskRecord.{TaskRecord}
+use Rattle.fmp_config.specs.Setup.{has_member}
+use Rattle.fmp_config.specs.World.{World, task, is_held}
+use Rattle.fmp_config.specs.Tasks.{started, ended}
+use Rattle.fmp_safety.specs.Safe.{may_run_on, TaskInRange}
+use Rattle.fmp_safety.proofs.Keeps.{Becomes}
+
+pub record MayRunOn (p : Proc) (r : TaskRecord) : Type 0 where
+  pub active : r.active ≡ true
+  pub assigned : r.assigned.number ≡ p.number
+  pub wait : is_none r.wait ≡ true
+
+pub may_run_parts : (p : Proc) (r : TaskRecord) → may_run_on p r ≡ true → MayRunOn p r
+may_run_parts p r e =
+    let parts = and_parts r.active ((r.assigned.number == p.number) && is_none r.wait) e in
+    let others = and_parts (r.assigned.number == p.number) (is_none r.wait) parts.1 in
+    record { active = parts.0; assigned = eqb-true r.assigned.number p.number others.0; wait = others.1 }
+
+kept_or_assigned : (c : Class) (kept : Option Proc) (p : Proc) → has_member c p ≡ true → ((q : Proc) → kept ≡ Some q → has_member c q ≡ true) →
+    has_member c (unwrap_or kept p) ≡ true
+kept_or_assigned c None p a f = a
+kept_or_assigned c (Some q) p a f = f q refl
+
+module _ {Q : Type 0} (w : World Q) (p : Proc) (t : Task) where
+  -- fields change of which nothing depends that runs or waits
+  pub becomes_noted : (r : TaskRecord) → r.active ≡ (task w t).active → r.assigned ≡ (task w t).assigned → r.wait ≡ (task w t).wait →
+      (TaskInRange w.limits (task w t) → TaskInRange w.limits r) → Becomes w p t r
+  becomes_noted r a b c range =
+      let same : (q : Proc) → may_run_on q (task w t) ≡ may_run_on q r = λ q. rw (a, b, c) refl in
+      record {
+        others = λ q d m. sym (same q) ∙ m;
+        own = λ e h m. sym (same p) ∙ m;
+        waits = λ x e. sym c ∙ e;
+        range = range;
+      }
+
+  -- a dormant task starts on a processor of its class
+  pub becomes_started : (to : Proc) → (task w t).active ≡ false → (TaskInRange w.limits (task w t) → has_member (task w t).setup.class to ≡ true) →
+      Becomes w p t (started (task w t) to)
+  becomes_started to dormant member = record {
+    others = λ q d m. absurd (both_ways _ dormant (may_run_parts q (task w t) m).active);
+    own = λ e h m. absurd (both_ways _ dormant (may_run_parts p (task w t) m).active);
+    waits = λ x e. absurd (none-some x e);
+    range = λ r. record { activations = r.activations; wakeups = omega arith; assigned = member r; kept = r.kept; dormant = λ e. absurd (true≢false e) };
+  }
+
+-- the record of a task that is over
+abbrev over : TaskRecord → TaskRecord
+over o = record o { active = false; wait = None; suspended = false; activations = o.activations - 1; kept = None }
+
+abbrev next_on : TaskRecord → Proc
+next_on o = unwrap_or o.kept o.assigned
+
+again : (limits : Limits) (o : TaskRecord) → TaskInRange limits o → TaskInRange limits (started (over o) (next_on o))
+again limits o r = record {
+  activations = omega (arith, r.activations);
+  wakeups = omega arith;
+  assigned = kept_or_assigned o.setup.class o.kept o.assigned r.assigned r.kept;
+  kept = λ q e. absurd (none-some q e);
+  dormant = λ e. absurd (true≢false e);
+}
+
+at_rest : (limits : Limits) (o : TaskRecord) → TaskInRange limits o → nat_lt 0 o.activations ≡ false → TaskInRange limits (over o)
+at_rest limits o r none = record {
+  activations = omega (arith, r.activations);
+  wakeups = r.wakeups;
+  assigned = r.assigned;
+  kept = λ q e. absurd (none-some q e);
+  dormant = λ e. (omega (arith, ltb-false 0 o.activations none), refl, refl);
+}
+
+module _ {Q : Type 0} (w : World Q) (p : Proc) (t : Task) where
+  -- a task that p may run ends, where p is not held
+  pub becomes_ended : may_run_on p (task w t) ≡ true → is_held w p ≡ false → Becomes w p t (ended (task w t))
+  becomes_ended mine free = record {
+    others = λ q d m. absurd (d (sym (may_run_parts q (task w t) m).assigned ∙ (may_run_parts p (task w t) mine).assigned));
+    own = λ e h m. absurd (both_ways _ free h);
+    waits = λ x.
+        cond_both (nat_lt 0 (task w t).activations) (started (over (task w t)) (next_on (task w t))) (over (task w t)) (λ (r : TaskRecord). r.wait ≡ Some x → (task w t).wait ≡ Some x)
+        (λ _ e. absurd (none-some x e)) (λ _ e. absurd (none-some x e));
+    range = λ r.
+        cond_both (nat_lt 0 (task w t).activations) (started (over (task w t)) (next_on (task w t))) (over (task w t)) (TaskInRange w.limits)
+        (λ _. again w.limits (task w t) r) (λ none. at_rest w.limits (task w t) r none);
+  }

@@ -1,0 +1,14 @@
+pub mod Items
+pub mod Keeps
+pub mod Settling
+pub mod Ending
+pub mod Calls
+pub mod KeepsProcessors
+pub mod KeepsTasks
+pub mod KeepsSystemCalls
+pub mod KeepsTaskCalls
+pub mod First
+pub mod Stepping
+pub mod Booting
+pub mod Booted
+pub mod Interrupts

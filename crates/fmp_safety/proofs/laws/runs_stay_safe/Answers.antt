@@ -1,0 +1,14 @@
+use Rattle.fmp_config.specs.Numbers.{numbered}
+use Rattle.fmp_safety.specs.Runs.{processor_of}
+use Rattle.fmp_safety.proofs.Stepping.{numbered_tops, safe_step}
+use Rattle.fmp_safety.proofs.Booted.{booted_safe, runs_safe}
+use Rattle.fmp_safety.proofs.laws.runs_stay_safe.Goals as goal
+
+pub returns-clause-boot : goal.returns-clause-boot
+returns-clause-boot c = booted_safe
+
+pub returns-clause-step : goal.returns-clause-step
+returns-clause-step c = λ m event s n. (safe_step numbered numbered_tops m event s ((processor_of event).least, n)).safe
+
+pub returns-clause-runs : goal.returns-clause-runs
+returns-clause-runs c = runs_safe

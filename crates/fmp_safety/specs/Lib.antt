@@ -1,0 +1,5 @@
+pub mod Objects
+pub mod Safe
+pub mod First
+pub mod Runs
+pub mod Laws

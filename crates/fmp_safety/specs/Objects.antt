@@ -1,0 +1,42 @@
+-- What is looked up of the objects, and what a task waits for.
+use Rattle.std.specs.Prelude.{ℕ, ℤ, not, Bool, false, Option, None, List, [], ◌==◌, nat_lt, replicate, take, bit_and}
+use Rattle.std.specs.List.{position}
+use Rattle.fmp_codes.specs.declared.numbers.Proc.{Proc}
+use Rattle.fmp_codes.specs.declared.numbers.Object.{Object}
+use Rattle.fmp_codes.specs.declared.calls.Mode.{Mode}
+use Rattle.fmp_codes.specs.declared.calls.Mode.TheVariants as mode
+use Rattle.fmp_config.specs.declared.setup.Order.TheVariants as order
+use Rattle.fmp_config.specs.declared.setup.DataQueueSetup.{DataQueueSetup}
+use Rattle.fmp_config.specs.declared.machine.Semaphore.{Semaphore}
+use Rattle.fmp_config.specs.declared.machine.Eventflag.{Eventflag}
+use Rattle.fmp_config.specs.declared.machine.Pool.{Pool}
+use Rattle.fmp_config.specs.World.{World, item}
+
+abbrev pub semaphore : {Q : Type 0} → World Q → Object → Semaphore
+semaphore w s = item (record { setup = record { order = order.First; initial = 0; most = 1 }; count = 0 }) w.semaphores s.number
+
+abbrev pub eventflag : {Q : Type 0} → World Q → Object → Eventflag
+eventflag w f = item (record { setup = record { order = order.First; many = false; clears = false; initial = 0 }; pattern = 0 }) w.eventflags f.number
+
+abbrev pub data_queue : {Q : Type 0} → World Q → Object → DataQueueSetup
+data_queue w d = item (record { order = order.First; capacity = 0 }) w.data_queues d.number
+
+-- the values of a data queue, the oldest first
+abbrev pub values : {Q : Type 0} → World Q → Object → List ℤ
+values w d = item [] w.contents d.number
+
+abbrev pub pool : {Q : Type 0} → World Q → Object → Pool
+pool w m = item (record { setup = record { order = order.First; blocks = 1 }; handed = replicate 64 false }) w.pools m.number
+
+-- the least block of a pool that is not handed out
+abbrev pub free_block : {Q : Type 0} → World Q → Object → Option ℕ
+free_block w m = position not (take (pool w m).setup.blocks (pool w m).handed)
+
+-- the processor that holds a spin lock
+abbrev pub holder : {Q : Type 0} → World Q → Object → Option Proc
+holder w l = item None w.holders l.number
+
+-- the bits of a pattern are set in x: all of them, or one
+abbrev pub holds : ℕ → ℕ → Mode → Bool
+holds x pattern mode.Andw = bit_and x pattern == pattern
+holds x pattern mode.Orw = nat_lt 0 (bit_and x pattern)
