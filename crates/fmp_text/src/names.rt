@@ -135,6 +135,13 @@ impl Names {
         }
     }
 
+    /// What holds of all names, for proofs. It does nothing.
+    pub fn validity(&self)
+        ensures { spec.AreValid self.now }
+    {
+        let _processors = &self.processors;
+    }
+
     /// Adds a name, which has the next number of its kind. An `Err` changes nothing.
     pub fn add(&mut self, kind: NameKind, name: &[u8]) -> Result<(), AllocError>
         requires name { spec.is_name name.now ≡ true }

@@ -1,21 +1,20 @@
 use super::*;
 use crate::argument::value_at;
+use crate::fault::TextKind::*;
 use fmp_calls::{ArgumentKind, NameKind, ObjectKind, Value};
 use fmp_codes::{Call, Event, Mode, SystemCall, TaskCall};
+use std::alloc::Global;
 use std::test::*;
 
-const OBJECTS: [ObjectKind; 8] = [
-    ObjectKind::Task,
-    ObjectKind::Semaphore,
-    ObjectKind::Eventflag,
-    ObjectKind::DataQueue,
-    ObjectKind::Pool,
-    ObjectKind::Cyclic,
-    ObjectKind::Alarm,
-    ObjectKind::SpinLock,
-];
-
-const OTHERS: [ArgumentKind; 8] = [
+const KINDS: [ArgumentKind; 16] = [
+    ArgumentKind::Object(ObjectKind::Task),
+    ArgumentKind::Object(ObjectKind::Semaphore),
+    ArgumentKind::Object(ObjectKind::Eventflag),
+    ArgumentKind::Object(ObjectKind::DataQueue),
+    ArgumentKind::Object(ObjectKind::Pool),
+    ArgumentKind::Object(ObjectKind::Cyclic),
+    ArgumentKind::Object(ObjectKind::Alarm),
+    ArgumentKind::Object(ObjectKind::SpinLock),
     ArgumentKind::Priority,
     ArgumentKind::Processor,
     ArgumentKind::Time,
@@ -54,103 +53,129 @@ fn add(names: &mut Names, kind: NameKind, name: &[u8]) -> Result<bool, Fail> {
     Ok(true)
 }
 
-/// Two processors, the tasks T1 and T2, one object of each other kind, and a function.
+const FUNCTION: NameKind = NameKind::Function;
+
+const TASK: NameKind = NameKind::Object(ObjectKind::Task);
+
+const SEMAPHORE: NameKind = NameKind::Object(ObjectKind::Semaphore);
+
+/// The names of a machine: two tasks, one object of each other kind, and a function.
+const NAMES: [(NameKind, &[u8]); 10] = [
+    (TASK, b"T1"),
+    (TASK, b"T2"),
+    (SEMAPHORE, b"S"),
+    (NameKind::Object(ObjectKind::Eventflag), b"F"),
+    (NameKind::Object(ObjectKind::DataQueue), b"D1"),
+    (NameKind::Object(ObjectKind::Pool), b"M"),
+    (NameKind::Object(ObjectKind::Cyclic), b"C"),
+    (NameKind::Object(ObjectKind::Alarm), b"A"),
+    (NameKind::Object(ObjectKind::SpinLock), b"L"),
+    (FUNCTION, b"main_task"),
+];
+
+/// A machine with two processors.
 fn machine(rt: &HostRuntime) -> Result<Names, Fail> {
     let mut names = Names::new(rt.alloc(), 2);
-    add(&mut names, NameKind::Object(ObjectKind::Task), b"T1")?;
-    add(&mut names, NameKind::Object(ObjectKind::Task), b"T2")?;
-    add(&mut names, NameKind::Object(ObjectKind::Semaphore), b"S")?;
-    add(&mut names, NameKind::Object(ObjectKind::Eventflag), b"F")?;
-    add(&mut names, NameKind::Object(ObjectKind::DataQueue), b"D1")?;
-    add(&mut names, NameKind::Object(ObjectKind::Pool), b"M")?;
-    add(&mut names, NameKind::Object(ObjectKind::Cyclic), b"C")?;
-    add(&mut names, NameKind::Object(ObjectKind::Alarm), b"A")?;
-    add(&mut names, NameKind::Object(ObjectKind::SpinLock), b"L")?;
-    add(&mut names, NameKind::Function, b"main_task")?;
+    for (kind, name) in NAMES {
+        add(&mut names, kind, name)?;
+    }
     Ok(names)
 }
 
-fn fault(rt: &HostRuntime, text: &[u8]) -> Result<Option<(TextKind, u32)>, Fail> {
-    let names = machine(rt)?;
-    Ok(match read_events(rt.alloc(), text, &names) {
-        Ok(_) => None,
-        Err(fault) => Some((fault.kind, fault.line)),
-    })
+/// Texts with faults, and the kind and the line of the first one.
+const REFUSED: [(&[u8], TextKind, u32); 28] = [
+    (b"P3 tick\n", NumberOutOfRange, 1),
+    (b"P1 act_tsk(T9)\n", UnknownName, 1),
+    (b"P1 act_tsk()\n", WrongArguments, 1),
+    (b"P1 jump(T1)\n", BadWord, 1),
+    (b"P1 tick", CutShort, 1),
+    (b"P0 tick\n", NumberOutOfRange, 1),
+    (b"P01 tick\n", NumberOutOfRange, 1),
+    (b"P99999999999999999999 tick\n", NumberOutOfRange, 1),
+    (b"P1 act_tsk(2147483648)\n", NumberOutOfRange, 1),
+    (b"P1 act_tsk(00)\n", NumberOutOfRange, 1),
+    (b"P1 act_tsk(L)\n", WrongArguments, 1),
+    (b"P1 act_tsk(T1\n", WrongArguments, 1),
+    (b"P1 tick\r\r\n", BadByte, 1),
+    (b"P1 tick\n  \r", CutShort, 2),
+    (b"P9 %", CutShort, 1),
+    (b"P9 jump(T9) %\n", BadByte, 1),
+    (b"P9 jump(T9\n", NumberOutOfRange, 1),
+    (b"Q9 jump(T9\n", BadWord, 1),
+    (b"P1 jump(T9\n", BadWord, 1),
+    (b"P1tick\n", BadWord, 1),
+    (b"P1(tick)\n", BadWord, 1),
+    (b"P tick\n", BadWord, 1),
+    (b"P1 tick()\n", WrongArguments, 1),
+    (b"P1 ext_tsk\n", WrongArguments, 1),
+    (b"P1 act_tsk(T9, 01)\n", WrongArguments, 1),
+    (b"P1 act_tsk(1a)\n", WrongArguments, 1),
+    (b"P1 act_tsk(main_task)\n", UnknownName, 1),
+    (b"\n\nP2 tick\nP1 act_tsk(T9)\nP9 tick\n", UnknownName, 4),
+];
+
+/// Texts without a fault.
+const ACCEPTED: [&[u8]; 5] = [
+    b"",
+    b"P1 act_tsk(2147483647)\n",
+    b"P1 act_tsk(-0x1)\n",
+    b"# any \xff bytes\r\n\t\r\n \t# last",
+    b"P1  act_tsk ( TSK_SELF ) \r\n\tP2\ttick\n  ",
+];
+
+/// Texts of one call, and what they are read as.
+const CALLS: [(&[u8], Result<Call, TextKind>); 7] = [
+    (b" ext_tsk( )\t", Ok(Call::Task(TaskCall::ExtTsk))),
+    (
+        b"act_tsk(-2147483648)",
+        Ok(Call::Task(TaskCall::ActTsk(i32::MIN))),
+    ),
+    (b"act_tsk(-2147483649)", Err(NumberOutOfRange)),
+    (b"act_tsk(-0)", Ok(Call::Task(TaskCall::ActTsk(0)))),
+    (b"P1 ext_tsk()", Err(BadWord)),
+    (b"", Err(BadWord)),
+    (b"ext_tsk()\n", Err(BadByte)),
+];
+
+fn fault(alloc: Global, names: &Names, text: &[u8]) -> Option<(TextKind, u32)> {
+    let fault = read_events(alloc, text, names).err()?;
+    Some((fault.kind, fault.line))
 }
 
 #[test]
-fn refused_lines(rt: HostRuntime) -> Result<(), Fail> {
-    use crate::fault::TextKind::*;
-    assert!(rt; fault(&rt, b"P3 tick\n")? == Some((NumberOutOfRange, 1)));
-    assert!(rt; fault(&rt, b"P1 act_tsk(T9)\n")? == Some((UnknownName, 1)));
-    assert!(rt; fault(&rt, b"P1 act_tsk()\n")? == Some((WrongArguments, 1)));
-    assert!(rt; fault(&rt, b"P1 jump(T1)\n")? == Some((BadWord, 1)));
-    assert!(rt; fault(&rt, b"P1 tick")? == Some((CutShort, 1)));
-    assert!(rt; fault(&rt, b"P0 tick\n")? == Some((NumberOutOfRange, 1)));
-    assert!(rt; fault(&rt, b"P01 tick\n")? == Some((NumberOutOfRange, 1)));
-    assert!(rt; fault(&rt, b"P99999999999999999999 tick\n")? == Some((NumberOutOfRange, 1)));
-    assert!(rt; fault(&rt, b"P1 act_tsk(2147483648)\n")? == Some((NumberOutOfRange, 1)));
-    assert!(rt; fault(&rt, b"P1 act_tsk(00)\n")? == Some((NumberOutOfRange, 1)));
-    assert!(rt; fault(&rt, b"P1 act_tsk(L)\n")? == Some((WrongArguments, 1)));
-    assert!(rt; fault(&rt, b"P1 act_tsk(T1\n")? == Some((WrongArguments, 1)));
-    assert!(rt; fault(&rt, b"P1 act_tsk(2147483647)\n")?.is_none());
-    assert!(rt; fault(&rt, b"P1 act_tsk(-0x1)\n")?.is_none());
-    Ok(())
-}
-
-#[test]
-fn order_of_faults(rt: HostRuntime) -> Result<(), Fail> {
-    use crate::fault::TextKind::*;
-    assert!(rt; fault(&rt, b"P9 %")? == Some((CutShort, 1)));
-    assert!(rt; fault(&rt, b"P9 jump(T9) %\n")? == Some((BadByte, 1)));
-    assert!(rt; fault(&rt, b"P9 jump(T9\n")? == Some((NumberOutOfRange, 1)));
-    assert!(rt; fault(&rt, b"Q9 jump(T9\n")? == Some((BadWord, 1)));
-    assert!(rt; fault(&rt, b"P1 jump(T9\n")? == Some((BadWord, 1)));
-    assert!(rt; fault(&rt, b"P1tick\n")? == Some((BadWord, 1)));
-    assert!(rt; fault(&rt, b"P1(tick)\n")? == Some((BadWord, 1)));
-    assert!(rt; fault(&rt, b"P tick\n")? == Some((BadWord, 1)));
-    assert!(rt; fault(&rt, b"P1 tick()\n")? == Some((WrongArguments, 1)));
-    assert!(rt; fault(&rt, b"P1 ext_tsk\n")? == Some((WrongArguments, 1)));
-    assert!(rt; fault(&rt, b"P1 act_tsk(T9, 01)\n")? == Some((WrongArguments, 1)));
-    assert!(rt; fault(&rt, b"P1 act_tsk(1a)\n")? == Some((WrongArguments, 1)));
-    assert!(rt; fault(&rt, b"P1 act_tsk(main_task)\n")? == Some((UnknownName, 1)));
-    assert!(rt; fault(&rt, b"\n\nP2 tick\nP1 act_tsk(T9)\nP9 tick\n")? == Some((UnknownName, 4)));
-    Ok(())
-}
-
-#[test]
-fn lines(rt: HostRuntime) -> Result<(), Fail> {
-    use crate::fault::TextKind::*;
-    assert!(rt; fault(&rt, b"")?.is_none());
-    assert!(rt; fault(&rt, b"# any \xff bytes\r\n\t\r\n \t# last")?.is_none());
-    assert!(rt; fault(&rt, b"P1  act_tsk ( TSK_SELF ) \r\n\tP2\ttick\n  ")?.is_none());
-    assert!(rt; fault(&rt, b"P1 tick\r\r\n")? == Some((BadByte, 1)));
-    assert!(rt; fault(&rt, b"P1 tick\n  \r")? == Some((CutShort, 2)));
+fn refused_texts(rt: HostRuntime) -> Result<(), Fail> {
     let names = machine(&rt)?;
+    for (text, kind, line) in REFUSED {
+        assert!(rt; fault(rt.alloc(), &names, text) == Some((kind, line)));
+    }
+    Ok(())
+}
+
+#[test]
+fn accepted_texts(rt: HostRuntime) -> Result<(), Fail> {
+    let names = machine(&rt)?;
+    for text in ACCEPTED {
+        assert!(rt; fault(rt.alloc(), &names, text).is_none());
+    }
     let text = b"# two\nP1 act_tsk(T2)\n\nP2 ipi\nP2 get_pid()\r\n";
     let events = read_events(rt.alloc(), text, &names)
         .ok()
         .ok_or("it is right")?;
-    assert_eq!(rt; events.len(), 3);
-    assert!(rt; matches!(events[0], Event::Call(_, Call::Task(TaskCall::ActTsk(2)))));
-    assert!(rt; matches!(events[1], Event::Ipi(processor) if processor.number == 2));
-    assert!(rt; matches!(events[2], Event::Call(_, Call::System(SystemCall::GetPid))));
+    let [first, second, third] = events.as_slice() else {
+        return Err("there are three events")?;
+    };
+    assert!(rt; matches!(first, Event::Call(_, Call::Task(TaskCall::ActTsk(2)))));
+    assert!(rt; matches!(second, Event::Ipi(processor) if processor.number == 2));
+    assert!(rt; matches!(third, Event::Call(_, Call::System(SystemCall::GetPid))));
     Ok(())
 }
 
 #[test]
 fn calls(rt: HostRuntime) -> Result<(), Fail> {
     let names = machine(&rt)?;
-    let ext_tsk = Call::Task(TaskCall::ExtTsk);
-    assert!(rt; read_call(b" ext_tsk( )\t", &names) == Ok(ext_tsk));
-    assert!(rt;
-        read_call(b"act_tsk(-2147483648)", &names) == Ok(Call::Task(TaskCall::ActTsk(i32::MIN)))
-    );
-    assert!(rt; read_call(b"act_tsk(-2147483649)", &names) == Err(TextKind::NumberOutOfRange));
-    assert!(rt; read_call(b"act_tsk(-0)", &names) == Ok(Call::Task(TaskCall::ActTsk(0))));
-    assert!(rt; read_call(b"P1 ext_tsk()", &names) == Err(TextKind::BadWord));
-    assert!(rt; read_call(b"", &names) == Err(TextKind::BadWord));
-    assert!(rt; read_call(b"ext_tsk()\n", &names) == Err(TextKind::BadByte));
+    for (text, call) in CALLS {
+        assert!(rt; read_call(text, &names) == call);
+    }
     Ok(())
 }
 
@@ -167,85 +192,102 @@ fn judged(place: (&[u8], ArgumentKind, Value), kind: ArgumentKind) -> Result<Val
 fn constants(rt: HostRuntime) -> Result<(), Fail> {
     let names = machine(&rt)?;
     for constant in CONSTANTS {
-        for kind in OTHERS {
-            assert!(rt; value_at(&names, kind, constant.0) == judged(constant, kind));
-        }
-        for kind in OBJECTS {
-            let kind = ArgumentKind::Object(kind);
+        for kind in KINDS {
             assert!(rt; value_at(&names, kind, constant.0) == judged(constant, kind));
         }
     }
-    assert!(rt; value_at(&names, ArgumentKind::Timeout, b"TSK_NONE") == Err(TextKind::UnknownName));
     Ok(())
 }
 
+/// The ends of the range of 32 signed bits, and a number with a leading zero.
+const NUMBERS: [(&[u8], Result<Value, TextKind>); 3] = [
+    (b"-2147483648", Ok(Value::Number(i32::MIN))),
+    (b"4294967295", Err(NumberOutOfRange)),
+    (b"00", Err(NumberOutOfRange)),
+];
+
+/// Arguments of the other kinds, and what has the form of one but is none.
+const VALUES: [(ArgumentKind, &[u8], Result<Value, TextKind>); 14] = [
+    (ArgumentKind::Pattern, b"-2147483648", Err(NumberOutOfRange)),
+    (
+        ArgumentKind::Pattern,
+        b"4294967295",
+        Ok(Value::Pattern(u32::MAX)),
+    ),
+    (ArgumentKind::Pattern, b"4294967296", Err(NumberOutOfRange)),
+    (ArgumentKind::Pattern, b"-0", Ok(Value::Pattern(0))),
+    (ArgumentKind::Pattern, b"00", Err(NumberOutOfRange)),
+    (
+        ArgumentKind::Data,
+        b"4294967295",
+        Ok(Value::Data(4294967295)),
+    ),
+    (
+        ArgumentKind::Data,
+        b"-9223372036854775808",
+        Ok(Value::Data(i64::MIN)),
+    ),
+    (ArgumentKind::Data, b"00", Err(NumberOutOfRange)),
+    (ArgumentKind::Mode, b"-2147483648", Err(WrongArguments)),
+    (ArgumentKind::Mode, b"00", Err(WrongArguments)),
+    (ArgumentKind::Mode, b"T1", Err(WrongArguments)),
+    (ArgumentKind::Mode, b"T9", Err(UnknownName)),
+    (ArgumentKind::Time, b"S", Err(WrongArguments)),
+    (ArgumentKind::Timeout, b"TSK_NONE", Err(UnknownName)),
+];
+
 #[test]
-fn ranges(rt: HostRuntime) -> Result<(), Fail> {
-    use crate::fault::TextKind::*;
+fn values(rt: HostRuntime) -> Result<(), Fail> {
     let names = machine(&rt)?;
-    for kind in OTHERS {
-        let low = value_at(&names, kind, b"-2147483648");
-        let high = value_at(&names, kind, b"4294967295");
-        let led = value_at(&names, kind, b"00");
-        match kind {
-            ArgumentKind::Mode => {
-                assert!(rt; low == Err(WrongArguments) && led == Err(WrongArguments));
-            }
-            ArgumentKind::Pattern => {
-                assert!(rt; low == Err(NumberOutOfRange) && high == Ok(Value::Pattern(u32::MAX)));
-            }
-            ArgumentKind::Data => assert!(rt; high == Ok(Value::Data(4294967295))),
-            _ => assert!(rt; low == Ok(Value::Number(i32::MIN)) && high == Err(NumberOutOfRange)),
+    for (text, value) in NUMBERS {
+        for kind in [
+            ArgumentKind::Priority,
+            ArgumentKind::Processor,
+            ArgumentKind::Time,
+            ArgumentKind::Timeout,
+            ArgumentKind::Block,
+        ] {
+            assert!(rt; value_at(&names, kind, text) == value);
         }
-        assert!(rt; led == Err(NumberOutOfRange) || kind == ArgumentKind::Mode);
     }
-    let least = value_at(&names, ArgumentKind::Data, b"-9223372036854775808");
-    assert!(rt; least == Ok(Value::Data(i64::MIN)));
-    assert!(rt; value_at(&names, ArgumentKind::Pattern, b"4294967296") == Err(NumberOutOfRange));
-    assert!(rt; value_at(&names, ArgumentKind::Pattern, b"-0") == Ok(Value::Pattern(0)));
-    assert!(rt; value_at(&names, ArgumentKind::Mode, b"T1") == Err(WrongArguments));
-    assert!(rt; value_at(&names, ArgumentKind::Mode, b"T9") == Err(UnknownName));
-    assert!(rt; value_at(&names, ArgumentKind::Time, b"S") == Err(WrongArguments));
+    for (kind, text, value) in VALUES {
+        assert!(rt; value_at(&names, kind, text) == value);
+    }
     Ok(())
 }
 
 #[test]
 fn kinds_of_names(rt: HostRuntime) -> Result<(), Fail> {
     let mut names = machine(&rt)?;
-    let semaphore = NameKind::Object(ObjectKind::Semaphore);
-    assert!(rt; names.number(semaphore, b"S") == Some(1));
-    assert!(rt; names.number(semaphore, b"T1").is_none());
-    assert!(rt; names.name(NameKind::Object(ObjectKind::Task), 2) == Some(b"T2".as_slice()));
-    assert!(rt; names.name(NameKind::Object(ObjectKind::Task), 0).is_none());
-    assert!(rt; !add(&mut names, semaphore, b"T1")?);
-    assert!(rt; !add(&mut names, semaphore, b"P10")?);
-    assert!(rt; !add(&mut names, semaphore, b"idle")?);
-    assert!(rt; !add(&mut names, NameKind::Function, b"main_task")?);
-    assert!(rt; add(&mut names, semaphore, b"P")?);
-    assert!(rt; add(&mut names, NameKind::Function, b"P10")?);
-    assert!(rt; add(&mut names, NameKind::Function, b"T1")?);
-    assert!(rt; names.number(NameKind::Function, b"T1") == Some(3));
-    assert_eq!(rt; names.processors(), 2);
+    assert!(rt;
+        names.number(SEMAPHORE, b"S") == Some(1) && names.number(SEMAPHORE, b"T1").is_none()
+    );
+    assert!(rt; names.name(TASK, 2) == Some(b"T2".as_slice()) && names.name(TASK, 0).is_none());
+    for (kind, name, added) in [
+        (SEMAPHORE, b"T1".as_slice(), false),
+        (SEMAPHORE, b"P10".as_slice(), false),
+        (SEMAPHORE, b"idle".as_slice(), false),
+        (SEMAPHORE, b"P".as_slice(), true),
+        (FUNCTION, b"main_task".as_slice(), false),
+        (FUNCTION, b"P10".as_slice(), true),
+        (FUNCTION, b"T1".as_slice(), true),
+    ] {
+        assert!(rt; add(&mut names, kind, name)? == added);
+    }
+    assert!(rt; names.number(FUNCTION, b"T1") == Some(3) && names.processors() == 2);
     Ok(())
-}
-
-fn count(rt: &HostRuntime, text: &[u8]) -> Result<usize, Fail> {
-    let names = machine(rt)?;
-    Ok(match read_events(rt.alloc(), text, &names) {
-        Ok(events) => events.len(),
-        Err(_) => 0,
-    })
 }
 
 #[test]
 fn a_million_and_one(rt: HostRuntime) -> Result<(), Fail> {
+    let names = machine(&rt)?;
     let mut text = Vec::new(rt.alloc());
     for _ in 0..1_000_000 {
         text.extend_from_slice(b"P1 tick\n")?;
     }
-    assert_eq!(rt; count(&rt, text.as_slice())?, 1_000_000);
+    assert!(rt; fault(rt.alloc(), &names, text.as_slice()).is_none());
     text.extend_from_slice(b"P1 tick\n")?;
-    assert!(rt; fault(&rt, text.as_slice())? == Some((TextKind::TooMany, 1_000_001)));
+    assert!(rt; fault(rt.alloc(), &names, text.as_slice()) == Some((TooMany, 1_000_001)));
     Ok(())
 }
 

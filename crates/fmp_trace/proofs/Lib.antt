@@ -1,1 +1,16 @@
+pub mod Bytes
+pub mod CheckedTexts
+pub mod FittingLines
+pub mod FittingParts
+pub mod GuessedCalls
+pub mod GuessedLines
+pub mod GuessedRunners
+pub mod GuessedTails
+pub mod GuessedValues
+pub mod Guessing
+pub mod Numbered
+pub mod ReadTexts
 pub mod Releases
+pub mod Results
+pub mod Told
+pub mod Unended

@@ -96,9 +96,13 @@ head_text lists n r = decimal n ++ codes " P" ++ decimal (processor_of r.event).
 unfoldable pub tail_text : NameLists → Record → List ℕ
 tail_text lists r = releases_text lists r.releases ++ lost_text r.lost ++ run_change_text lists r.run_change ++ requests_from 0 r.requests
 
+-- line n, without its line feed
+unfoldable pub core_text : NameLists → ℕ → Record → List ℕ
+core_text lists n r = head_text lists n r ++ event_text lists r.event ++ codes " " ++ answer_text r.answer ++ tail_text lists r
+
 -- line n, with its line feed
 unfoldable pub line_text : NameLists → ℕ → Record → List ℕ
-line_text lists n r = head_text lists n r ++ event_text lists r.event ++ codes " " ++ answer_text r.answer ++ tail_text lists r ++ codes "\n"
+line_text lists n r = core_text lists n r ++ codes "\n"
 
 -- the lines of these records, numbered from n
 abbrev pub lines_from : NameLists → ℕ → List Record → List ℕ

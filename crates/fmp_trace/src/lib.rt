@@ -1,9 +1,16 @@
-//! The text of a trace: one line for each record.
+//! The text of a trace: one line for each record. It is printed, read back, and checked against the plain machine.
 #![tactic(auto)]
 
+mod checking;
+mod guess;
+mod laws;
 mod lines;
+mod reading;
 #[cfg(test)]
 mod tests;
 mod values;
 
+pub use checking::{Verdict, check};
+pub use laws::texts_print_one_list;
 pub use lines::trace_text;
+pub use reading::read_trace;

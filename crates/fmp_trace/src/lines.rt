@@ -170,16 +170,25 @@ fn put_tail(out: &mut Vec<u8>, names: &Names, entry: &Record) -> Result<(), Allo
     Ok(())
 }
 
-/// Adds line n with its line feed.
-#[tactic(auto, unfolding(crate::specs::Lines::line_text))]
-fn put_line(out: &mut Vec<u8>, names: &Names, n: u32, entry: &Record) -> Result<(), AllocError>
-    ensures { OnOk result (out.new.items ≡ out.old.items ++ spec.line_text names.now n entry.now) }
+/// Adds line n without its line feed.
+#[tactic(auto, unfolding(crate::specs::Lines::core_text))]
+pub fn put_core(out: &mut Vec<u8>, names: &Names, n: u32, entry: &Record) -> Result<(), AllocError>
+    ensures { OnOk result (out.new.items ≡ out.old.items ++ spec.core_text names.now n entry.now) }
 {
     put_head(out, names, n, entry)?;
     put_event(out, names, entry.event)?;
     out.push(b' ')?;
     put_answer(out, entry.answer)?;
     put_tail(out, names, entry)?;
+    Ok(())
+}
+
+/// Adds line n with its line feed.
+#[tactic(auto, unfolding(crate::specs::Lines::line_text))]
+fn put_line(out: &mut Vec<u8>, names: &Names, n: u32, entry: &Record) -> Result<(), AllocError>
+    ensures { OnOk result (out.new.items ≡ out.old.items ++ spec.line_text names.now n entry.now) }
+{
+    put_core(out, names, n, entry)?;
     out.push(b'\n')?;
     Ok(())
 }

@@ -35,17 +35,41 @@ Exit status:
   3  a file could not be read, or the output not be written
   4  want of memory";
 
-/// The paths of a configuration and of a list of events.
+const CHECK_ABOUT: &str = "Says whether a trace is what the machine answers to its events";
+
+const CHECK_HELP: &str = "\
+CFG is a configuration, and TRACE a trace as `fmpsim calls` writes it: one line for each
+event, with its number, its processor, who made the call, the event, the answer, and what
+it changed:
+
+  1 P1 T1 act_tsk(T2) E_OK run=T2
+
+The machine of the configuration answers the events of the trace. The verdict, on standard
+output, is `yes` where these answers are the trace, and else `no` and the number of the
+first line that differs.
+
+Exit status:
+  0  yes
+  1  a fault in a text, told on standard error with its line
+  2  the command line is wrong
+  3  a file could not be read, or the output not be written
+  4  want of memory
+  5  no";
+
+/// The paths of a configuration and of the other text.
 #[derive(Clone, Copy, Debug)]
 pub struct Paths<'a> {
     pub config: &'a str,
-    pub events: &'a str,
+    pub text: &'a str,
 }
 
 /// What the command line asks for.
 #[derive(Clone, Copy, Debug)]
 pub enum Request<'a> {
+    /// The trace of a configuration over a list of events.
     Calls(Paths<'a>),
+    /// Whether a trace is the machine's.
+    Check(Paths<'a>),
 }
 
 /// The status that a refused command line ends the program with; help ends it with 0.
@@ -73,6 +97,15 @@ fn calls_command<'a>(alloc: Global) -> Result<Command<'a>, AllocError> {
         .arg(path(alloc, "EVENTS", "Path of the list of events"))
 }
 
+fn check_command<'a>(alloc: Global) -> Result<Command<'a>, AllocError> {
+    Command::new(alloc, "check")
+        .about(CHECK_ABOUT)
+        .after_help(CHECK_HELP)
+        .bin_name("fmpsim check")?
+        .arg(path(alloc, "CFG", "Path of the configuration"))?
+        .arg(path(alloc, "TRACE", "Path of the trace"))
+}
+
 /// The whole command line, for its help and for what is wrong in it.
 fn whole_command<'a>(alloc: Global) -> Result<Command<'a>, AllocError> {
     Command::new(alloc, "fmpsim")
@@ -80,17 +113,33 @@ fn whole_command<'a>(alloc: Global) -> Result<Command<'a>, AllocError> {
         .version("0.1.0")
         .subcommand_required(true)
         .arg_required_else_help(true)
-        .subcommand(calls_command(alloc)?)
+        .subcommand(calls_command(alloc)?)?
+        .subcommand(check_command(alloc)?)
+}
+
+/// The two paths that the words behind a subcommand name.
+fn named_paths<'a>(
+    mut command: Command<'a>,
+    words: &'a [String],
+    text: &str,
+) -> Result<Paths<'a>, Error> {
+    let matches = command.try_get_matches_from(words)?;
+    Ok(Paths {
+        config: matches.get_str("CFG").unwrap_or(""),
+        text: matches.get_str(text).unwrap_or(""),
+    })
 }
 
 /// What the words of the command line ask for.
 pub fn parse<'a>(alloc: Global, words: &'a [String]) -> Result<Request<'a>, Error> {
-    if words.get(1).map(|word| word.as_str()) == Some("calls") {
-        let matches = calls_command(alloc)?.try_get_matches_from(&words[1..])?;
-        return Ok(Request::Calls(Paths {
-            config: matches.get_str("CFG").unwrap_or(""),
-            events: matches.get_str("EVENTS").unwrap_or(""),
-        }));
+    let command = words.get(1).map(|word| word.as_str());
+    if command == Some("calls") {
+        let calls = calls_command(alloc)?;
+        return Ok(Request::Calls(named_paths(calls, &words[1..], "EVENTS")?));
+    }
+    if command == Some("check") {
+        let check = check_command(alloc)?;
+        return Ok(Request::Check(named_paths(check, &words[1..], "TRACE")?));
     }
     let mut whole = whole_command(alloc)?;
     whole.try_get_matches_from_mut(words)?;

@@ -1,4 +1,5 @@
-//! fmpsim: reads a configuration and events from files, and writes the trace of the machine's answers.
+//! fmpsim: reads a configuration and another text from files. Writes the trace of the machine's answers to events, or
+//! whether a trace is that of its own events.
 #![tactic(auto)]
 
 mod cli;
@@ -8,7 +9,8 @@ use cli::{Paths, Request};
 use files::{ReadSource, WriteSink};
 use fmp_config::ConfigKind;
 use fmp_text::TextKind;
-use fmpsim_run::{RunFault, run_calls};
+use fmp_trace::Verdict;
+use fmpsim_run::{RunFault, run_calls, run_check};
 use std::io::BufWriter;
 use std::process::ExitCode;
 use std::rt::{Env, Files};
@@ -23,6 +25,9 @@ const DEVICE: u8 = 3;
 /// Memory ran out.
 const MEMORY: u8 = 4;
 
+/// A trace is not the machine's.
+const DIFFERENT: u8 = 5;
+
 /// What a run that did not go to its end ends the program with.
 fn status_of(fault: &RunFault) -> u8 {
     match fault {
@@ -34,10 +39,18 @@ fn status_of(fault: &RunFault) -> u8 {
     }
 }
 
-/// Opens both files before it reads either, and runs over them.
-fn calls<R: Files + Print + AllocGlobal>(rt: &R, paths: &Paths<'_>) -> Result<(), RunFault> {
+/// What a verdict ends the program with.
+fn status_of_verdict(verdict: Verdict) -> u8 {
+    match verdict {
+        Verdict::Yes => 0,
+        Verdict::No(_) => DIFFERENT,
+    }
+}
+
+/// Opens both files before it reads either, and writes the trace of the machine's answers.
+fn calls<R: Files + Print + AllocGlobal>(rt: &R, paths: &Paths<'_>) -> Result<u8, RunFault> {
     let config = fs::open(rt, paths.config).map_err(|_| RunFault::Read)?;
-    let events = fs::open(rt, paths.events).map_err(|_| RunFault::Read)?;
+    let events = fs::open(rt, paths.text).map_err(|_| RunFault::Read)?;
     let writer = BufWriter::new(rt.alloc(), io::writer(rt)).map_err(|_| RunFault::Memory)?;
     let mut trace = WriteSink::new(writer);
     let run = run_calls(
@@ -48,15 +61,40 @@ fn calls<R: Files + Print + AllocGlobal>(rt: &R, paths: &Paths<'_>) -> Result<()
     );
     let flushed = trace.flush();
     run?;
-    flushed.map_err(|_| RunFault::Write)
+    flushed.map_err(|_| RunFault::Write)?;
+    Ok(0)
+}
+
+/// Opens both files before it reads either, and writes whether the trace is the machine's.
+fn check<R: Files + Print + AllocGlobal>(rt: &R, paths: &Paths<'_>) -> Result<u8, RunFault> {
+    let config = fs::open(rt, paths.config).map_err(|_| RunFault::Read)?;
+    let trace = fs::open(rt, paths.text).map_err(|_| RunFault::Read)?;
+    let verdict = run_check(
+        rt.alloc(),
+        &mut ReadSource::new(config),
+        &mut ReadSource::new(trace),
+        &mut WriteSink::new(io::writer(rt)),
+    )?;
+    Ok(status_of_verdict(verdict))
 }
 
 /// Tells a fault on standard error, with the path of the text that has it.
 fn report<R: Eprint>(rt: &R, paths: &Paths<'_>, fault: &RunFault) -> io::Result<()> {
     match fault {
         RunFault::Config(fault) => eprintln!(rt; "fmpsim: {}: {fault}", paths.config),
-        RunFault::Text(fault) => eprintln!(rt; "fmpsim: {}: {fault}", paths.events),
+        RunFault::Text(fault) => eprintln!(rt; "fmpsim: {}: {fault}", paths.text),
         other => eprintln!(rt; "fmpsim: {other}"),
+    }
+}
+
+/// The status of a run that may have ended with a fault, which is told.
+fn ended<R: Eprint>(rt: &R, paths: &Paths<'_>, run: Result<u8, RunFault>) -> u8 {
+    match run {
+        Ok(status) => status,
+        Err(fault) => {
+            let _ = report(rt, paths, &fault);
+            status_of(&fault)
+        }
     }
 }
 
@@ -69,13 +107,8 @@ fn run<R: Env + Files + Print + Eprint + AllocGlobal>(rt: &R) -> io::Result<u8> 
         return Ok(MEMORY);
     };
     match cli::parse(rt.alloc(), words.as_slice()) {
-        Ok(Request::Calls(paths)) => match calls(rt, &paths) {
-            Ok(()) => Ok(0),
-            Err(fault) => {
-                let _ = report(rt, &paths, &fault);
-                Ok(status_of(&fault))
-            }
-        },
+        Ok(Request::Calls(paths)) => Ok(ended(rt, &paths, calls(rt, &paths))),
+        Ok(Request::Check(paths)) => Ok(ended(rt, &paths, check(rt, &paths))),
         Err(error) => {
             error.print(rt)?;
             Ok(cli::status_of(&error))

@@ -1,8 +1,7 @@
 -- What a run over a configuration and events does.
-use Rattle.std.specs.Prelude.{◌≡◌, ◌≢◌, ℕ, ◌+◌, ◌≤◌, List, ◌++◌, Result, Ok, Some, if◌then◌else◌}
+use Rattle.std.specs.Prelude.{◌≡◌, ◌≢◌, ℕ, ◌+◌, ◌≤◌, List, ◌++◌, Result, Ok, if◌then◌else◌}
 use Rattle.fmp_codes.specs.declared.records.Event.{Event}
-use Rattle.fmp_text.specs.declared.fault.TextKind.TheVariants as text_kind
-use Rattle.fmp_text.specs.Events.{reading_of, faultless}
+use Rattle.fmp_text.specs.Events.{IsFirst, reading_of, faultless}
 use Rattle.fmp_statements.specs.declared.fault.ConfigKind.TheVariants as config_kind
 use Rattle.fmp_text.specs.Names.{NameLists}
 use Rattle.fmp_config.specs.Statements.{config_in}
@@ -12,19 +11,21 @@ use Rattle.fmp_config.specs.Setup.{Setup}
 use Rattle.fmp_config.specs.Boot.{booted}
 use Rattle.fmp_config.specs.Numbers.{numbered}
 use Rattle.fmp_config.specs.Step.{answers}
+use Rattle.fmp_safety.specs.Runs.{IsSafeThroughout}
 use Rattle.fmp_trace.specs.Lines.{lines_from}
 use Rattle.fmpsim_run.specs.declared.fault.RunFault.{RunFault}
 use Rattle.fmpsim_run.specs.declared.fault.RunFault.TheVariants as run
 use Rattle.fmpsim_run.specs.Devices.{BeginsWith}
 use Rattle.fmpsim_run.specs.Faults.{failed_read}
 
--- the output is the trace of the one text's machine over the other's events
+-- the output is the trace of the one text's machine over the other's events, and every front of these leads to a safe state
 pub record Answered (config_text event_text output : List ℕ) : Type 0 where
   pub config : Setup
   pub events : List Event
   pub configures : config_in config_text ≡ Ok config
   pub lists : reading_of config.names event_text ≡ faultless events
   pub prints : output ≡ lines_from config.names 1 (answers numbered (booted config) events)
+  pub safe : IsSafeThroughout (booted config) events
 
 -- the output was written after old, all of it
 abbrev pub IsAnswered : List ℕ → List ℕ → List ℕ → List ℕ → Type 0
@@ -43,9 +44,9 @@ abbrev pub FirstConfigFault : List ℕ → RunFault → Type 0
 FirstConfigFault text (run.Config fault) = IsFirstFault text fault
 FirstConfigFault text other = Unit {0}
 
--- a fault of the events is the first one of their text
+-- a fault of the events is the first one of their text, or want of memory
 abbrev pub FirstEventFault : NameLists → List ℕ → RunFault → Type 0
-FirstEventFault names text (run.Text fault) = fault.kind ≢ text_kind.Memory → (reading_of names text).fault ≡ Some fault
+FirstEventFault names text (run.Text fault) = IsFirst (reading_of names text) fault
 FirstEventFault names text other = Unit {0}
 
 -- the same, for the names of a right configuration

@@ -2,6 +2,7 @@
 #![tactic(auto)]
 
 mod calls;
+mod check;
 mod fault;
 mod memory;
 mod simulate;
@@ -13,6 +14,7 @@ mod texts;
 mod whole;
 
 pub use calls::run_calls;
+pub use check::run_check;
 pub use fault::RunFault;
 pub use memory::{MemSink, MemSource};
 pub use sink::{Sink, write_all};

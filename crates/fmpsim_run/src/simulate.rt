@@ -3,16 +3,20 @@ ghost use Rattle.std.specs.Prelude.{◌≡◌, ◌≤◌, length, IfOk};
 ghost use Rattle.fmp_config.specs.Boot.{booted};
 ghost use Rattle.fmp_config.specs.Numbers.{numbered};
 ghost use Rattle.fmp_config.specs.Step.{answers};
+ghost use Rattle.fmp_safety.specs.Runs.{AreOn, IsSafeThroughout};
 
 use fmp_codes::{Event, Record};
 use fmp_config::Config;
 use fmp_plain::Plain;
 use std::alloc::{AllocError, Global};
 
-/// The records of a list of events. The room for all of them is asked for before the first event.
+/// The records of a list of events on processors of the machine. Each front of the list leads to a safe state. The room for
+/// all records is asked for before the first event.
 pub fn simulate(alloc: Global, config: &Config, events: &[Event]) -> Result<Vec<Record>, AllocError>
-    requires { length events.now ≤ 1000000 }
+    requires few { length events.now ≤ 1000000 }
+    requires on { AreOn config.now.processors events.now }
     ensures answers { IfOk result (λ v. v.items ≡ answers numbered (booted config.now) events.now) }
+    ensures safe { IfOk result (λ v. IsSafeThroughout (booted config.now) events.now) }
     ensures count { IfOk result (λ v. length v.items ≡ length events.now) }
 {
     let mut records = Vec::with_capacity(alloc, events.len())?;

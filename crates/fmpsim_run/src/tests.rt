@@ -1,7 +1,7 @@
 //! Whole runs over memory. Each trace is worked out by hand from the rules of docs/PROFILE.md.
 ghost use Rattle.std.specs.Prelude.{false, []};
 
-use crate::{Failed, MemSink, MemSource, RunFault, Sink, Source, run_calls};
+use crate::{Failed, MemSink, MemSource, RunFault, Sink, Source, run_calls, run_check};
 use std::alloc::Global;
 use std::process::Abort;
 use std::test::Fail;
@@ -121,25 +121,32 @@ fn writes(
     Ok(())
 }
 
+/// The run over these devices ends with this fault.
+fn stops(
+    rt: &impl Abort,
+    alloc: Global,
+    mut config: MemSource<'_>,
+    mut events: MemSource<'_>,
+    trace: &mut MemSink,
+    fault: &str,
+) -> Result<(), Fail> {
+    let Err(told) = run_calls(alloc, &mut config, &mut events, trace) else {
+        return Err("the run is refused")?;
+    };
+    assert_eq!(rt; format!(in alloc; "{told}")?.as_str(), fault);
+    Ok(())
+}
+
 /// The run is refused with this fault, and nothing is written.
 fn is_refused(
     rt: &impl Abort,
     alloc: Global,
-    config: &[u8],
-    events: &[u8],
+    config: MemSource<'_>,
+    events: MemSource<'_>,
     fault: &str,
 ) -> Result<(), Fail> {
     let mut trace = MemSink::with_room(alloc, 1000)?;
-    let refused = run_calls(
-        alloc,
-        &mut MemSource::new(config),
-        &mut MemSource::new(events),
-        &mut trace,
-    );
-    let Err(told) = refused else {
-        return Err("the run is refused")?;
-    };
-    assert_eq!(rt; format!(in alloc; "{told}")?.as_str(), fault);
+    stops(rt, alloc, config, events, &mut trace, fault)?;
     assert!(rt; trace.bytes().is_empty());
     Ok(())
 }
@@ -274,14 +281,14 @@ CLASS(C1) {
   DEF_INH(5, {TA_NULL, hdr});
 }
 ";
-    is_refused(&rt, rt.alloc(), cut, b"", "line 4: F2 cut short")?;
-    is_refused(
-        &rt,
-        rt.alloc(),
-        left_out,
-        b"P1 jump\n",
-        "line 4: F3 unsupported API DEF_INH",
-    )
+    for (config, fault) in [
+        (cut.as_slice(), "line 4: F2 cut short"),
+        (left_out.as_slice(), "line 4: F3 unsupported API DEF_INH"),
+    ] {
+        let events = MemSource::new(b"P1 jump\n");
+        is_refused(&rt, rt.alloc(), MemSource::new(config), events, fault)?;
+    }
+    Ok(())
 }
 
 #[test]
@@ -293,7 +300,8 @@ fn refused_events(rt: HostRuntime) -> Result<(), Fail> {
         (b"P1 jump(T1)\n".as_slice(), "line 1: E2 bad word"),
         (b"P1 tick".as_slice(), "line 1: E6 cut short"),
     ] {
-        is_refused(&rt, rt.alloc(), MACHINE, events, fault)?;
+        let (config, events) = (MemSource::new(MACHINE), MemSource::new(events));
+        is_refused(&rt, rt.alloc(), config, events, fault)?;
     }
     Ok(())
 }
@@ -354,35 +362,122 @@ fn one_byte_at_a_time(rt: HostRuntime) -> Result<(), Fail> {
     Ok(())
 }
 
-/// Each read and each write fails in turn. A failed write leaves a beginning of the trace, a failed read nothing.
+/// Each read fails in turn.
 #[test]
-fn each_call_of_a_device_fails(rt: HostRuntime) -> Result<(), Fail> {
+fn failed_reads(rt: HostRuntime) -> Result<(), Fail> {
     for calls in 0..2 {
-        let mut trace = MemSink::with_room(rt.alloc(), 1000)?;
-        let fault = run_calls(
+        let failing = MemSource::new(REMOTE).failing_after(calls);
+        is_refused(
+            &rt,
             rt.alloc(),
-            &mut MemSource::new(REMOTE).failing_after(calls),
-            &mut MemSource::new(EVENTS),
-            &mut trace,
-        );
-        assert!(rt; matches!(&fault, Err(RunFault::Read)) && trace.bytes().is_empty());
-        let fault = run_calls(
+            failing,
+            MemSource::new(EVENTS),
+            "read failed",
+        )?;
+        let failing = MemSource::new(EVENTS).failing_after(calls);
+        is_refused(
+            &rt,
             rt.alloc(),
-            &mut MemSource::new(REMOTE),
-            &mut MemSource::new(EVENTS).failing_after(calls),
-            &mut trace,
-        );
-        assert!(rt; matches!(&fault, Err(RunFault::Read)) && trace.bytes().is_empty());
+            MemSource::new(REMOTE),
+            failing,
+            "read failed",
+        )?;
     }
+    Ok(())
+}
+
+/// The write fails, or it is short and the next one has no room. A beginning of the trace is left.
+#[test]
+fn failed_writes(rt: HostRuntime) -> Result<(), Fail> {
     for room in 0..TRACE.len() {
         let mut trace = MemSink::with_room(rt.alloc(), room)?;
-        let fault = run_calls(
+        let (config, events) = (MemSource::new(REMOTE), MemSource::new(EVENTS));
+        stops(&rt, rt.alloc(), config, events, &mut trace, "write failed")?;
+        assert!(rt; trace.bytes().len() == room && TRACE.starts_with(trace.bytes()));
+    }
+    let mut trace = MemSink::with_room(rt.alloc(), 1000)?.failing_after(0);
+    let (config, events) = (MemSource::new(REMOTE), MemSource::new(EVENTS));
+    stops(&rt, rt.alloc(), config, events, &mut trace, "write failed")?;
+    assert!(rt; trace.bytes().is_empty());
+    Ok(())
+}
+
+/// Checks over memory, and tells what is written.
+fn checked(alloc: Global, config: &[u8], trace: &[u8]) -> Result<MemSink, RunFault> {
+    let mut answer = MemSink::with_room(alloc, 20)?;
+    run_check(
+        alloc,
+        &mut MemSource::new(config),
+        &mut MemSource::new(trace),
+        &mut answer,
+    )?;
+    Ok(answer)
+}
+
+/// The machine's own trace, one with another answer, and the empty one.
+#[test]
+fn verdicts(rt: HostRuntime) -> Result<(), Fail> {
+    for (trace, verdict) in [
+        (
+            b"1 P1 T1 act_tsk(T2) E_OK run=T2\n".as_slice(),
+            b"yes\n".as_slice(),
+        ),
+        (
+            b"1 P1 T1 act_tsk(T2) E_QOVR run=T2\n".as_slice(),
+            b"no 1\n".as_slice(),
+        ),
+        (b"".as_slice(), b"yes\n".as_slice()),
+    ] {
+        let written = checked(rt.alloc(), NEIGHBOUR, trace)?;
+        assert_eq!(rt; written.bytes(), verdict);
+    }
+    assert_eq!(rt;
+        checked(rt.alloc(), REMOTE, TRACE)?.bytes(),
+        b"yes\n".as_slice()
+    );
+    Ok(())
+}
+
+#[test]
+fn refused_trace(rt: HostRuntime) -> Result<(), Fail> {
+    let Err(fault) = checked(rt.alloc(), NEIGHBOUR, b"2 P1 T1 act_tsk(T2) E_OK run=T2\n") else {
+        return Err("the trace is refused")?;
+    };
+    assert_eq!(rt;
+        format!(in rt.alloc(); "{fault}")?.as_str(),
+        "line 1: E2 bad word"
+    );
+    Ok(())
+}
+
+/// Each read and the write fail in turn, and a failed read leaves nothing.
+#[test]
+fn each_call_of_a_check_fails(rt: HostRuntime) -> Result<(), Fail> {
+    for (config_calls, trace_calls, room) in [
+        (0, 9, 20),
+        (1, 9, 20),
+        (9, 0, 20),
+        (9, 1, 20),
+        (9, 9, 3),
+    ] {
+        let mut answer = MemSink::with_room(rt.alloc(), room)?;
+        let run = run_check(
             rt.alloc(),
-            &mut MemSource::new(REMOTE),
-            &mut MemSource::new(EVENTS),
-            &mut trace,
+            &mut MemSource::new(REMOTE).failing_after(config_calls),
+            &mut MemSource::new(TRACE).failing_after(trace_calls),
+            &mut answer,
         );
-        assert!(rt; matches!(&fault, Err(RunFault::Write)) && TRACE.starts_with(trace.bytes()));
+        let is_write = room < 4;
+        assert!(rt; matches!(&run, Err(RunFault::Write)) == is_write);
+        assert!(rt; matches!(&run, Err(RunFault::Read)) != is_write);
+        assert!(rt;
+            answer.bytes()
+                == if is_write {
+                    b"yes".as_slice()
+                } else {
+                    b"".as_slice()
+                }
+        );
     }
     Ok(())
 }

@@ -2,6 +2,7 @@
 ghost use Rattle.std.specs.Prelude.{◌≡◌, ◌+◌, ◌-◌, ◌≤◌, ◌^◌, ◌<◌, [], IsTrue, OnOk, IfOk, IfErr, Ok, false, vec_len, if◌then◌else◌};
 ghost use Rattle.fmp_config.specs.Statements.{config_in};
 ghost use Rattle.fmp_text.specs.Events.{reading_of, faultless};
+ghost use Rattle.fmp_safety.specs.Runs.{AreOn};
 ghost use Rattle.fmpsim_run.specs.Faults.{failed_read, is_config, is_text, is_write};
 ghost use Rattle.fmpsim_run.specs.Runs.{FirstConfigFault, FirstEventFault};
 
@@ -38,6 +39,7 @@ pub fn events_from<S: Source>(
     requires { S.failures source.old < 2 ^ 64 - 1 }
     ensures ok { IsTrue S.tells → IfOk result (λ events. reading_of names.now (S.left source.old) ≡ faultless events.items) }
     ensures few { IfOk result (λ events. vec_len events ≤ 1000000) }
+    ensures on { IfOk result (λ events. AreOn names.now.processors events.items) }
     ensures read { IsTrue S.tells → OnOk result (S.left source.new ≡ []) }
     ensures fault { IsTrue S.tells → IfErr result (FirstEventFault names.now (S.left source.old)) }
     ensures kinds { IfErr result (λ fault. (is_config fault ≡ false) × (is_write fault ≡ false)) }

@@ -1,6 +1,7 @@
-use Rattle.std.proofs.Common.{◌∙◌, ap, sym, inl, inr, rules}
-use Rattle.fmp_text.specs.Events.{Reading, reading_of}
+use Rattle.std.proofs.Common.{◌∙◌, ap, sym, subst}
+use Rattle.fmp_text.specs.Events.{IsFirst, Reading, reading_of}
 use Rattle.fmpsim_run.proofs.Fronts.{reading_of-front, reading_of-ok}
+use Rattle.fmpsim_run.proofs.Placed.{reading_of_on}
 use Rattle.fmpsim_run.proofs.texts.events_from.Goals as goal
 
 pub returns-in-Ok-clause-ok : goal.returns-in-Ok-clause-ok
@@ -13,7 +14,10 @@ returns-in-Ok-clause-read g c = λ tells.
     (c.in_ok-text.ensures.ok tells).whole (rw c.as_slice.ensures.value at (reading_of-ok c.args.names.now c.as_slice.result.now _ c.in-Ok.ensures.ok))
 
 pub returns-clause-fault : goal.returns-clause-fault
-returns-clause-fault g c = λ tells other.
+returns-clause-fault g c = λ tells.
     let read = c.in_ok-text.ensures.ok tells in
-    ap (λ (r : Reading). r.fault) (reading_of-front c.args.names.now _ _ _ read.front read.whole ∙ ap (reading_of c.args.names.now) (sym c.as_slice.ensures.value))
-    ∙ elim c.in-Err.ensures.err [ inl e ↦ e | inr memory ↦ absurd (other memory.0) ]
+    let same = reading_of-front c.args.names.now _ _ _ read.front read.whole ∙ ap (reading_of c.args.names.now) (sym c.as_slice.ensures.value) in
+    subst (λ (r : Reading). IsFirst r c.in-Err.fault) (sym same) c.in-Err.ensures.err
+
+pub returns-in-Ok-clause-on : goal.returns-in-Ok-clause-on
+returns-in-Ok-clause-on g c = reading_of_on c.args.names.now c.as_slice.result.now _ c.in-Ok.ensures.ok

@@ -1,0 +1,204 @@
+-- A call that is printed spells the call, so it is read as that call.
+use Rattle.std.proofs.Common.{◌≡◌, ℕ, zero, suc, ◌+◌, ◌<◌, ◌≤◌, ◌^◌, ℤ, pos, negsuc, Bool, true, false, inl, inr, List, [], ◌∷◌, ◌++◌, Option, Some, None, option_map, Ok, refl, sym, ap, ◌∙◌, arith, add-one, append_assoc}
+use Rattle.std.specs.Prelude.{decimal}
+use Rattle.std.specs.Fmt.{signed_decimal}
+use Rattle.std.specs.List.{list_all, join_with_byte}
+use Rattle.std.proofs.lemmas.Bool.{or_cases, lt-ltb}
+use Rattle.std.proofs.lemmas.List.{append-nil}
+use Rattle.fmp_codes.specs.declared.calls.Call.{Call}
+use Rattle.fmp_codes.specs.declared.calls.Mode.TheVariants as modes
+use Rattle.fmp_bytes.specs.declared.classes.Class.TheVariants.{Argument}
+use Rattle.fmp_bytes.specs.Bytes.{is_of, is_identifier}
+use Rattle.fmp_bytes.specs.Numerals.{signed_of}
+use Rattle.fmp_bytes.proofs.Fronts.{list_all-weaker, list_all-both}
+use Rattle.fmp_calls.proofs.Matched.{is_identifier-text_of}
+use Rattle.fmp_calls.specs.declared.kinds.ArgumentKind.{ArgumentKind}
+use Rattle.fmp_calls.specs.declared.kinds.ArgumentKind.TheVariants as kinds
+use Rattle.fmp_calls.specs.declared.kinds.NameKind.TheVariants as name_kinds
+use Rattle.fmp_calls.specs.declared.kinds.ObjectKind.{ObjectKind}
+use Rattle.fmp_calls.specs.declared.kinds.ObjectKind.TheVariants as objects
+use Rattle.fmp_calls.specs.declared.kinds.Value.{Value}
+use Rattle.fmp_calls.specs.declared.kinds.Value.TheVariants as values
+use Rattle.fmp_calls.specs.Table as table
+use Rattle.fmp_text.specs.Argument.{constant_of, ranged, number32, is_argument}
+use Rattle.fmp_text.specs.Grammar.{IsNumber, SpellsValue, SpellsPieces, SpellsArguments}
+use Rattle.fmp_text.specs.Names.{NameLists, AreValid, name_of}
+use Rattle.fmp_text.specs.Reading.{call_in}
+use Rattle.fmp_text.proofs.Spelled.{value_at-spelled}
+use Rattle.fmp_text.proofs.SpelledCalls.{call_in-spelled}
+use Rattle.fmp_bytes.proofs.Tokens.{AreOfArgument, identifier_bytes, number_bytes}
+use Rattle.fmp_trace.specs.Fits.{IsWithin, ArgumentFits, ArgumentsFit, CallFits}
+use Rattle.fmp_trace.specs.Values.{named, object_text, value_text, arguments_from, call_text}
+use Rattle.fmp_trace.proofs.Bytes.{inner, inner-argument}
+use Rattle.fmp_trace.proofs.GuessedValues.{is_signed}
+
+-- ---- joining
+
+-- pieces, each behind such a byte
+abbrev pub led : ℕ → List (List ℕ) → List ℕ
+led c [] = []
+led c (piece ∷ pieces) = c ∷ (piece ++ led c pieces)
+
+pub join-led : (c : ℕ) (piece : List ℕ) (pieces : List (List ℕ)) → join_with_byte c (piece ∷ pieces) ≡ piece ++ led c pieces
+join-led c piece [] = sym (append-nil piece)
+join-led c piece (next ∷ pieces) = ap (λ (r : List ℕ). piece ++ (c ∷ r)) (join-led c next pieces)
+
+-- ---- values
+
+-- a signed number is a value of the kind
+signed_value : (limit : ℕ) (make : ℤ → Value) (kind : ArgumentKind) (z : ℤ) → limit ≤ 2 ^ 63 → IsWithin limit z → ((negative : Bool) (m : ℕ) → signed_of limit negative m ≡ Some z → ranged kind negative m ≡ Some (make z)) → IsNumber kind (signed_decimal z) (make z)
+signed_value limit make kind z few fits step =
+    let s = is_signed limit z few fits in
+    record { negative = s.negative; magnitude = s.magnitude; spelled = s.spelled; in_range = step s.negative s.magnitude s.value }
+
+number_value : (kind : ArgumentKind) (z : ℤ) → IsWithin (2 ^ 31) z → ((negative : Bool) (m : ℕ) → ranged kind negative m ≡ number32 negative m) → IsNumber kind (signed_decimal z) (values.Number z)
+number_value kind z fits is32 =
+    signed_value (2 ^ 31) values.Number kind z (omega arith) fits (λ negative m e. is32 negative m ∙ ap (option_map values.Number) e)
+
+-- an object's number is printed as the object's name, or as a number
+named_value : (names : NameLists) (kind : ObjectKind) (n : ℕ) (found : Option (List ℕ)) → n < 2 ^ 31 → name_of names (name_kinds.Object kind) n ≡ found → SpellsValue names (kinds.Object kind) (named names kind n) (values.Number (pos n))
+unfolding named
+named_value names kind n None fits e = rw e (inl (number_value (kinds.Object kind) (pos n) fits (λ negative m. refl)))
+named_value names kind n (Some name) fits e = rw e (inr (inr (record { object = kind; number = n; is_kind = refl; is_name = e; is_value = refl })))
+
+object_value : (names : NameLists) (kind : ObjectKind) (z : ℤ) → IsWithin (2 ^ 31) z → SpellsValue names (kinds.Object kind) (object_text names kind z) (values.Number z)
+unfolding object_text constant_of
+object_value names objects.Task (pos zero) fits = inr (inl refl)
+object_value names objects.Task (pos (suc n)) fits = named_value names objects.Task (suc n) _ fits refl
+object_value names objects.Semaphore (pos n) fits = named_value names objects.Semaphore n _ fits refl
+object_value names objects.Eventflag (pos n) fits = named_value names objects.Eventflag n _ fits refl
+object_value names objects.DataQueue (pos n) fits = named_value names objects.DataQueue n _ fits refl
+object_value names objects.Pool (pos n) fits = named_value names objects.Pool n _ fits refl
+object_value names objects.Cyclic (pos n) fits = named_value names objects.Cyclic n _ fits refl
+object_value names objects.Alarm (pos n) fits = named_value names objects.Alarm n _ fits refl
+object_value names objects.SpinLock (pos n) fits = named_value names objects.SpinLock n _ fits refl
+object_value names kind (negsuc n) fits = inl (number_value (kinds.Object kind) (negsuc n) fits (λ negative m. refl))
+
+pattern_value : (bits : ℕ) → bits < 2 ^ 32 → IsNumber kinds.Pattern (decimal bits) (values.Pattern bits)
+pattern_value bits fits =
+    let lt = lt-ltb bits (2 ^ 32) fits in
+    record { negative = false; magnitude = bits; spelled = (omega (arith, fits), inl refl); in_range = rw lt refl }
+
+pub value_spelled : (names : NameLists) (kind : ArgumentKind) (value : Value) → ArgumentFits kind value → SpellsValue names kind (value_text names kind value) value
+unfolding value_text constant_of
+value_spelled names (kinds.Object kind) (values.Number z) fits = object_value names kind z fits
+value_spelled names kinds.Priority (values.Number z) fits = inl (number_value kinds.Priority z fits (λ negative m. refl))
+value_spelled names kinds.Processor (values.Number z) fits = inl (number_value kinds.Processor z fits (λ negative m. refl))
+value_spelled names kinds.Time (values.Number z) fits = inl (number_value kinds.Time z fits (λ negative m. refl))
+value_spelled names kinds.Timeout (values.Number z) fits = inl (number_value kinds.Timeout z fits (λ negative m. refl))
+value_spelled names kinds.Block (values.Number z) fits = inl (number_value kinds.Block z fits (λ negative m. refl))
+value_spelled names kinds.Pattern (values.Pattern bits) fits = inl (pattern_value bits fits)
+value_spelled names kinds.Data (values.Data z) fits = inl (signed_value (2 ^ 63) values.Data kinds.Data z (omega arith) fits (λ negative m e. ap (option_map values.Data) e))
+value_spelled names kinds.Mode (values.Mode modes.Andw) fits = inr (inl refl)
+value_spelled names kinds.Mode (values.Mode modes.Orw) fits = inr (inl refl)
+value_spelled names (kinds.Object kind) (values.Pattern bits) fits = absurd fits
+value_spelled names (kinds.Object kind) (values.Data z) fits = absurd fits
+value_spelled names (kinds.Object kind) (values.Mode m) fits = absurd fits
+value_spelled names kinds.Priority (values.Pattern bits) fits = absurd fits
+value_spelled names kinds.Priority (values.Data z) fits = absurd fits
+value_spelled names kinds.Priority (values.Mode m) fits = absurd fits
+value_spelled names kinds.Processor (values.Pattern bits) fits = absurd fits
+value_spelled names kinds.Processor (values.Data z) fits = absurd fits
+value_spelled names kinds.Processor (values.Mode m) fits = absurd fits
+value_spelled names kinds.Time (values.Pattern bits) fits = absurd fits
+value_spelled names kinds.Time (values.Data z) fits = absurd fits
+value_spelled names kinds.Time (values.Mode m) fits = absurd fits
+value_spelled names kinds.Timeout (values.Pattern bits) fits = absurd fits
+value_spelled names kinds.Timeout (values.Data z) fits = absurd fits
+value_spelled names kinds.Timeout (values.Mode m) fits = absurd fits
+value_spelled names kinds.Block (values.Pattern bits) fits = absurd fits
+value_spelled names kinds.Block (values.Data z) fits = absurd fits
+value_spelled names kinds.Block (values.Mode m) fits = absurd fits
+value_spelled names kinds.Pattern (values.Number z) fits = absurd fits
+value_spelled names kinds.Pattern (values.Data z) fits = absurd fits
+value_spelled names kinds.Pattern (values.Mode m) fits = absurd fits
+value_spelled names kinds.Data (values.Number z) fits = absurd fits
+value_spelled names kinds.Data (values.Pattern bits) fits = absurd fits
+value_spelled names kinds.Data (values.Mode m) fits = absurd fits
+value_spelled names kinds.Mode (values.Number z) fits = absurd fits
+value_spelled names kinds.Mode (values.Pattern bits) fits = absurd fits
+value_spelled names kinds.Mode (values.Data z) fits = absurd fits
+
+-- an argument by its form is made of the bytes of arguments
+argument_bytes : (token : List ℕ) → is_argument token ≡ true → AreOfArgument token
+unfolding is_argument
+argument_bytes token h = elim (or_cases (is_identifier token) _ h) [ inl t ↦ identifier_bytes token t | inr t ↦ number_bytes token t ]
+
+value_bytes : (names : NameLists) (kind : ArgumentKind) (value : Value) → AreValid names → ArgumentFits kind value → list_all (is_of Argument) (value_text names kind value) ≡ true
+value_bytes names kind value valid fits =
+    (argument_bytes (value_text names kind value) (value_at-spelled names kind (value_text names kind value) value valid (value_spelled names kind value fits)).0).1
+
+-- ---- arguments
+
+-- the arguments behind the first one, each behind a blank
+abbrev pub later : NameLists → List ArgumentKind → List Value → List (List ℕ)
+later names [] values = []
+later names (kind ∷ kinds) [] = []
+later names (kind ∷ kinds) (value ∷ values) = (32 ∷ value_text names kind value) ∷ later names kinds values
+
+arguments_from-later : (names : NameLists) (i : ℕ) (kinds : List ArgumentKind) (values : List Value) → arguments_from names (suc i) kinds values ≡ led 44 (later names kinds values)
+arguments_from-later names i [] values = refl
+arguments_from-later names i (kind ∷ kinds) [] = refl
+arguments_from-later names i (kind ∷ kinds) (value ∷ values) =
+    let rest : arguments_from names (suc i + 1) kinds values ≡ led 44 (later names kinds values) = rw add-one (arguments_from-later names (suc i) kinds values) in
+    ap (λ (r : List ℕ). 44 ∷ (32 ∷ (value_text names kind value ++ r))) rest
+
+later_spelled : (names : NameLists) (kinds : List ArgumentKind) (values : List Value) → ArgumentsFit kinds values → SpellsPieces names kinds values (later names kinds values)
+unfolding is_of
+later_spelled names [] [] fits = tt
+later_spelled names (kind ∷ kinds) (value ∷ values) fits =
+    ((value_text names kind value, record { before = 32 ∷ []; behind = []; before_blank = refl; behind_blank = refl; parts = sym (append-nil (32 ∷ value_text names kind value)) }, value_spelled names kind value fits.0), later_spelled names kinds values fits.1)
+later_spelled names [] (value ∷ values) fits = absurd fits
+later_spelled names (kind ∷ kinds) [] fits = absurd fits
+
+arguments_spelled : (names : NameLists) (kinds : List ArgumentKind) (values : List Value) → ArgumentsFit kinds values → SpellsArguments names kinds values (arguments_from names 0 kinds values)
+unfolding is_of
+arguments_spelled names [] [] fits = (refl, refl)
+arguments_spelled names (kind ∷ kinds) (value ∷ values) fits = (
+  value_text names kind value ∷ later names kinds values,
+  ap (λ (r : List ℕ). value_text names kind value ++ r) (arguments_from-later names 0 kinds values) ∙ sym (join-led 44 (value_text names kind value) (later names kinds values)),
+  ((value_text names kind value, record { before = []; behind = []; before_blank = refl; behind_blank = refl; parts = sym (append-nil (value_text names kind value)) }, value_spelled names kind value fits.0), later_spelled names kinds values fits.1),
+)
+arguments_spelled names [] (value ∷ values) fits = absurd fits
+arguments_spelled names (kind ∷ kinds) [] fits = absurd fits
+
+later_bytes : (names : NameLists) (kinds : List ArgumentKind) (values : List Value) → AreValid names → ArgumentsFit kinds values → list_all inner (led 44 (later names kinds values)) ≡ true
+unfolding is_of
+later_bytes names [] [] valid fits = refl
+later_bytes names (kind ∷ kinds) (value ∷ values) valid fits =
+    list_all-both inner (value_text names kind value) (led 44 (later names kinds values)) (list_all-weaker (is_of Argument) inner inner-argument (value_text names kind value) (value_bytes names kind value valid fits.0)) (later_bytes names kinds values valid fits.1)
+later_bytes names [] (value ∷ values) valid fits = absurd fits
+later_bytes names (kind ∷ kinds) [] valid fits = absurd fits
+
+arguments_bytes : (names : NameLists) (kinds : List ArgumentKind) (values : List Value) → AreValid names → ArgumentsFit kinds values → list_all inner (arguments_from names 0 kinds values) ≡ true
+arguments_bytes names [] [] valid fits = refl
+arguments_bytes names (kind ∷ kinds) (value ∷ values) valid fits =
+    list_all-both inner (value_text names kind value) (arguments_from names 1 kinds values) (list_all-weaker (is_of Argument) inner inner-argument (value_text names kind value) (value_bytes names kind value valid fits.0))
+    (ap (list_all inner) (arguments_from-later names 0 kinds values) ∙ later_bytes names kinds values valid fits.1)
+arguments_bytes names [] (value ∷ values) valid fits = absurd fits
+arguments_bytes names (kind ∷ kinds) [] valid fits = absurd fits
+
+-- ---- calls
+
+-- a call without its closing parenthesis
+abbrev pub unclosed : NameLists → Call → List ℕ
+unclosed names call = table.text_of (table.name_of call) ++ (40 ∷ arguments_from names 0 (table.kinds_of (table.name_of call)) (table.values_of call))
+
+pub call_text-unclosed : (names : NameLists) (call : Call) → call_text names call ≡ unclosed names call ++ (41 ∷ [])
+unfolding call_text
+call_text-unclosed names call =
+    ap (λ (r : List ℕ). r ++ (41 ∷ [])) (append_assoc (table.text_of (table.name_of call)) (40 ∷ []) (arguments_from names 0 (table.kinds_of (table.name_of call)) (table.values_of call)))
+
+pub unclosed_bytes : (names : NameLists) (call : Call) → AreValid names → CallFits call → list_all inner (unclosed names call) ≡ true
+unfolding is_of
+unclosed_bytes names call valid fits =
+    let word = (identifier_bytes (table.text_of (table.name_of call)) (is_identifier-text_of (table.name_of call))).1 in
+    list_all-both inner (table.text_of (table.name_of call)) (40 ∷ arguments_from names 0 (table.kinds_of (table.name_of call)) (table.values_of call))
+    (list_all-weaker (is_of Argument) inner inner-argument (table.text_of (table.name_of call)) word)
+    (arguments_bytes names (table.kinds_of (table.name_of call)) (table.values_of call) valid fits)
+
+pub call_read : (names : NameLists) (call : Call) → AreValid names → CallFits call → call_in names (call_text names call) ≡ Ok call
+unfolding is_of
+call_read names call valid fits =
+    call_in-spelled names (call_text names call) call valid
+    (record { before = []; between = []; inner = arguments_from names 0 (table.kinds_of (table.name_of call)) (table.values_of call); behind = []; before_blank = refl; between_blank = refl; behind_blank = refl; arguments = arguments_spelled names (table.kinds_of (table.name_of call)) (table.values_of call) fits; parts = call_text-unclosed names call ∙ append_assoc (table.text_of (table.name_of call)) (40 ∷ arguments_from names 0 (table.kinds_of (table.name_of call)) (table.values_of call)) (41 ∷ []) })

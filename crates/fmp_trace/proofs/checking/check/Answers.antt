@@ -1,0 +1,14 @@
+use Rattle.std.proofs.Common.{subst}
+use Rattle.fmp_text.specs.Names.{AreValid}
+use Rattle.fmp_trace.proofs.CheckedTexts.{is_judged, has_one, is_own, is_reading_fault}
+use Rattle.fmp_trace.proofs.checking.check.Goals as goal
+
+pub returns : goal.returns
+returns c =
+    let valid = subst AreValid c.names.ensures.value c.validity.ensures in
+    record {
+      verdict = is_judged c.args.config.now c.args.text.now valid c.check_within.result c.check_within.ensures;
+      complete = has_one c.args.config.now c.args.text.now valid c.check_within.result c.check_within.ensures;
+      own = is_own c.args.config.now c.args.text.now valid c.check_within.result c.check_within.ensures;
+      fault = is_reading_fault c.args.config.now c.args.text.now valid c.check_within.result c.check_within.ensures;
+    }

@@ -1,0 +1,112 @@
+-- The record that a line is guessed to print. It is the right one of a printed line, and any one or none of another.
+use Rattle.std.specs.Prelude.{ℕ, ◌+◌, List, [], ◌∷◌, ◌++◌, length, take, Option, None, Some, Result, Ok, Err, ◌==◌, if◌then◌else◌, codes}
+use Rattle.std.specs.Option.{option_map_or}
+use Rattle.std.specs.Str.{bytes_eq}
+use Rattle.fmp_codes.specs.declared.numbers.Proc.{Proc}
+use Rattle.fmp_codes.specs.declared.records.Event.{Event}
+use Rattle.fmp_codes.specs.declared.records.Event.TheVariants as events
+use Rattle.fmp_codes.specs.declared.records.Runner.{Runner}
+use Rattle.fmp_codes.specs.declared.records.Answer.{Answer}
+use Rattle.fmp_codes.specs.declared.records.Record.{Record}
+use Rattle.fmp_bytes.specs.declared.classes.Class.TheVariants.{Word}
+use Rattle.fmp_bytes.specs.Bytes.{front, after, behind, cut_at, pieces_of}
+use Rattle.fmp_text.specs.Argument.{◌>>=◌}
+use Rattle.fmp_text.specs.Names.{NameLists}
+use Rattle.fmp_text.specs.Reading.{call_in}
+use Rattle.fmp_trace.specs.GuessParts.{processor_in, signed_in, answer_in, runner_in, release_in, running_in, requests_in}
+
+-- ---- what stands behind the answer
+
+unfoldable pub with_release : NameLists → Record → List ℕ → Option Record
+with_release names r text = do
+  release ← release_in names text
+  if length r.releases == 64 then None else Some (record r { releases = r.releases ++ release ∷ [] })
+
+unfoldable pub with_lost : Record → List ℕ → Option Record
+with_lost r text = do
+  value ← signed_in text
+  Some (record r { lost = Some value })
+
+unfoldable pub with_run_change : NameLists → Record → List ℕ → Option Record
+with_run_change names r text = do
+  running ← running_in names text
+  Some (record r { run_change = Some running })
+
+unfoldable pub with_requests : NameLists → Record → List ℕ → Option Record
+with_requests names r text = do
+  requests ← requests_in names 0 [] (pieces_of 44 text)
+  Some (record r { requests = requests })
+
+-- a record with what a word of this key says
+unfoldable pub with_part : NameLists → Record → List ℕ → List ℕ → Option Record
+with_part names r key text =
+    if bytes_eq key (codes "rel") then with_release names r text
+    else (if bytes_eq key (codes "lost") then with_lost r text
+    else (if bytes_eq key (codes "run") then with_run_change names r text
+    else (if bytes_eq key (codes "ipi") then with_requests names r text
+    else None)))
+
+unfoldable pub with_word : NameLists → Record → List ℕ → Option Record
+with_word names r word = do
+  text ← (cut_at 61 word).1
+  with_part names r (cut_at 61 word).0 text
+
+-- a record with what these words say
+abbrev pub with_words : NameLists → Record → List (List ℕ) → Option Record
+with_words names r [] = Some r
+with_words names r (word ∷ words) = do
+  next ← with_word names r word
+  with_words names next words
+
+-- ---- a line
+
+-- the words of a text with blanks between them, where there is one
+abbrev pub words_left : Option (List ℕ) → List (List ℕ)
+words_left text = option_map_or (pieces_of 32) text []
+
+-- a record of which nothing is told behind the answer
+abbrev pub plain : Event → Option Runner → Answer → Record
+plain event runner answer = record { event = event; runner = runner; answer = answer; releases = []; lost = None; run_change = None; requests = [] }
+
+unfoldable pub guess_answer : NameLists → Option Runner → Event → List ℕ → Option Record
+guess_answer names runner event text = do
+  rest ← behind 32 text
+  answer ← answer_in (cut_at 32 rest).0
+  with_words names (plain event runner answer) (words_left (cut_at 32 rest).1)
+
+-- what was read without a fault
+abbrev pub read : {A E : Type 0} → Result A E → Option A
+read (Ok a) = Some a
+read (Err e) = None
+
+unfoldable pub guess_call : NameLists → Option Runner → Proc → List ℕ → Option Record
+guess_call names runner p text = do
+  rest ← (cut_at 41 text).1
+  call ← read (call_in names (take (length (cut_at 41 text).0 + 1) text))
+  guess_answer names runner (events.Call p call) rest
+
+unfoldable pub guess_event : NameLists → Option Runner → Proc → List ℕ → Option Record
+guess_event names runner p text =
+    if bytes_eq (front Word text) (codes "tick") then guess_answer names runner (events.Tick p) (after Word text)
+    else (if bytes_eq (front Word text) (codes "ipi") then guess_answer names runner (events.Ipi p) (after Word text)
+    else guess_call names runner p text)
+
+unfoldable pub guess_runner : NameLists → Proc → List ℕ → Option Record
+guess_runner names p text = do
+  rest ← (cut_at 32 text).1
+  runner ← runner_in names (cut_at 32 text).0
+  guess_event names runner p rest
+
+-- what follows the line's number and its blank
+unfoldable pub guess_processor : NameLists → List ℕ → Option Record
+guess_processor names text = do
+  digits ← behind 80 text
+  rest ← (cut_at 32 digits).1
+  p ← processor_in names (cut_at 32 digits).0
+  guess_runner names p rest
+
+-- the record that a line prints, whatever its number
+unfoldable pub guess : NameLists → List ℕ → Option Record
+guess names line = do
+  rest ← (cut_at 32 line).1
+  guess_processor names rest

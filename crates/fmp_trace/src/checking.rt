@@ -1,0 +1,121 @@
+//! Checking a trace against the plain machine.
+ghost use Rattle.std.specs.Prelude.{◌≡◌, ◌≤◌, ◌<◌, ◌+◌, ◌⊎◌, List, length, Ok, IfOk, IfErr, OnOk};
+ghost use Rattle.std.specs.Option.{ok_or};
+ghost use Rattle.fmp_bytes.specs.Bytes.{pieces_of};
+ghost use Rattle.fmp_config.specs.Boot.{booted};
+ghost use Rattle.fmp_codes.specs.declared.records.Record.{Record as AnyRecord};
+ghost use Rattle.fmp_text.specs.Events.{IsMemory};
+ghost use Rattle.fmp_trace.specs.Checking.{Judges, own_text};
+ghost use Rattle.fmp_trace.specs.Prints.{PrintsWithin, FirstFault};
+ghost use Rattle.fmp_trace.specs.Guess.{guess as guess_of};
+ghost use Rattle.fmp_trace.specs.Reading.{GivesOrFails, records_from};
+ghost use Rattle.fmp_trace.specs.Checking as spec;
+
+use crate::guess::guess;
+use crate::reading::{fault, is_line, line_record, next_line};
+use fmp_codes::Record;
+use fmp_config::Config;
+use fmp_plain::Plain;
+use fmp_text::{MOST_BYTES, Names, TextFault, TextKind};
+use std::alloc::Global;
+
+/// Whether a trace is what the machine answers to its events.
+#[derive(Clone, Copy, Debug, PartialEq, Eq)]
+pub enum Verdict {
+    /// It is.
+    Yes,
+    /// This line, counted from 1, is the first that is not.
+    No(u32),
+}
+
+/// Goes over the lines as reading does, and keeps no record.
+fn judge(alloc: Global, text: &[u8], names: &Names) -> Result<(), TextFault>
+    requires { length text.now ≤ MOST_BYTES }
+    ensures { spec.Passes result (records_from names.now 1 (pieces_of 10 text.now)) }
+{
+    let mut scratch = Vec::new(alloc);
+    let mut number: u32 = 1;
+    let mut rest = text;
+    while let Some((line, after)) = next_line(rest) {
+        line_record(&mut scratch, names, number, line)?;
+        number += 1;
+        rest = after;
+    }
+    if rest.is_empty() {
+        Ok(())
+    } else {
+        Err(fault(TextKind::CutShort, number))
+    }
+}
+
+fn guessed(names: &Names, n: u32, line: &[u8]) -> Result<Record, TextFault>
+    ensures { result ≡ ok_or (guess_of names.now line.now) (record { kind = TextKind.BadWord; line = n }) }
+{
+    guess(names, line).ok_or(fault(TextKind::BadWord, n))
+}
+
+/// Plays the event of line n. Says whether the line prints the answer.
+#[tactic(auto, unfolding(crate::specs::Checking::answered))]
+fn is_answer(
+    scratch: &mut Vec<u8>,
+    plain: &mut Plain,
+    names: &Names,
+    n: u32,
+    line: &[u8],
+) -> Result<bool, TextFault>
+    requires { plain.old.steps < 4294967295 }
+    ensures told { GivesOrFails (λ same. (plain.new.state, same)) result (spec.answered names.now plain.old.state n line.now) }
+    ensures steps { OnOk result (plain.new.steps ≡ plain.old.steps + 1) }
+{
+    let entry = guessed(names, n, line)?;
+    let answer = plain.step(entry.event);
+    Ok(is_line(scratch, names, n, &answer, line)?)
+}
+
+/// The verdict on a text that reads as records.
+fn compare(alloc: Global, config: &Config, text: &[u8]) -> Result<Verdict, TextFault>
+    requires { length text.now ≤ MOST_BYTES }
+    ensures { GivesOrFails (λ v. v) result (spec.verdict_from config.now.names (booted config.now) 1 (pieces_of 10 text.now)) }
+{
+    let names = config.names();
+    let mut plain = Plain::boot(config)?;
+    let mut scratch = Vec::new(alloc);
+    let mut number: u32 = 1;
+    let mut rest = text;
+    while let Some((line, after)) = next_line(rest) {
+        if !is_answer(&mut scratch, &mut plain, names, number, line)? {
+            return Ok(Verdict::No(number));
+        }
+        number += 1;
+        rest = after;
+    }
+    Ok(Verdict::Yes)
+}
+
+#[tactic(auto, unfolding(crate::specs::Checking::checked, crate::specs::Reading::records_in))]
+fn check_within(alloc: Global, config: &Config, text: &[u8]) -> Result<Verdict, TextFault>
+    ensures { GivesOrFails (λ v. v) result (spec.checked config.now text.now) }
+{
+    if text.len() > MOST_BYTES {
+        return Err(fault(TextKind::TooMany, 0));
+    }
+    judge(alloc, text, config.names())?;
+    compare(alloc, config, text)
+}
+
+/// Checks a trace against what the plain machine answers to the trace's own events. It keeps no list of records.
+///
+/// A fault is that of `read_trace`, wherever in the text it is: only a text without one has a verdict.
+pub fn check(alloc: Global, config: &Config, text: &[u8]) -> Result<Verdict, TextFault>
+    // The text prints records, and the verdict compares it with the answers to their events.
+    ensures verdict { IfOk result (Judges config.now text.now) }
+    // A text that prints records has a verdict, unless memory ran out.
+    ensures complete { (records : List AnyRecord) → PrintsWithin config.now.names text.now records → IfErr result IsMemory }
+    // That of its own answers is yes.
+    ensures own { (records : List AnyRecord) → PrintsWithin config.now.names text.now records → text.now ≡ own_text config.now records → GivesOrFails (λ v. v) result (Ok Verdict.Yes) }
+    // The fault is the first one, or want of memory.
+    ensures fault { IfErr result (λ fault. FirstFault config.now.names text.now fault ⊎ IsMemory fault) }
+{
+    config.names().validity();
+    check_within(alloc, config, text)
+}

@@ -1,0 +1,39 @@
+-- What a run that checks a trace does.
+use Rattle.std.specs.Prelude.{◌≡◌, ◌⊎◌, ℕ, List, ◌++◌, Ok, codes, decimal}
+use Rattle.fmp_text.specs.Events.{IsMemory}
+use Rattle.fmp_text.specs.Names.{NameLists}
+use Rattle.fmp_config.specs.Statements.{config_in}
+use Rattle.fmp_config.specs.Setup.{Setup}
+use Rattle.fmp_trace.specs.declared.checking.Verdict.{Verdict}
+use Rattle.fmp_trace.specs.declared.checking.Verdict.TheVariants.{Yes, No}
+use Rattle.fmp_trace.specs.Checking.{Judges}
+use Rattle.fmp_trace.specs.Prints.{FirstFault}
+use Rattle.fmpsim_run.specs.declared.fault.RunFault.{RunFault}
+use Rattle.fmpsim_run.specs.declared.fault.RunFault.TheVariants as run
+use Rattle.fmpsim_run.specs.Devices.{BeginsWith}
+
+-- a verdict as it is written
+abbrev pub verdict_text : Verdict → List ℕ
+verdict_text Yes = codes "yes\n"
+verdict_text (No n) = codes "no " ++ decimal n ++ codes "\n"
+
+-- the verdict on a trace, by the answers of the one text's machine to the events of the other
+pub record Checked (config_text trace_text : List ℕ) (verdict : Verdict) : Type 0 where
+  pub config : Setup
+  pub configures : config_in config_text ≡ Ok config
+  pub judges : Judges config trace_text verdict
+
+-- a front of the verdict was written after old
+abbrev pub IsCheckBegun : List ℕ → List ℕ → List ℕ → List ℕ → Type 0
+IsCheckBegun config_text trace_text old new = (verdict : Verdict) × Checked config_text trace_text verdict × BeginsWith old (verdict_text verdict) new
+
+-- a fault of the trace is the first one of its text, or want of memory
+abbrev pub IsFirstOfTrace : NameLists → List ℕ → RunFault → Type 0
+IsFirstOfTrace names text (run.Text fault) = FirstFault names text fault ⊎ IsMemory fault
+IsFirstOfTrace names text other = Unit {0}
+
+-- the same, for the names of a right configuration
+abbrev pub FirstTraceFault : List ℕ → List ℕ → RunFault → Type 0
+FirstTraceFault config_text trace_text (run.Text fault) =
+    (config : Setup) × (config_in config_text ≡ Ok config) × IsFirstOfTrace config.names trace_text (run.Text fault)
+FirstTraceFault config_text trace_text other = Unit {0}

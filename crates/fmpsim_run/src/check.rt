@@ -1,0 +1,111 @@
+//! The run that checks a trace.
+ghost use Rattle.std.specs.Prelude.{◌≡◌, ◌≢◌, ◌+◌, ◌-◌, ◌^◌, ◌<◌, ◌++◌, [], IsTrue, OnOk, IfOk, IfErr, Err, Ok, false, if◌then◌else◌};
+ghost use Rattle.fmp_trace.specs.Checking.{Judges};
+ghost use Rattle.fmpsim_run.specs.Faults.{failed_read, failed_write, is_config, is_write};
+ghost use Rattle.fmpsim_run.specs.Runs.{CountsReads, FirstConfigFault};
+ghost use Rattle.fmpsim_run.specs.Checks.{Checked, IsCheckBegun, IsFirstOfTrace, FirstTraceFault, verdict_text};
+
+use crate::fault::RunFault;
+use crate::sink::{Sink, write_all};
+use crate::source::Source;
+use crate::texts::config_from;
+use crate::whole::read_up_to;
+use fmp_config::Config;
+use fmp_trace::{Verdict, check};
+use itoa::Buffer;
+use std::alloc::{AllocError, Global};
+
+/// Reads a trace to its end, and judges it.
+fn verdict_from<S: Source>(
+    alloc: Global,
+    config: &Config,
+    source: &mut S,
+) -> Result<Verdict, RunFault>
+    requires { S.failures source.old < 2 ^ 64 - 1 }
+    ensures ok { IsTrue S.tells → IfOk result (Judges config.now (S.left source.old)) }
+    ensures read { IsTrue S.tells → OnOk result (S.left source.new ≡ []) }
+    ensures fault { IsTrue S.tells → IfErr result (IsFirstOfTrace config.now.names (S.left source.old)) }
+    ensures kinds { IfErr result (λ fault. (is_config fault ≡ false) × (is_write fault ≡ false)) }
+    ensures count { S.failures source.new ≡ S.failures source.old + (if failed_read result then 1 else 0) }
+{
+    let text = read_up_to(alloc, source, fmp_text::MOST_BYTES)?;
+    match check(alloc, config, text.as_slice()) {
+        Ok(verdict) => Ok(verdict),
+        Err(fault) => Err(RunFault::Text(fault)),
+    }
+}
+
+/// The verdict on a trace. It has no writer in hand, so nothing is written before both texts are accepted.
+fn checked<R: Source, S: Source>(
+    alloc: Global,
+    config: &mut R,
+    trace: &mut S,
+) -> Result<Verdict, RunFault>
+    requires config_calls { R.failures config.old < 2 ^ 64 - 1 }
+    requires trace_calls { S.failures trace.old < 2 ^ 64 - 1 }
+
+    ensures checked { IsTrue R.tells → IsTrue S.tells → IfOk result (Checked (R.left config.old) (S.left trace.old)) }
+    ensures config_read { IsTrue R.tells → OnOk result (R.left config.new ≡ []) }
+    ensures trace_read { IsTrue S.tells → OnOk result (S.left trace.new ≡ []) }
+
+    ensures config_fault { IsTrue R.tells → IfErr result (FirstConfigFault (R.left config.old)) }
+    ensures text_fault { IsTrue R.tells → IsTrue S.tells → IfErr result (FirstTraceFault (R.left config.old) (S.left trace.old)) }
+    ensures reads { CountsReads result (R.failures config.old) (R.failures config.new) (S.failures trace.old) (S.failures trace.new) }
+    ensures no_write { failed_write result ≡ false }
+{
+    let configuration = config_from(alloc, config)?;
+    verdict_from(alloc, &configuration, trace)
+}
+
+/// A verdict as it is written: `yes`, or `no` and the number of the line.
+fn text_of(alloc: Global, verdict: Verdict) -> Result<Vec<u8>, AllocError>
+    ensures { IfOk result (λ text. text.items ≡ verdict_text verdict) }
+{
+    let mut text = Vec::new(alloc);
+    match verdict {
+        Verdict::Yes => text.extend_from_slice(b"yes\n")?,
+        Verdict::No(line) => {
+            text.extend_from_slice(b"no ")?;
+            text.extend_from_slice(Buffer::new().format(line).as_bytes())?;
+            text.extend_from_slice(b"\n")?;
+        }
+    }
+    Ok(text)
+}
+
+/// Reads a configuration and a trace, and writes whether the trace is what the machine answers to its events: `yes`, or
+/// `no` and the first line that is not.
+pub fn run_check<R: Source, S: Source, W: Sink>(
+    alloc: Global,
+    config: &mut R,
+    trace: &mut S,
+    answer: &mut W,
+) -> Result<Verdict, RunFault>
+    requires config_calls { R.failures config.old < 2 ^ 64 - 1 }
+    requires trace_calls { S.failures trace.old < 2 ^ 64 - 1 }
+    requires answer_calls { W.failures answer.old < 2 ^ 64 - 1 }
+
+    // Both texts were read to their ends, the verdict is right, and what is written is the verdict.
+    ensures checked { IsTrue R.tells → IsTrue S.tells → IfOk result (Checked (R.left config.old) (S.left trace.old)) }
+    ensures written { IsTrue W.tells → IfOk result (λ verdict. W.written answer.new ≡ W.written answer.old ++ verdict_text verdict) }
+    ensures config_read { IsTrue R.tells → OnOk result (R.left config.new ≡ []) }
+    ensures trace_read { IsTrue S.tells → OnOk result (S.left trace.new ≡ []) }
+
+    // A fault of a text is its first one.
+    ensures config_fault { IsTrue R.tells → IfErr result (FirstConfigFault (R.left config.old)) }
+    ensures text_fault { IsTrue R.tells → IsTrue S.tells → IfErr result (FirstTraceFault (R.left config.old) (S.left trace.old)) }
+
+    // After a failed write a beginning of the verdict is out, and after any other fault nothing is.
+    ensures write { IsTrue R.tells → IsTrue S.tells → IsTrue W.tells → (result ≡ Err RunFault.Write)
+        → IsCheckBegun (R.left config.old) (S.left trace.old) (W.written answer.old) (W.written answer.new) }
+    ensures unwritten { IsTrue W.tells → IfErr result (λ fault. fault ≢ RunFault.Write → W.written answer.new ≡ W.written answer.old) }
+
+    // Which calls of the devices failed.
+    ensures reads { CountsReads result (R.failures config.old) (R.failures config.new) (S.failures trace.old) (S.failures trace.new) }
+    ensures writes { W.failures answer.new ≡ W.failures answer.old + (if failed_write result then 1 else 0) }
+{
+    let verdict = checked(alloc, config, trace)?;
+    let text = text_of(alloc, verdict)?;
+    write_all(answer, text.as_slice())?;
+    Ok(verdict)
+}
