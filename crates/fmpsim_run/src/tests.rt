@@ -1,5 +1,5 @@
 //! Whole runs over memory. Each trace is worked out by hand from the rules of docs/PROFILE.md.
-ghost use Rattle.std.specs.Prelude.{false, []};
+ghost use Rattle.std.specs.Prelude.{◌≡◌, false, []};
 
 use crate::{Failed, MemSink, MemSource, RunFault, Sink, Source, run_calls, run_check};
 use std::alloc::Global;
@@ -129,7 +129,11 @@ fn stops(
     mut events: MemSource<'_>,
     trace: &mut MemSink,
     fault: &str,
-) -> Result<(), Fail> {
+) -> Result<(), Fail>
+    requires config_calls { config.failures ≡ 0 }
+    requires event_calls { events.failures ≡ 0 }
+    requires trace_calls { trace.old.failures ≡ 0 }
+{
     let Err(told) = run_calls(alloc, &mut config, &mut events, trace) else {
         return Err("the run is refused")?;
     };
@@ -144,7 +148,10 @@ fn is_refused(
     config: MemSource<'_>,
     events: MemSource<'_>,
     fault: &str,
-) -> Result<(), Fail> {
+) -> Result<(), Fail>
+    requires config_calls { config.failures ≡ 0 }
+    requires event_calls { events.failures ≡ 0 }
+{
     let mut trace = MemSink::with_room(alloc, 1000)?;
     stops(rt, alloc, config, events, &mut trace, fault)?;
     assert!(rt; trace.bytes().is_empty());
