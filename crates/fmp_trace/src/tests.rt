@@ -244,7 +244,7 @@ CLASS(C2) { CRE_TSK(T2, {TA_NULL, 0, main2, 10, 4096, NULL}); }
 ";
 
 #[test]
-fn row_23(rt: HostRuntime) -> Result<(), Fail> {
+fn verdicts_on_one_line(rt: HostRuntime) -> Result<(), Fail> {
     let config = read_config(rt.alloc(), NEIGHBOURS)?;
     let judged = |text| check(rt.alloc(), &config, text).ok();
     assert!(rt; judged(b"1 P1 T1 act_tsk(T2) E_OK run=T2\n") == Some(Verdict::Yes));
