@@ -1,7 +1,2 @@
-pub mod Scenario
-mod WorkedTasks
-mod WorkedHolding
-pub mod Classes
-pub mod Named
-pub mod Growing
+pub mod Sound
 pub mod Turns

@@ -20,11 +20,11 @@ use Rattle.fmp_statements.specs.Numbers.{list_in, numeral_in, processor_of}
 use Rattle.fmp_statements.specs.Table.{kinds_of}
 use Rattle.fmp_statements.specs.Walk.{◌>>=◌}
 use Rattle.fmp_config.specs.declared.draft.OpenClass.{OpenClass}
-use Rattle.fmp_config.specs.declared.parts.TaskFields.{TaskFields}
-use Rattle.fmp_config.specs.declared.setup.Class.{Class as ClassSetup}
-use Rattle.fmp_config.specs.Building.{class_named, is_refused}
-use Rattle.fmp_config.specs.Setup.{Setup}
-use Rattle.fmp_config.specs.Valid.{is_class_of}
+use Rattle.fmp_machine.specs.declared.parts.TaskFields.{TaskFields}
+use Rattle.fmp_machine.specs.declared.setup.Class.{Class as ClassSetup}
+use Rattle.fmp_machine.specs.Building.{class_named, is_refused}
+use Rattle.fmp_machine.specs.Setup.{Setup}
+use Rattle.fmp_machine.specs.Valid.{is_class_of}
 
 -- what was read, and the class whose statements follow
 pub record State : Type 0 where

@@ -14,10 +14,10 @@ use Rattle.fmp_statements.specs.Table.{form_in, statement_name}
 use Rattle.fmp_statements.specs.Walk.{◌>>=◌, walk}
 use Rattle.fmp_config.specs.declared.draft.OpenClass.{OpenClass}
 use Rattle.fmp_config.specs.declared.reading.TheConstants.{MOST_BYTES}
-use Rattle.fmp_config.specs.declared.setup.Class.{Class as ClassSetup}
-use Rattle.fmp_config.specs.Building.{of_processors, with_class, with_task}
+use Rattle.fmp_machine.specs.declared.setup.Class.{Class as ClassSetup}
+use Rattle.fmp_machine.specs.Building.{of_processors, with_class, with_task}
 use Rattle.fmp_config.specs.Reading.{State, part, left_behind, defined, opened, created}
-use Rattle.fmp_config.specs.Setup.{Setup}
+use Rattle.fmp_machine.specs.Setup.{Setup}
 
 -- each gives what was read, and how many tokens are left
 

@@ -6,8 +6,7 @@ ghost use Rattle.fmp_config.specs.Statements as spec;
 
 use crate::fault::ReadError;
 use crate::judge::{FUNCTION, NAME, created, defined, left_behind, opened, part};
-use crate::parts::Parts;
-use crate::setup::Class;
+use fmp_machine::{Class, Parts};
 use fmp_statements::{
     ConfigKind, StatementName, after_first, fault_at, first_text, form_in, from_place,
     is_mark_next, line_of, statement_name,
@@ -30,7 +29,8 @@ pub struct Draft {
 
 impl Draft {
     ghost use Rattle.std.specs.Prelude.{◌≡◌, OnOk};
-    ghost use Rattle.fmp_config.specs.Draft.{IsSound, IsSoundClass, state_of};
+    ghost use Rattle.fmp_config.specs.Draft.{IsSound, state_of};
+    ghost use Rattle.fmp_machine.specs.Building.{IsSoundClass};
     ghost use Rattle.fmp_config.specs.Faults.{Reads};
     ghost use Rattle.fmp_config.specs.Statements as spec;
 

@@ -4,16 +4,14 @@ ghost use Rattle.fmp_calls.specs.declared.kinds.NameKind.TheVariants.{Object};
 ghost use Rattle.fmp_calls.specs.declared.kinds.ObjectKind.TheVariants.{Task};
 ghost use Rattle.fmp_text.specs.Names.{has_room};
 ghost use Rattle.fmp_statements.specs.Cursor.{first_text};
-ghost use Rattle.fmp_config.specs.Building.{class_named, is_refused};
-ghost use Rattle.fmp_config.specs.Valid.{is_class_of};
-ghost use Rattle.fmp_config.specs.Parts.{setup_of};
+ghost use Rattle.fmp_machine.specs.Building.{class_named, is_refused};
+ghost use Rattle.fmp_machine.specs.Valid.{is_class_of};
+ghost use Rattle.fmp_machine.specs.Parts.{setup_of};
 ghost use Rattle.fmp_config.specs.Reading as spec;
 
-use crate::config::is_class_of;
-use crate::parts::{Parts, TaskFields};
-use crate::setup::Class;
 use fmp_calls::{NameKind, ObjectKind};
 use fmp_codes::Proc;
+use fmp_machine::{Class, Parts, TaskFields, is_class_of};
 use fmp_statements::{
     ConfigKind, Fault, Form, Listed, StatementName, Value, after_first, fault_at, fault_in,
     fields_in, first_text, list_in, numeral_in, processor_of,

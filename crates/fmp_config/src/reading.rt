@@ -2,15 +2,14 @@
 ghost use Rattle.std.specs.Prelude.{◌≡◌, ◌≤◌, length, IfOk, Ok, Err, OnOk};
 ghost use Rattle.fmp_config.specs.Faults.{Gives, GivesOrFails};
 ghost use Rattle.fmp_config.specs.Draft.{IsSound, state_of};
-ghost use Rattle.fmp_config.specs.Parts.{setup_of};
-ghost use Rattle.fmp_config.specs.Valid.{IsValid};
+ghost use Rattle.fmp_machine.specs.Parts.{setup_of};
+ghost use Rattle.fmp_machine.specs.Valid.{IsValid};
 ghost use Rattle.fmp_config.specs.Statements as spec;
 
-use crate::config::Config;
 use crate::draft::{Draft, OpenClass, read_statements};
 use crate::fault::{ConfigFault, ReadError};
 use crate::judge::{left_behind, part};
-use crate::parts::Parts;
+use fmp_machine::{Config, Parts};
 use fmp_statements::{
     ConfigKind, Fault, StatementName, fault_at, form_in, number_in, run_out, statement_name,
 };

@@ -15,9 +15,9 @@ use Rattle.fmp_statements.specs.Cursor.{first_text}
 use Rattle.fmp_statements.specs.Faults.{fault_at, fault_in}
 use Rattle.fmp_statements.specs.Numbers.{numeral, numeral_in, processor_of, list_in}
 use Rattle.fmp_statements.specs.Scan.{is_item}
-use Rattle.fmp_config.specs.declared.setup.Class.{Class}
+use Rattle.fmp_machine.specs.declared.setup.Class.{Class}
 use Rattle.fmp_config.specs.Reading.{class_of, listed_class, sound_class}
-use Rattle.fmp_config.specs.Valid.{is_class_of}
+use Rattle.fmp_machine.specs.Valid.{is_class_of}
 use Rattle.fmp_config_laws.specs.Parts.{separated, SpellNumbers}
 use Rattle.fmp_config_laws.specs.Meaning.{is_processor, members_of}
 use Rattle.fmp_config_laws.proofs.Lexemes.{lexeme_of, Are, first_of}

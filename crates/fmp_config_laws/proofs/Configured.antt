@@ -7,8 +7,8 @@ use Rattle.fmp_tokens.specs.Lexing.{Lexeme, lexed_text}
 use Rattle.fmp_tokens.specs.declared.tokens.End.TheVariants.{Done}
 use Rattle.fmp_statements.specs.declared.table.StatementName.TheVariants.{Processors}
 use Rattle.fmp_config.specs.declared.reading.TheConstants.{MOST_BYTES}
-use Rattle.fmp_config.specs.Building.{of_processors}
-use Rattle.fmp_config.specs.Setup.{Setup}
+use Rattle.fmp_machine.specs.Building.{of_processors}
+use Rattle.fmp_machine.specs.Setup.{Setup}
 use Rattle.fmp_config.specs.Statements.{all_statements, processors_in, setup_in, config_in}
 use Rattle.fmp_config_laws.specs.Statements.{Item, SpellsStatements}
 use Rattle.fmp_config_laws.specs.Meaning.{AddsItems}

@@ -10,8 +10,8 @@ use Rattle.fmp_statements.specs.declared.table.StatementName.TheVariants.{Proces
 use Rattle.fmp_statements.specs.Table.{text_of, statement_name}
 use Rattle.fmp_config.specs.declared.draft.OpenClass.{OpenClass}
 use Rattle.fmp_config.specs.declared.reading.TheConstants.{MOST_BYTES}
-use Rattle.fmp_config.specs.Building.{of_processors}
-use Rattle.fmp_config.specs.Setup.{Setup}
+use Rattle.fmp_machine.specs.Building.{of_processors}
+use Rattle.fmp_machine.specs.Setup.{Setup}
 use Rattle.fmp_config.specs.Statements.{all_statements, counted, closed, processors_in, setup_in, config_in}
 use Rattle.fmp_config_laws.specs.Grammar.{Configures}
 use Rattle.fmp_config_laws.proofs.Lexed.{tokens_are_spelled, texts}

@@ -29,9 +29,9 @@ use Rattle.fmp_statements.specs.Numbers.{number_in}
 use Rattle.fmp_statements.specs.Scan.{is_item}
 use Rattle.fmp_statements.specs.Table.{form_in, shapes_of, kinds_of}
 use Rattle.fmp_statements.specs.Walk.{◌>>=◌}
-use Rattle.fmp_config.specs.declared.parts.TaskFields.{TaskFields}
-use Rattle.fmp_config.specs.declared.setup.Class.{Class}
-use Rattle.fmp_config.specs.Building.{with_task}
+use Rattle.fmp_machine.specs.declared.parts.TaskFields.{TaskFields}
+use Rattle.fmp_machine.specs.declared.setup.Class.{Class}
+use Rattle.fmp_machine.specs.Building.{with_task}
 use Rattle.fmp_config.specs.Reading.{State, part, new_name, task_fields, created}
 use Rattle.fmp_config.specs.Statements.{create_task}
 use Rattle.fmp_config_laws.specs.Parts.{separated}

@@ -16,8 +16,8 @@ use Rattle.fmp_statements.specs.Forms.{Form}
 use Rattle.fmp_statements.specs.Numbers.{number_in}
 use Rattle.fmp_statements.specs.Table.{form_in, shapes_of}
 use Rattle.fmp_statements.specs.Walk.{◌>>=◌}
-use Rattle.fmp_config.specs.declared.setup.Class.{Class}
-use Rattle.fmp_config.specs.Building.{class_named, with_class}
+use Rattle.fmp_machine.specs.declared.setup.Class.{Class}
+use Rattle.fmp_machine.specs.Building.{class_named, with_class}
 use Rattle.fmp_config.specs.Reading.{State, part, left_behind, new_name, defined, opened}
 use Rattle.fmp_config.specs.Statements.{define_class, begin_class, counted}
 use Rattle.fmp_config_laws.specs.Parts.{separated}

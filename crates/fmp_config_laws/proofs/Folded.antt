@@ -14,9 +14,9 @@ use Rattle.fmp_statements.specs.Cursor.{after_first, is_mark_next, is_one}
 use Rattle.fmp_statements.specs.Table.{text_of, statement_name}
 use Rattle.fmp_statements.specs.Walk.{◌>>=◌, walk}
 use Rattle.fmp_config.specs.declared.draft.OpenClass.{OpenClass}
-use Rattle.fmp_config.specs.declared.setup.Class.{Class}
+use Rattle.fmp_machine.specs.declared.setup.Class.{Class}
 use Rattle.fmp_config.specs.Reading.{State}
-use Rattle.fmp_config.specs.Setup.{Setup}
+use Rattle.fmp_machine.specs.Setup.{Setup}
 use Rattle.fmp_config.specs.Statements.{outside, inside, placed, ends_class, statement_at, next_read, statement_step, all_statements}
 use Rattle.fmp_config_laws.specs.Statements.{TaskCreation, Item, Definition, Block, SpellsTasks, SpellsItems}
 use Rattle.fmp_config_laws.specs.Meaning.{AddsTasks, AddsItems}

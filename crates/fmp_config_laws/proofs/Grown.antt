@@ -5,11 +5,11 @@ use Rattle.fmp_calls.specs.declared.kinds.NameKind.TheVariants.{Object}
 use Rattle.fmp_calls.specs.declared.kinds.ObjectKind.TheVariants.{Task}
 use Rattle.fmp_codes.specs.Numbers.{as_pri}
 use Rattle.fmp_text.specs.Names.{has_room, with_name}
-use Rattle.fmp_config.specs.declared.parts.TaskFields.{TaskFields}
-use Rattle.fmp_config.specs.declared.setup.Class.{Class}
-use Rattle.fmp_config.specs.Building.{of_processors, with_class, with_task, with_task_names, function_number, task_setup}
-use Rattle.fmp_config.specs.Setup.{Setup}
-use Rattle.fmp_config.proofs.Named.{first_length, with_first-lengths, function_objects}
+use Rattle.fmp_machine.specs.declared.parts.TaskFields.{TaskFields}
+use Rattle.fmp_machine.specs.declared.setup.Class.{Class}
+use Rattle.fmp_machine.specs.Building.{of_processors, with_class, with_task, with_task_names, function_number, task_setup}
+use Rattle.fmp_machine.specs.Setup.{Setup}
+use Rattle.fmp_machine.proofs.Named.{first_length, with_first-lengths, function_objects}
 use Rattle.fmp_config_laws.specs.Statements.{ClassDefinition, TaskCreation}
 use Rattle.fmp_config_laws.specs.Meaning.{is_start, after_definition, after_creation, AddsTasks}
 

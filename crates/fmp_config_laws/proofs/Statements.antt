@@ -22,9 +22,9 @@ use Rattle.fmp_statements.specs.Faults.{fault_at, fault_in}
 use Rattle.fmp_statements.specs.Forms.{Form, form_of, field, rest_of}
 use Rattle.fmp_statements.specs.Scan.{is_item}
 use Rattle.fmp_statements.specs.Table.{text_of, shapes_of, statement_name, form_in}
-use Rattle.fmp_config.specs.Building.{is_refused}
+use Rattle.fmp_machine.specs.Building.{is_refused}
 use Rattle.fmp_config.specs.Reading.{part, left_behind, new_name}
-use Rattle.fmp_config.specs.Setup.{Setup}
+use Rattle.fmp_machine.specs.Setup.{Setup}
 use Rattle.fmp_config_laws.specs.Parts.{SpellNumbers}
 use Rattle.fmp_config_laws.proofs.Lexemes.{lexeme_of, kind_of, lexemes, Are, first_of, are_dropped, are_length}
 use Rattle.fmp_config_laws.proofs.Classes.{first_text_is}

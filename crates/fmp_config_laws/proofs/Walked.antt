@@ -15,10 +15,10 @@ use Rattle.fmp_statements.specs.Cursor.{is_mark_next, is_one, line_of}
 use Rattle.fmp_statements.specs.Table.{text_of}
 use Rattle.fmp_statements.specs.Walk.{walk}
 use Rattle.fmp_config.specs.declared.draft.OpenClass.{OpenClass}
-use Rattle.fmp_config.specs.declared.setup.Class.{Class}
-use Rattle.fmp_config.specs.Building.{class_named}
+use Rattle.fmp_machine.specs.declared.setup.Class.{Class}
+use Rattle.fmp_machine.specs.Building.{class_named}
 use Rattle.fmp_config.specs.Reading.{State}
-use Rattle.fmp_config.specs.Setup.{Setup}
+use Rattle.fmp_machine.specs.Setup.{Setup}
 use Rattle.fmp_config.specs.Statements.{outside, inside, placed, ends_class, statement_at, next_read, statement_step, all_statements}
 use Rattle.fmp_config_laws.specs.Statements.{ClassDefinition, TaskCreation, Item, Definition, Block, SpellsDefinition, SpellsCreation, SpellsTasks, SpellsBlock, SpellsItems}
 use Rattle.fmp_config_laws.specs.Meaning.{MayDefine, MayCreate, after_definition, after_creation, AddsTasks, AddsItems}

@@ -1,7 +1,7 @@
 -- The grammar of configuration texts, apart from how they are read: which texts say which configuration.
 use Rattle.std.specs.Prelude.{ℕ, ◌≤◌, List}
-use Rattle.fmp_config.specs.Building.{of_processors}
-use Rattle.fmp_config.specs.Setup.{Setup}
+use Rattle.fmp_machine.specs.Building.{of_processors}
+use Rattle.fmp_machine.specs.Setup.{Setup}
 use Rattle.fmp_config_laws.specs.Tokens.{SpellsTokens}
 use Rattle.fmp_config_laws.specs.Statements.{Item, SpellsStatements}
 use Rattle.fmp_config_laws.specs.Meaning.{AddsItems}

@@ -4,9 +4,9 @@ use Rattle.std.specs.List.{list_all, list_any}
 use Rattle.fmp_codes.specs.Numbers.{as_proc, as_pri}
 use Rattle.fmp_statements.specs.declared.attributes.Attribute.{Attribute}
 use Rattle.fmp_statements.specs.declared.attributes.Attribute.TheVariants.{Null, Activate}
-use Rattle.fmp_config.specs.declared.setup.Class.{Class}
-use Rattle.fmp_config.specs.Building.{class_named, is_refused, with_class, with_task}
-use Rattle.fmp_config.specs.Setup.{Setup}
+use Rattle.fmp_machine.specs.declared.setup.Class.{Class}
+use Rattle.fmp_machine.specs.Building.{class_named, is_refused, with_class, with_task}
+use Rattle.fmp_machine.specs.Setup.{Setup}
 use Rattle.fmp_config_laws.specs.Statements.{ClassDefinition, TaskCreation, Item, Definition, Block}
 
 -- which of the eight processors are among these

@@ -3,7 +3,7 @@ ghost use Rattle.std.specs.Prelude.{◌≡◌, ◌≤◌, ℕ, List, length, map
 ghost use Rattle.fmp_tokens.specs.declared.tokens.End.TheVariants.{Done};
 ghost use Rattle.fmp_tokens.specs.Lexing.{lexed_text};
 ghost use Rattle.fmp_config.specs.declared.reading.TheConstants.{MOST_BYTES};
-ghost use Rattle.fmp_config.specs.Setup.{Setup};
+ghost use Rattle.fmp_machine.specs.Setup.{Setup};
 ghost use Rattle.fmp_config.specs.Statements.{config_in};
 ghost use Rattle.fmp_config_laws.specs.Tokens.{SpellsTokens};
 ghost use Rattle.fmp_config_laws.specs.Grammar.{Configures};

@@ -1,12 +1,12 @@
 //! The machine at boot.
 ghost use Rattle.std.specs.Prelude.{◌≡◌, ◌≤◌, length};
-ghost use Rattle.fmp_config.specs.World.{processors_to};
-ghost use Rattle.fmp_config.specs.Boot.{all_started, with_top_running, with_tops_running, booted};
-ghost use Rattle.fmp_config.specs.Numbers.{numbered};
+ghost use Rattle.fmp_machine.specs.World.{processors_to};
+ghost use Rattle.fmp_machine.specs.Boot.{all_started, with_top_running, with_tops_running, booted};
+ghost use Rattle.fmp_machine.specs.Numbers.{numbered};
 ghost use Rattle.fmp_safety.specs.Safe.{Safe};
 
 use fmp_codes::{Proc, Task};
-use fmp_config::{Config, Processor, TaskSetup};
+use fmp_machine::{Config, Processor, TaskSetup};
 use fmp_plain_rows::Machine;
 
 /// Starts the tasks that the configuration says.

@@ -1,11 +1,11 @@
 //! The end of an event: which processors run another task or are sent a request.
 ghost use Rattle.std.specs.Prelude.{◌≡◌};
-ghost use Rattle.fmp_config.specs.Step.{tops, is_same, is_requested, requests, latched, dispatched, settle, changed_run};
-ghost use Rattle.fmp_config.specs.Numbers.{numbered};
+ghost use Rattle.fmp_machine.specs.Step.{tops, is_same, is_requested, requests, latched, dispatched, settle, changed_run};
+ghost use Rattle.fmp_machine.specs.Numbers.{numbered};
 
 use arrayvec::ArrayVec;
 use fmp_codes::{Proc, Requests, Task};
-use fmp_config::Processor;
+use fmp_machine::Processor;
 use fmp_plain_rows::Machine;
 
 fn is_same(a: Option<Task>, b: Option<Task>) -> bool

@@ -1,15 +1,15 @@
 //! The plain machine, and how many steps it made.
 ghost use Rattle.std.specs.Prelude.{◌≡◌, ◌+◌, ◌<◌, IsOk, IfOk};
-ghost use Rattle.fmp_config.specs.Boot.{booted};
-ghost use Rattle.fmp_config.specs.Numbers.{numbered};
-ghost use Rattle.fmp_config.specs.Step.{step};
+ghost use Rattle.fmp_machine.specs.Boot.{booted};
+ghost use Rattle.fmp_machine.specs.Numbers.{numbered};
+ghost use Rattle.fmp_machine.specs.Step.{step};
 ghost use Rattle.fmp_safety.specs.Safe.{Safe};
 ghost use Rattle.fmp_safety.specs.Laws.{FindsNothing, TakesRequest, RunsTop};
 
 use crate::boot::boot;
 use crate::step::step;
 use fmp_codes::{Event, Record};
-use fmp_config::Config;
+use fmp_machine::Config;
 use fmp_plain_rows::Machine;
 use std::alloc::AllocError;
 use std::marker::Model;

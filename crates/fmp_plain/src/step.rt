@@ -1,15 +1,15 @@
 //! One step of the machine.
 ghost use Rattle.std.specs.Prelude.{◌≡◌, ◌+◌, ◌<◌, ◌≤◌, ◌^◌, if◌then◌else◌};
-ghost use Rattle.fmp_config.specs.World.{processor};
-ghost use Rattle.fmp_config.specs.Tick.{tick};
-ghost use Rattle.fmp_config.specs.Step.{front_of, settled, unchanged, step};
-ghost use Rattle.fmp_config.specs.Numbers.{numbered};
+ghost use Rattle.fmp_machine.specs.World.{processor};
+ghost use Rattle.fmp_machine.specs.Tick.{tick};
+ghost use Rattle.fmp_machine.specs.Step.{front_of, settled, unchanged, step};
+ghost use Rattle.fmp_machine.specs.Numbers.{numbered};
 ghost use Rattle.fmp_plain.specs.Fronts.{seen};
 
 use crate::dispatch::{changed_run, settle, tops};
 use arrayvec::ArrayVec;
 use fmp_codes::{Answer, Call, Event, Proc, Record, Releases, Requests, Runner, Task};
-use fmp_config::Effect;
+use fmp_machine::Effect;
 use fmp_plain_rows::Machine;
 
 /// What is remembered of the state before an event.
@@ -22,7 +22,7 @@ struct Front {
     tops: ArrayVec<Option<Task>, 8>,
 }
 
-#[tactic(auto, unfolding(fmp_config::specs::Step::front_of))]
+#[tactic(auto, unfolding(fmp_machine::specs::Step::front_of))]
 fn front_of(machine: &Machine, event: Event, q: Proc) -> Front
     ensures { seen result ≡ front_of numbered machine.now event q }
 {
@@ -36,7 +36,7 @@ fn front_of(machine: &Machine, event: Event, q: Proc) -> Front
 }
 
 /// The end of an event that did this.
-#[tactic(auto, unfolding(fmp_config::specs::Step::settled))]
+#[tactic(auto, unfolding(fmp_machine::specs::Step::settled))]
 fn settled(machine: &mut Machine, front: Front, effect: Effect) -> Record
     ensures step { (machine.new, result) ≡ settled numbered (seen front) (machine.old, effect) }
     ensures next { machine.new.order.next ≡ machine.old.order.next }
@@ -60,7 +60,7 @@ fn settled(machine: &mut Machine, front: Front, effect: Effect) -> Record
 }
 
 /// The record of an event that changes nothing.
-#[tactic(auto, unfolding(fmp_config::specs::Step::unchanged))]
+#[tactic(auto, unfolding(fmp_machine::specs::Step::unchanged))]
 fn unchanged(machine: &Machine, event: Event, q: Proc, answer: Answer) -> Record
     ensures { (machine.now, result) ≡ unchanged machine.now event q answer }
 {

@@ -1,14 +1,14 @@
 //! The errors of calls, in the order in which they are looked for: the context, the IDs, the other arguments, the state.
 ghost use Rattle.std.specs.Prelude.{◌≡◌, ◌||◌, not};
-ghost use Rattle.fmp_config.specs.World.{processor};
-ghost use Rattle.fmp_config.specs.Rows.{is_wrong_context, is_refused_context};
-ghost use Rattle.fmp_config.specs.Arguments.{task_named, task_or_caller};
-ghost use Rattle.fmp_config.specs.Outcomes.{refused_if, known_or_error};
+ghost use Rattle.fmp_machine.specs.World.{processor};
+ghost use Rattle.fmp_machine.specs.Rows.{is_wrong_context, is_refused_context};
+ghost use Rattle.fmp_machine.specs.Arguments.{task_named, task_or_caller};
+ghost use Rattle.fmp_machine.specs.Outcomes.{refused_if, known_or_error};
 ghost use Rattle.fmp_codes.specs.declared.codes.Code.TheVariants as code;
 
 use crate::machine::Machine;
 use fmp_codes::{Code, Proc, Task};
-use fmp_config::{Context, Rule};
+use fmp_machine::{Context, Rule};
 
 /// The code, where the test for it passes.
 pub fn refuse_if(is_error: bool, code: Code) -> Result<(), Code>

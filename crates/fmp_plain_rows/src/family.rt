@@ -1,13 +1,13 @@
 //! A service call, by its family.
 ghost use Rattle.std.specs.Prelude.{◌≡◌, ◌+◌, ◌<◌, ◌≤◌, ◌^◌};
-ghost use Rattle.fmp_config.specs.Rows.{called};
-ghost use Rattle.fmp_config.specs.Step.{row_of};
-ghost use Rattle.fmp_config.specs.Outcomes.{effect_of};
-ghost use Rattle.fmp_config.specs.Numbers.{numbered};
+ghost use Rattle.fmp_machine.specs.Rows.{called};
+ghost use Rattle.fmp_machine.specs.Step.{row_of};
+ghost use Rattle.fmp_machine.specs.Outcomes.{effect_of};
+ghost use Rattle.fmp_machine.specs.Numbers.{numbered};
 
 use crate::machine::Machine;
 use fmp_codes::{Answer, Call, Code, Proc};
-use fmp_config::Effect;
+use fmp_machine::Effect;
 
 fn effect_of(outcome: Result<Effect, Code>) -> Effect
     ensures { result ≡ effect_of outcome }

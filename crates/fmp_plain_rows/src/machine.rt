@@ -1,13 +1,13 @@
 //! The state of the machine, and its reads and writes. Where there is none of a number, a read gives a blank record and a
 //! write does nothing.
 ghost use Rattle.std.specs.Prelude.{◌≡◌, ◌≤◌, [], false, true, length};
-ghost use Rattle.fmp_config.specs.World.{task, processor, with_processor, handler, runner_of, is_held, first};
-ghost use Rattle.fmp_config.specs.Keeping.{note};
-ghost use Rattle.fmp_config.specs.Processors.{holds_lock, opened, unlocked, with_dispatching_disabled, with_lock};
+ghost use Rattle.fmp_machine.specs.World.{task, processor, with_processor, handler, runner_of, is_held, first};
+ghost use Rattle.fmp_machine.specs.Keeping.{note};
+ghost use Rattle.fmp_machine.specs.Processors.{holds_lock, opened, unlocked, with_dispatching_disabled, with_lock};
 
 use arrayvec::ArrayVec;
 use fmp_codes::{Proc, Runner, Task};
-use fmp_config::{Processor, TaskRecord};
+use fmp_machine::{Processor, TaskRecord};
 use std::marker::Model;
 
 /// The handlers that are due on a processor. The first one runs.
@@ -59,8 +59,8 @@ pub struct Machine {
 
 impl Model for Machine {
     ghost use Rattle.std.specs.Prelude.{[]};
-    ghost use Rattle.fmp_config.specs.declared.setup.Timer.TheVariants as timer;
-    ghost use Rattle.fmp_config.specs.Numbers.{State};
+    ghost use Rattle.fmp_machine.specs.declared.setup.Timer.TheVariants as timer;
+    ghost use Rattle.fmp_machine.specs.Numbers.{State};
 
     ghost Value = { State };
 

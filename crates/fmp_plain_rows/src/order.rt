@@ -1,13 +1,13 @@
 //! What comes first.
 ghost use Rattle.std.specs.Prelude.{◌≡◌};
-ghost use Rattle.fmp_config.specs.World.{item};
-ghost use Rattle.fmp_config.specs.Keeping.{is_runnable, top};
-ghost use Rattle.fmp_config.specs.Numbers.{numbered, is_ready_on, priority_in, comes_before};
+ghost use Rattle.fmp_machine.specs.World.{item};
+ghost use Rattle.fmp_machine.specs.Keeping.{is_runnable, top};
+ghost use Rattle.fmp_machine.specs.Numbers.{numbered, is_ready_on, priority_in, comes_before};
 ghost use Rattle.fmp_plain_rows.specs.Better.{better};
 
 use crate::machine::Machine;
 use fmp_codes::{Proc, Task};
-use fmp_config::TaskRecord;
+use fmp_machine::TaskRecord;
 
 /// Whether a task is active, with no wait and not suspended.
 pub fn is_runnable(task: &TaskRecord) -> bool
@@ -18,7 +18,7 @@ pub fn is_runnable(task: &TaskRecord) -> bool
 
 impl Machine {
     /// The task that comes first on a processor.
-    #[tactic(auto, using(crate::proofs::First::first_in_order), unfolding(fmp_config::specs::Numbers::numbered))]
+    #[tactic(auto, using(crate::proofs::First::first_in_order), unfolding(fmp_machine::specs::Numbers::numbered))]
     pub fn top(&self, p: Proc) -> Option<Task>
         ensures { result ≡ top numbered self.now p }
     {

@@ -1,13 +1,13 @@
 //! The calls on the processors and on the state of dispatching.
 ghost use Rattle.std.specs.Prelude.{◌≡◌};
-ghost use Rattle.fmp_config.specs.Rows.{called};
-ghost use Rattle.fmp_config.specs.SystemCalls.{get_tid, get_pid, loc_cpu, unl_cpu, dis_dsp, ena_dsp, sense, system_row};
-ghost use Rattle.fmp_config.specs.Outcomes.{effect_of};
-ghost use Rattle.fmp_config.specs.Numbers.{numbered};
+ghost use Rattle.fmp_machine.specs.Rows.{called};
+ghost use Rattle.fmp_machine.specs.SystemCalls.{get_tid, get_pid, loc_cpu, unl_cpu, dis_dsp, ena_dsp, sense, system_row};
+ghost use Rattle.fmp_machine.specs.Outcomes.{effect_of};
+ghost use Rattle.fmp_machine.specs.Numbers.{numbered};
 
 use crate::machine::Machine;
 use fmp_codes::{Code, Proc, SystemCall};
-use fmp_config::{Effect, Rule};
+use fmp_machine::{Effect, Rule};
 
 impl Machine {
     /// A call on the processors or on the state of dispatching.

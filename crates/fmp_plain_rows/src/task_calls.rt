@@ -1,15 +1,15 @@
 //! The calls on tasks.
 ghost use Rattle.std.specs.Prelude.{◌≡◌, ◌+◌, ◌<◌, ◌≤◌, ◌^◌};
-ghost use Rattle.fmp_config.specs.Rows.{called};
-ghost use Rattle.fmp_config.specs.TaskCalls.{act, ext_tsk, task_row};
-ghost use Rattle.fmp_config.specs.Arguments.{task_or_caller};
-ghost use Rattle.fmp_config.specs.Outcomes.{effect_of};
-ghost use Rattle.fmp_config.specs.Numbers.{numbered};
+ghost use Rattle.fmp_machine.specs.Rows.{called};
+ghost use Rattle.fmp_machine.specs.TaskCalls.{act, ext_tsk, task_row};
+ghost use Rattle.fmp_machine.specs.Arguments.{task_or_caller};
+ghost use Rattle.fmp_machine.specs.Outcomes.{effect_of};
+ghost use Rattle.fmp_machine.specs.Numbers.{numbered};
 
 use crate::checks::refuse_if;
 use crate::machine::Machine;
 use fmp_codes::{Answer, Code, Proc, TaskCall};
-use fmp_config::{Effect, Rule};
+use fmp_machine::{Effect, Rule};
 
 impl Machine {
     /// A call on tasks.

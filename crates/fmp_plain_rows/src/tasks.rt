@@ -1,14 +1,14 @@
 //! How tasks begin, end and change their places.
 ghost use Rattle.std.specs.Prelude.{◌≡◌, ◌+◌, ◌<◌, ◌≤◌, ◌^◌};
-ghost use Rattle.fmp_config.specs.World.{task, with_item};
-ghost use Rattle.fmp_config.specs.Keeping.{place, end_wait};
-ghost use Rattle.fmp_config.specs.Tasks.{started, ended, start, activate, finish};
-ghost use Rattle.fmp_config.specs.Numbers.{numbered};
+ghost use Rattle.fmp_machine.specs.World.{task, with_item};
+ghost use Rattle.fmp_machine.specs.Keeping.{place, end_wait};
+ghost use Rattle.fmp_machine.specs.Tasks.{started, ended, start, activate, finish};
+ghost use Rattle.fmp_machine.specs.Numbers.{numbered};
 
 use crate::machine::Machine;
 use crate::order::is_runnable;
 use fmp_codes::{Proc, Task};
-use fmp_config::TaskRecord;
+use fmp_machine::TaskRecord;
 
 /// A task as it starts on a processor.
 fn started(task: TaskRecord, p: Proc) -> TaskRecord
@@ -46,7 +46,7 @@ fn ended(task: TaskRecord) -> TaskRecord
 
 impl Machine {
     /// Gives a task the next number, so that it comes last of its priority.
-    #[tactic(auto, unfolding(fmp_config::specs::Numbers::numbered))]
+    #[tactic(auto, unfolding(fmp_machine::specs::Numbers::numbered))]
     fn put_last(&mut self, t: Task)
         requires { self.old.order.next + 1 < 2 ^ 64 }
         ensures { self.new ≡ record self.old { order = numbered.put_last self.old.order (task self.old t) t } }
@@ -58,7 +58,7 @@ impl Machine {
     }
 
     /// Changes the fields of a task, which goes last where it is ready then.
-    #[tactic(auto, unfolding(fmp_config::specs::Numbers::numbered))]
+    #[tactic(auto, unfolding(fmp_machine::specs::Numbers::numbered))]
     pub fn place(&mut self, t: Task, changed: TaskRecord)
         requires { self.old.order.next + 1 < 2 ^ 64 }
         ensures state { self.new ≡ place numbered self.old t changed }
@@ -79,7 +79,7 @@ impl Machine {
     }
 
     /// Ends the wait of a task, if it has one, and changes its fields. It goes last where it is ready then.
-    #[tactic(auto, unfolding(fmp_config::specs::Numbers::numbered))]
+    #[tactic(auto, unfolding(fmp_machine::specs::Numbers::numbered))]
     pub fn end_wait(&mut self, t: Task, changed: TaskRecord)
         requires { self.old.order.next + 1 < 2 ^ 64 }
         ensures state { self.new ≡ end_wait numbered self.old t changed }

@@ -5,13 +5,13 @@ use Rattle.std.specs.List.{list_any}
 use Rattle.std.proofs.lemmas.Bool.{and_parts}
 use Rattle.std.proofs.lemmas.List.{get_or-map}
 use Rattle.std.proofs.lemmas.List.Sums.{AllPass-from_list_all}
-use Rattle.fmp_config.specs.declared.machine.TaskRecord.{TaskRecord}
-use Rattle.fmp_config.specs.Setup.{Setup, of_parts, has_member}
-use Rattle.fmp_config.specs.Valid.{IsValid, is_class_of}
-use Rattle.fmp_config.specs.World.{World, no_task}
-use Rattle.fmp_config.specs.Keeping.{Keeping}
-use Rattle.fmp_config.specs.Numbers.{State, numbered}
-use Rattle.fmp_config.specs.Boot.{resting, blank, all_started, boot, booted, unnumbered}
+use Rattle.fmp_machine.specs.declared.machine.TaskRecord.{TaskRecord}
+use Rattle.fmp_machine.specs.Setup.{Setup, of_parts, has_member}
+use Rattle.fmp_machine.specs.Valid.{IsValid, is_class_of}
+use Rattle.fmp_machine.specs.World.{World, no_task}
+use Rattle.fmp_machine.specs.Keeping.{Keeping}
+use Rattle.fmp_machine.specs.Numbers.{State, numbered}
+use Rattle.fmp_machine.specs.Boot.{resting, blank, all_started, boot, booted, unnumbered}
 use Rattle.fmp_safety.specs.Safe.{Safe}
 use Rattle.fmp_safety.specs.Runs.{AreOn, IsSafeThroughout}
 use Rattle.fmp_codes.specs.declared.records.Event.{Event}

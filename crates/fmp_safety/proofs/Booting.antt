@@ -9,14 +9,14 @@ use Rattle.fmp_codes.specs.Numbers.{as_task, within}
 use Rattle.fmp_codes.specs.declared.numbers.Proc.{Proc}
 use Rattle.fmp_codes.specs.declared.numbers.Task.{Task}
 use Rattle.fmp_codes.specs.declared.records.Runner.{Runner}
-use Rattle.fmp_config.specs.declared.setup.TaskSetup.{TaskSetup}
-use Rattle.fmp_config.specs.declared.machine.TaskRecord.{TaskRecord}
-use Rattle.fmp_config.specs.declared.machine.Processor.{Processor}
-use Rattle.fmp_config.specs.Setup.{Setup, of_parts, has_member}
-use Rattle.fmp_config.specs.World.{World, no_task, no_processor, item, first, task, handler, processors_to}
-use Rattle.fmp_config.specs.Keeping.{Keeping, top}
-use Rattle.fmp_config.specs.Tasks.{started, start}
-use Rattle.fmp_config.specs.Boot.{resting, blank, all_started, with_top_running, with_tops_running}
+use Rattle.fmp_machine.specs.declared.setup.TaskSetup.{TaskSetup}
+use Rattle.fmp_machine.specs.declared.machine.TaskRecord.{TaskRecord}
+use Rattle.fmp_machine.specs.declared.machine.Processor.{Processor}
+use Rattle.fmp_machine.specs.Setup.{Setup, of_parts, has_member}
+use Rattle.fmp_machine.specs.World.{World, no_task, no_processor, item, first, task, handler, processors_to}
+use Rattle.fmp_machine.specs.Keeping.{Keeping, top}
+use Rattle.fmp_machine.specs.Tasks.{started, start}
+use Rattle.fmp_machine.specs.Boot.{resting, blank, all_started, with_top_running, with_tops_running}
 use Rattle.fmp_safety.specs.Safe.{IsNumberOf, TaskInRange, TicksInRange, SafeAt, Safe}
 use Rattle.fmp_safety.proofs.Items.{item_after}
 use Rattle.fmp_safety.proofs.Keeps.{Rests, rests_task, rests_processors}

@@ -8,11 +8,11 @@ use Rattle.fmp_codes.specs.declared.numbers.Proc.{Proc}
 use Rattle.fmp_codes.specs.declared.numbers.Task.{Task}
 use Rattle.fmp_codes.specs.declared.codes.Code.{Code}
 use Rattle.fmp_codes.specs.declared.codes.Code.TheVariants as code
-use Rattle.fmp_config.specs.declared.machine.Context.TheVariants as context
-use Rattle.fmp_config.specs.World.{World, processor, handler, is_held}
-use Rattle.fmp_config.specs.Rows.{Row, is_refused_context, first_error, check, called, called_by}
-use Rattle.fmp_config.specs.Keeping.{Keeping}
-use Rattle.fmp_config.specs.Arguments.{caller}
+use Rattle.fmp_machine.specs.declared.machine.Context.TheVariants as context
+use Rattle.fmp_machine.specs.World.{World, processor, handler, is_held}
+use Rattle.fmp_machine.specs.Rows.{Row, is_refused_context, first_error, check, called, called_by}
+use Rattle.fmp_machine.specs.Keeping.{Keeping}
+use Rattle.fmp_machine.specs.Arguments.{caller}
 use Rattle.fmp_safety.specs.Safe.{SafeAt}
 use Rattle.fmp_safety.proofs.Keeps.{Occupied, Keeps, keeps_all}
 

@@ -8,11 +8,11 @@ use Rattle.fmp_codes.specs.declared.numbers.Proc.{Proc}
 use Rattle.fmp_codes.specs.declared.numbers.Task.{Task}
 use Rattle.fmp_codes.specs.declared.records.Runner.{Runner}
 use Rattle.fmp_codes.specs.declared.records.Runner.TheVariants as runner
-use Rattle.fmp_config.specs.declared.machine.Processor.{Processor}
-use Rattle.fmp_config.specs.declared.machine.TaskRecord.{TaskRecord}
-use Rattle.fmp_config.specs.World.{World, no_processor, item, with_item, task, processor, handler, is_held}
-use Rattle.fmp_config.specs.Keeping.{Keeping, top}
-use Rattle.fmp_config.specs.Step.{is_same, tops, is_requested, requests, settle}
+use Rattle.fmp_machine.specs.declared.machine.Processor.{Processor}
+use Rattle.fmp_machine.specs.declared.machine.TaskRecord.{TaskRecord}
+use Rattle.fmp_machine.specs.World.{World, no_processor, item, with_item, task, processor, handler, is_held}
+use Rattle.fmp_machine.specs.Keeping.{Keeping, top}
+use Rattle.fmp_machine.specs.Step.{is_same, tops, is_requested, requests, settle}
 use Rattle.fmp_safety.specs.Safe.{IsNumberOf, may_run_on, SafeAt, RunsOnce, Safe}
 use Rattle.fmp_safety.proofs.Items.{proc_same, task_same, item_after, item_same, item_other}
 use Rattle.fmp_safety.proofs.Keeps.{Rests, Keeps, rests_processors}

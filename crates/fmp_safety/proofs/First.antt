@@ -5,9 +5,9 @@ use Rattle.std.proofs.lemmas.Bool.{cases_eq, both_ways, cond_both, or_cases, or_
 use Rattle.fmp_codes.specs.Numbers.{as_task, within}
 use Rattle.fmp_codes.specs.declared.numbers.Proc.{Proc}
 use Rattle.fmp_codes.specs.declared.numbers.Task.{Task}
-use Rattle.fmp_config.specs.World.{item, first}
-use Rattle.fmp_config.specs.Keeping.{top}
-use Rattle.fmp_config.specs.Numbers.{State, numbered, inserted, inserted_if, in_order, comes_before, priority_in, is_ready_on}
+use Rattle.fmp_machine.specs.World.{item, first}
+use Rattle.fmp_machine.specs.Keeping.{top}
+use Rattle.fmp_machine.specs.Numbers.{State, numbered, inserted, inserted_if, in_order, comes_before, priority_in, is_ready_on}
 use Rattle.fmp_safety.specs.First.{IsStrict, IsFirst}
 use Rattle.fmp_safety.proofs.Items.{task_same}
 

@@ -11,13 +11,13 @@ use Rattle.fmp_codes.specs.declared.records.Answer.TheVariants as answer
 use Rattle.fmp_codes.specs.declared.records.Event.{Event}
 use Rattle.fmp_codes.specs.declared.records.Event.TheVariants as event
 use Rattle.fmp_codes.specs.declared.records.Record.{Record}
-use Rattle.fmp_config.specs.declared.machine.Processor.{Processor}
-use Rattle.fmp_config.specs.World.{World, no_processor, item, with_item, processor, handler, runner_of, is_held}
-use Rattle.fmp_config.specs.Keeping.{Keeping, top}
-use Rattle.fmp_config.specs.declared.effect.Effect.{Effect}
-use Rattle.fmp_config.specs.Rows.{called, plain}
-use Rattle.fmp_config.specs.Tick.{tick}
-use Rattle.fmp_config.specs.Step.{is_same, tops, is_requested, requests, settle, row_of, settled, front_of, unchanged, step}
+use Rattle.fmp_machine.specs.declared.machine.Processor.{Processor}
+use Rattle.fmp_machine.specs.World.{World, no_processor, item, with_item, processor, handler, runner_of, is_held}
+use Rattle.fmp_machine.specs.Keeping.{Keeping, top}
+use Rattle.fmp_machine.specs.declared.effect.Effect.{Effect}
+use Rattle.fmp_machine.specs.Rows.{called, plain}
+use Rattle.fmp_machine.specs.Tick.{tick}
+use Rattle.fmp_machine.specs.Step.{is_same, tops, is_requested, requests, settle, row_of, settled, front_of, unchanged, step}
 use Rattle.fmp_safety.specs.Safe.{IsNumberOf, SafeAt}
 use Rattle.fmp_safety.specs.Runs.{processor_of}
 use Rattle.fmp_safety.specs.Laws.{FindsNothing, TakesRequest, Settles, RunsTop}

@@ -6,7 +6,7 @@ use Rattle.std.proofs.lemmas.Bool.{cases_eq, cases_lt}
 use Rattle.std.proofs.lemmas.List.{get_or-set_same, get_or-set_other, length-set, get_or_past}
 use Rattle.fmp_codes.specs.declared.numbers.Proc.{Proc}
 use Rattle.fmp_codes.specs.declared.numbers.Task.{Task}
-use Rattle.fmp_config.specs.World.{item, with_item}
+use Rattle.fmp_machine.specs.World.{item, with_item}
 
 made_same : {A : Type 0} (most : ℕ) (make : (n : ℕ) → 1 ≤ n → n ≤ most → A) (n k : ℕ) → n ≡ k →
     (l : 1 ≤ n) (m : n ≤ most) (l' : 1 ≤ k) (m' : k ≤ most) → make n l m ≡ make k l' m'

@@ -8,14 +8,14 @@ use Rattle.fmp_codes.specs.declared.numbers.Proc.{Proc}
 use Rattle.fmp_codes.specs.declared.numbers.Task.{Task}
 use Rattle.fmp_codes.specs.declared.numbers.Object.{Object}
 use Rattle.fmp_codes.specs.declared.records.Runner.{Runner}
-use Rattle.fmp_config.specs.declared.machine.TaskRecord.{TaskRecord}
-use Rattle.fmp_config.specs.declared.machine.Processor.{Processor}
-use Rattle.fmp_config.specs.declared.machine.Wait.{Wait}
-use Rattle.fmp_config.specs.declared.machine.Wait.TheVariants as wait
-use Rattle.fmp_config.specs.declared.machine.QueueKind.{QueueKind}
-use Rattle.fmp_config.specs.declared.machine.QueueKind.TheVariants as kind
-use Rattle.fmp_config.specs.World.{World, no_task, no_processor, item, with_item, task, processor, handler, runner_of, is_held}
-use Rattle.fmp_config.specs.Keeping.{waits_in}
+use Rattle.fmp_machine.specs.declared.machine.TaskRecord.{TaskRecord}
+use Rattle.fmp_machine.specs.declared.machine.Processor.{Processor}
+use Rattle.fmp_machine.specs.declared.machine.Wait.{Wait}
+use Rattle.fmp_machine.specs.declared.machine.Wait.TheVariants as wait
+use Rattle.fmp_machine.specs.declared.machine.QueueKind.{QueueKind}
+use Rattle.fmp_machine.specs.declared.machine.QueueKind.TheVariants as kind
+use Rattle.fmp_machine.specs.World.{World, no_task, no_processor, item, with_item, task, processor, handler, runner_of, is_held}
+use Rattle.fmp_machine.specs.Keeping.{waits_in}
 use Rattle.fmp_safety.specs.Objects.{holder}
 use Rattle.fmp_safety.specs.Safe.{IsNumberOf, may_run_on, MayWait, TaskInRange, TicksInRange, InRange}
 use Rattle.fmp_safety.proofs.Items.{task_same, place_same, item_after, item_same, item_other, all_after}

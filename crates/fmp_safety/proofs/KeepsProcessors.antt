@@ -7,9 +7,9 @@ use Rattle.std.proofs.lemmas.List.{length-set}
 use Rattle.std.proofs.Math.ListN.{get_or-map}
 use Rattle.std.proofs.lemmas.Option.{none-some, same_Some}
 use Rattle.fmp_codes.specs.declared.numbers.Proc.{Proc}
-use Rattle.fmp_config.specs.declared.machine.Processor.{Processor}
-use Rattle.fmp_config.specs.World.{World, processor}
-use Rattle.fmp_config.specs.Processors.{is_at, with_lock, holds_lock, unlocked, opened}
+use Rattle.fmp_machine.specs.declared.machine.Processor.{Processor}
+use Rattle.fmp_machine.specs.World.{World, processor}
+use Rattle.fmp_machine.specs.Processors.{is_at, with_lock, holds_lock, unlocked, opened}
 use Rattle.fmp_safety.specs.Objects.{holder}
 use Rattle.fmp_safety.specs.Safe.{IsNumberOf}
 use Rattle.fmp_safety.proofs.Items.{proc_same}

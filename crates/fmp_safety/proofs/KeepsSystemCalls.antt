@@ -4,12 +4,12 @@ use Rattle.std.specs.Prelude.{is_some}
 use Rattle.fmp_codes.specs.declared.numbers.Proc.{Proc}
 use Rattle.fmp_codes.specs.declared.calls.SystemCall.{SystemCall}
 use Rattle.fmp_codes.specs.declared.calls.SystemCall.TheVariants as call
-use Rattle.fmp_config.specs.World.{World, processor, handler, is_held}
-use Rattle.fmp_config.specs.Keeping.{Keeping}
-use Rattle.fmp_config.specs.Rows.{Row, row, called, done}
-use Rattle.fmp_config.specs.Processors.{with_dispatching_disabled, holds_lock}
+use Rattle.fmp_machine.specs.World.{World, processor, handler, is_held}
+use Rattle.fmp_machine.specs.Keeping.{Keeping}
+use Rattle.fmp_machine.specs.Rows.{Row, row, called, done}
+use Rattle.fmp_machine.specs.Processors.{with_dispatching_disabled, holds_lock}
 use Rattle.fmp_codes.specs.declared.codes.Code.TheVariants as code
-use Rattle.fmp_config.specs.SystemCalls.{get_tid, get_pid, loc_cpu, unl_cpu, sense, system_row}
+use Rattle.fmp_machine.specs.SystemCalls.{get_tid, get_pid, loc_cpu, unl_cpu, sense, system_row}
 use Rattle.fmp_safety.specs.Safe.{IsNumberOf, Safe}
 use Rattle.fmp_safety.proofs.Keeps.{Occupied, Keeps, keeps_all}
 use Rattle.fmp_safety.proofs.KeepsProcessors.{keeps_flags, keeps_unlocked_alone}

@@ -9,15 +9,15 @@ use Rattle.fmp_codes.specs.declared.numbers.Proc.{Proc}
 use Rattle.fmp_codes.specs.declared.numbers.Task.{Task}
 use Rattle.fmp_codes.specs.declared.calls.TaskCall.{TaskCall}
 use Rattle.fmp_codes.specs.declared.calls.TaskCall.TheVariants as call
-use Rattle.fmp_config.specs.declared.machine.Processor.{Processor}
-use Rattle.fmp_config.specs.Setup.{has_member}
-use Rattle.fmp_config.specs.World.{World, task, processor, handler, is_held}
-use Rattle.fmp_config.specs.Keeping.{Keeping, note}
-use Rattle.fmp_config.specs.Tasks.{ended, start, activate, finish}
-use Rattle.fmp_config.specs.Rows.{called}
-use Rattle.fmp_config.specs.Arguments.{caller, task_or_caller}
-use Rattle.fmp_config.specs.Processors.{opened}
-use Rattle.fmp_config.specs.TaskCalls.{act, ext_tsk, task_row}
+use Rattle.fmp_machine.specs.declared.machine.Processor.{Processor}
+use Rattle.fmp_machine.specs.Setup.{has_member}
+use Rattle.fmp_machine.specs.World.{World, task, processor, handler, is_held}
+use Rattle.fmp_machine.specs.Keeping.{Keeping, note}
+use Rattle.fmp_machine.specs.Tasks.{ended, start, activate, finish}
+use Rattle.fmp_machine.specs.Rows.{called}
+use Rattle.fmp_machine.specs.Arguments.{caller, task_or_caller}
+use Rattle.fmp_machine.specs.Processors.{opened}
+use Rattle.fmp_machine.specs.TaskCalls.{act, ext_tsk, task_row}
 use Rattle.fmp_safety.specs.Safe.{IsNumberOf, TaskInRange, TicksInRange, Safe}
 use Rattle.fmp_safety.proofs.Keeps.{Occupied, Keeps, keeps_then, keeps_task, occupied_by_task}
 use Rattle.fmp_safety.proofs.KeepsTasks.{becomes_noted, becomes_started, becomes_ended}

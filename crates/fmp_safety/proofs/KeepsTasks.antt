@@ -5,12 +5,12 @@ use Rattle.std.proofs.lemmas.Bool.{and_parts, both_ways, cond_both, eqb-true, tr
 use Rattle.std.proofs.lemmas.Option.{none-some}
 use Rattle.fmp_codes.specs.declared.numbers.Proc.{Proc}
 use Rattle.fmp_codes.specs.declared.numbers.Task.{Task}
-use Rattle.fmp_config.specs.declared.setup.Class.{Class}
-use Rattle.fmp_config.specs.declared.setup.Limits.{Limits}
-use Rattle.fmp_config.specs.declared.machine.TaskRecord.{TaskRecord}
-use Rattle.fmp_config.specs.Setup.{has_member}
-use Rattle.fmp_config.specs.World.{World, task, is_held}
-use Rattle.fmp_config.specs.Tasks.{started, ended}
+use Rattle.fmp_machine.specs.declared.setup.Class.{Class}
+use Rattle.fmp_machine.specs.declared.setup.Limits.{Limits}
+use Rattle.fmp_machine.specs.declared.machine.TaskRecord.{TaskRecord}
+use Rattle.fmp_machine.specs.Setup.{has_member}
+use Rattle.fmp_machine.specs.World.{World, task, is_held}
+use Rattle.fmp_machine.specs.Tasks.{started, ended}
 use Rattle.fmp_safety.specs.Safe.{may_run_on, TaskInRange}
 use Rattle.fmp_safety.proofs.Keeps.{Becomes}
 

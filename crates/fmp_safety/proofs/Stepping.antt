@@ -9,13 +9,13 @@ use Rattle.fmp_codes.specs.declared.calls.Call.TheVariants as call
 use Rattle.fmp_codes.specs.declared.records.Event.{Event}
 use Rattle.fmp_codes.specs.declared.records.Event.TheVariants as event
 use Rattle.fmp_codes.specs.declared.records.Record.{Record}
-use Rattle.fmp_config.specs.declared.machine.TaskRecord.{TaskRecord}
-use Rattle.fmp_config.specs.declared.machine.Wait.{Wait}
-use Rattle.fmp_config.specs.World.{World, task, processor, handler, runner_of, is_held}
-use Rattle.fmp_config.specs.Keeping.{Keeping, is_runnable}
-use Rattle.fmp_config.specs.Numbers.{State, numbered, is_ready_on, comes_before, priority_in}
-use Rattle.fmp_config.specs.Rows.{called}
-use Rattle.fmp_config.specs.Step.{tops, settle, row_of, settled, front_of, unchanged, step, replay}
+use Rattle.fmp_machine.specs.declared.machine.TaskRecord.{TaskRecord}
+use Rattle.fmp_machine.specs.declared.machine.Wait.{Wait}
+use Rattle.fmp_machine.specs.World.{World, task, processor, handler, runner_of, is_held}
+use Rattle.fmp_machine.specs.Keeping.{Keeping, is_runnable}
+use Rattle.fmp_machine.specs.Numbers.{State, numbered, is_ready_on, comes_before, priority_in}
+use Rattle.fmp_machine.specs.Rows.{called}
+use Rattle.fmp_machine.specs.Step.{tops, settle, row_of, settled, front_of, unchanged, step, replay}
 use Rattle.fmp_safety.specs.First.{IsFirst}
 use Rattle.fmp_safety.specs.Runs.{processor_of, AreOn, IsSafeThroughout}
 use Rattle.fmp_safety.specs.Safe.{IsNumberOf, may_run_on, Safe}

@@ -4,8 +4,8 @@ use Rattle.fmp_codes.specs.declared.records.Event.{Event}
 use Rattle.fmp_codes.specs.declared.records.Event.TheVariants as event
 use Rattle.fmp_codes.specs.declared.records.Answer.TheVariants as answer
 use Rattle.fmp_codes.specs.declared.records.Record.{Record}
-use Rattle.fmp_config.specs.World.{World, processor, is_held}
-use Rattle.fmp_config.specs.Keeping.{Keeping, top}
+use Rattle.fmp_machine.specs.World.{World, processor, is_held}
+use Rattle.fmp_machine.specs.Keeping.{Keeping, top}
 use Rattle.fmp_safety.specs.Safe.{Safe}
 use Rattle.fmp_safety.specs.Runs.{processor_of}
 

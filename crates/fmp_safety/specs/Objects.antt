@@ -5,12 +5,12 @@ use Rattle.fmp_codes.specs.declared.numbers.Proc.{Proc}
 use Rattle.fmp_codes.specs.declared.numbers.Object.{Object}
 use Rattle.fmp_codes.specs.declared.calls.Mode.{Mode}
 use Rattle.fmp_codes.specs.declared.calls.Mode.TheVariants as mode
-use Rattle.fmp_config.specs.declared.setup.Order.TheVariants as order
-use Rattle.fmp_config.specs.declared.setup.DataQueueSetup.{DataQueueSetup}
-use Rattle.fmp_config.specs.declared.machine.Semaphore.{Semaphore}
-use Rattle.fmp_config.specs.declared.machine.Eventflag.{Eventflag}
-use Rattle.fmp_config.specs.declared.machine.Pool.{Pool}
-use Rattle.fmp_config.specs.World.{World, item}
+use Rattle.fmp_machine.specs.declared.setup.Order.TheVariants as order
+use Rattle.fmp_machine.specs.declared.setup.DataQueueSetup.{DataQueueSetup}
+use Rattle.fmp_machine.specs.declared.machine.Semaphore.{Semaphore}
+use Rattle.fmp_machine.specs.declared.machine.Eventflag.{Eventflag}
+use Rattle.fmp_machine.specs.declared.machine.Pool.{Pool}
+use Rattle.fmp_machine.specs.World.{World, item}
 
 abbrev pub semaphore : {Q : Type 0} → World Q → Object → Semaphore
 semaphore w s = item (record { setup = record { order = order.First; initial = 0; most = 1 }; count = 0 }) w.semaphores s.number

@@ -3,8 +3,8 @@ use Rattle.std.specs.Prelude.{ℕ, ◌≤◌, List, All, take}
 use Rattle.fmp_codes.specs.declared.numbers.Proc.{Proc}
 use Rattle.fmp_codes.specs.declared.records.Event.{Event}
 use Rattle.fmp_codes.specs.declared.records.Event.TheVariants as event
-use Rattle.fmp_config.specs.Numbers.{State, numbered}
-use Rattle.fmp_config.specs.Step.{replay}
+use Rattle.fmp_machine.specs.Numbers.{State, numbered}
+use Rattle.fmp_machine.specs.Step.{replay}
 use Rattle.fmp_safety.specs.Safe.{Safe}
 
 abbrev pub processor_of : Event → Proc

@@ -3,15 +3,15 @@ use Rattle.std.specs.Prelude.{◌≡◌, ℕ, ◌≤◌, Bool, true, false, ◌&
 use Rattle.fmp_codes.specs.declared.numbers.Proc.{Proc}
 use Rattle.fmp_codes.specs.declared.numbers.Task.{Task}
 use Rattle.fmp_codes.specs.declared.numbers.Object.{Object}
-use Rattle.fmp_config.specs.declared.setup.Limits.{Limits}
-use Rattle.fmp_config.specs.declared.machine.TaskRecord.{TaskRecord}
-use Rattle.fmp_config.specs.declared.machine.Cyclic.{Cyclic}
-use Rattle.fmp_config.specs.declared.machine.Wait.{Wait}
-use Rattle.fmp_config.specs.declared.machine.Wait.TheVariants as wait
-use Rattle.fmp_config.specs.declared.machine.QueueKind.TheVariants as kind
-use Rattle.fmp_config.specs.Setup.{has_member}
-use Rattle.fmp_config.specs.World.{World, task, processor, runner_of, is_held}
-use Rattle.fmp_config.specs.Keeping.{Keeping, top, waits_in}
+use Rattle.fmp_machine.specs.declared.setup.Limits.{Limits}
+use Rattle.fmp_machine.specs.declared.machine.TaskRecord.{TaskRecord}
+use Rattle.fmp_machine.specs.declared.machine.Cyclic.{Cyclic}
+use Rattle.fmp_machine.specs.declared.machine.Wait.{Wait}
+use Rattle.fmp_machine.specs.declared.machine.Wait.TheVariants as wait
+use Rattle.fmp_machine.specs.declared.machine.QueueKind.TheVariants as kind
+use Rattle.fmp_machine.specs.Setup.{has_member}
+use Rattle.fmp_machine.specs.World.{World, task, processor, runner_of, is_held}
+use Rattle.fmp_machine.specs.Keeping.{Keeping, top, waits_in}
 use Rattle.fmp_safety.specs.Objects.{semaphore, eventflag, data_queue, values, free_block, holder, holds}
 
 -- n is the number of one of these

@@ -6,10 +6,10 @@ use Rattle.std.proofs.lemmas.Bool.{cases_Bool, false≢true}
 use Rattle.std.proofs.lemmas.Slice.Eq.{bytes_eq-Decides}
 use Rattle.fmp_codes.specs.declared.records.Record.{Record}
 use Rattle.fmp_bytes.specs.Bytes.{pieces_of}
-use Rattle.fmp_config.specs.Boot.{booted}
-use Rattle.fmp_config.specs.Numbers.{State, numbered}
-use Rattle.fmp_config.specs.Setup.{Setup}
-use Rattle.fmp_config.specs.Step.{step, answers}
+use Rattle.fmp_machine.specs.Boot.{booted}
+use Rattle.fmp_machine.specs.Numbers.{State, numbered}
+use Rattle.fmp_machine.specs.Setup.{Setup}
+use Rattle.fmp_machine.specs.Step.{step, answers}
 use Rattle.fmp_text.specs.declared.fault.TextFault.{TextFault}
 use Rattle.fmp_text.specs.Events.{IsMemory}
 use Rattle.fmp_trace.specs.Reading.{GivesOrFails}

@@ -2,7 +2,7 @@
 ghost use Rattle.std.specs.Prelude.{◌≡◌, ◌≤◌, ◌<◌, ◌+◌, ◌⊎◌, List, length, Ok, IfOk, IfErr, OnOk};
 ghost use Rattle.std.specs.Option.{ok_or};
 ghost use Rattle.fmp_bytes.specs.Bytes.{pieces_of};
-ghost use Rattle.fmp_config.specs.Boot.{booted};
+ghost use Rattle.fmp_machine.specs.Boot.{booted};
 ghost use Rattle.fmp_codes.specs.declared.records.Record.{Record as AnyRecord};
 ghost use Rattle.fmp_text.specs.Events.{IsMemory};
 ghost use Rattle.fmp_trace.specs.Checking.{Judges, own_text};
@@ -14,7 +14,7 @@ ghost use Rattle.fmp_trace.specs.Checking as spec;
 use crate::guess::guess;
 use crate::reading::{fault, is_line, line_record, next_line};
 use fmp_codes::Record;
-use fmp_config::Config;
+use fmp_machine::Config;
 use fmp_plain::Plain;
 use fmp_text::{MOST_BYTES, Names, TextFault, TextKind};
 use std::alloc::Global;

@@ -10,7 +10,7 @@ use Rattle.fmp_text.specs.Names.{NameLists}
 use Rattle.fmp_text.specs.Events.{reading_of, faultless, fault_at}
 use Rattle.fmp_statements.specs.declared.fault.ConfigKind.TheVariants as config_kind
 use Rattle.fmp_config.specs.declared.reading.TheConstants.{MOST_BYTES as MOST_CONFIG_BYTES}
-use Rattle.fmp_config.specs.Setup.{Setup}
+use Rattle.fmp_machine.specs.Setup.{Setup}
 use Rattle.fmp_config.specs.Statements.{config_in}
 
 -- any function of a text that answers one thing past the limit

@@ -3,7 +3,7 @@ use Rattle.std.specs.Prelude.{◌≡◌, ◌⊎◌, ℕ, List, ◌++◌, Ok, cod
 use Rattle.fmp_text.specs.Events.{IsMemory}
 use Rattle.fmp_text.specs.Names.{NameLists}
 use Rattle.fmp_config.specs.Statements.{config_in}
-use Rattle.fmp_config.specs.Setup.{Setup}
+use Rattle.fmp_machine.specs.Setup.{Setup}
 use Rattle.fmp_trace.specs.declared.checking.Verdict.{Verdict}
 use Rattle.fmp_trace.specs.declared.checking.Verdict.TheVariants.{Yes, No}
 use Rattle.fmp_trace.specs.Checking.{Judges}

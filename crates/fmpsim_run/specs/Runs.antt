@@ -7,10 +7,10 @@ use Rattle.fmp_text.specs.Names.{NameLists}
 use Rattle.fmp_config.specs.Statements.{config_in}
 use Rattle.fmp_config.specs.declared.fault.ConfigFault.{ConfigFault}
 use Rattle.fmp_config.specs.Faults.{FaultIs}
-use Rattle.fmp_config.specs.Setup.{Setup}
-use Rattle.fmp_config.specs.Boot.{booted}
-use Rattle.fmp_config.specs.Numbers.{numbered}
-use Rattle.fmp_config.specs.Step.{answers}
+use Rattle.fmp_machine.specs.Setup.{Setup}
+use Rattle.fmp_machine.specs.Boot.{booted}
+use Rattle.fmp_machine.specs.Numbers.{numbered}
+use Rattle.fmp_machine.specs.Step.{answers}
 use Rattle.fmp_safety.specs.Runs.{IsSafeThroughout}
 use Rattle.fmp_trace.specs.Lines.{lines_from}
 use Rattle.fmpsim_run.specs.declared.fault.RunFault.{RunFault}

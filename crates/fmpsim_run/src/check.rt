@@ -10,7 +10,7 @@ use crate::sink::{Sink, write_all};
 use crate::source::Source;
 use crate::texts::config_from;
 use crate::whole::read_up_to;
-use fmp_config::Config;
+use fmp_machine::Config;
 use fmp_trace::{Verdict, check};
 use itoa::Buffer;
 use std::alloc::{AllocError, Global};

@@ -1,12 +1,12 @@
 //! The answers to a list of events.
 ghost use Rattle.std.specs.Prelude.{◌≡◌, ◌≤◌, length, IfOk};
-ghost use Rattle.fmp_config.specs.Boot.{booted};
-ghost use Rattle.fmp_config.specs.Numbers.{numbered};
-ghost use Rattle.fmp_config.specs.Step.{answers};
+ghost use Rattle.fmp_machine.specs.Boot.{booted};
+ghost use Rattle.fmp_machine.specs.Numbers.{numbered};
+ghost use Rattle.fmp_machine.specs.Step.{answers};
 ghost use Rattle.fmp_safety.specs.Runs.{AreOn, IsSafeThroughout};
 
 use fmp_codes::{Event, Record};
-use fmp_config::Config;
+use fmp_machine::Config;
 use fmp_plain::Plain;
 use std::alloc::{AllocError, Global};
 

@@ -1,5 +1,5 @@
 use Rattle.std.proofs.Common.{sym, arith}
-use Rattle.fmp_config.specs.Numbers.{numbered}
+use Rattle.fmp_machine.specs.Numbers.{numbered}
 use Rattle.fmp_plain.proofs.Processors.{with_tops_running-more}
 use Rattle.fmp_plain.proofs.boot.run_tops.Goals as goal
 

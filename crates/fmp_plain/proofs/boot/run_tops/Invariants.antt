@@ -1,7 +1,7 @@
 use Rattle.std.proofs.Common.{◌≡◌}
-use Rattle.fmp_config.specs.World.{processors_to}
-use Rattle.fmp_config.specs.Boot.{with_tops_running}
-use Rattle.fmp_config.specs.Numbers.{numbered}
+use Rattle.fmp_machine.specs.World.{processors_to}
+use Rattle.fmp_machine.specs.Boot.{with_tops_running}
+use Rattle.fmp_machine.specs.Numbers.{numbered}
 use Rattle.fmp_plain.proofs.boot.run_tops.Given as goal
 
 abbrev pub invariant-loop-index : goal.invariant-loop-index

@@ -1,6 +1,6 @@
 use Rattle.std.proofs.Common.{◌≡◌, ◌+◌, ◌≤◌, drop}
-use Rattle.fmp_config.specs.Boot.{all_started}
-use Rattle.fmp_config.specs.Numbers.{numbered}
+use Rattle.fmp_machine.specs.Boot.{all_started}
+use Rattle.fmp_machine.specs.Numbers.{numbered}
 use Rattle.fmp_plain.proofs.boot.start_all.Given as goal
 
 abbrev pub invariant-loop-index : goal.invariant-loop-index

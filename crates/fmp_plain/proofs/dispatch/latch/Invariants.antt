@@ -1,5 +1,5 @@
 use Rattle.std.proofs.Common.{◌≡◌, drop}
-use Rattle.fmp_config.specs.Step.{latched}
+use Rattle.fmp_machine.specs.Step.{latched}
 use Rattle.fmp_plain.proofs.dispatch.latch.Given as goal
 
 abbrev pub invariant-loop-p : goal.invariant-loop-p

@@ -1,7 +1,7 @@
 use Rattle.std.proofs.Common.{◌≡◌, true, false, Bool, subst, sym, ◌∙◌, length-append, arith}
 use Rattle.fmp_codes.specs.declared.numbers.Proc.{Proc}
-use Rattle.fmp_config.specs.Numbers.{numbered}
-use Rattle.fmp_config.specs.Step.{is_requested}
+use Rattle.fmp_machine.specs.Numbers.{numbered}
+use Rattle.fmp_machine.specs.Step.{is_requested}
 use Rattle.fmp_plain.proofs.Processors.{filter-processors_to-taken, filter-processors_to-left}
 use Rattle.fmp_plain.proofs.dispatch.requests.Goals as goal
 use Rattle.fmp_plain.proofs.dispatch.requests.Goals.{then-is_requested, else-is_requested}

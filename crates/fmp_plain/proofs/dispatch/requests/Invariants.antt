@@ -1,7 +1,7 @@
 use Rattle.std.proofs.Common.{◌≡◌, ◌≤◌, length, filter}
-use Rattle.fmp_config.specs.World.{processors_to}
-use Rattle.fmp_config.specs.Numbers.{numbered}
-use Rattle.fmp_config.specs.Step.{is_requested}
+use Rattle.fmp_machine.specs.World.{processors_to}
+use Rattle.fmp_machine.specs.Numbers.{numbered}
+use Rattle.fmp_machine.specs.Step.{is_requested}
 use Rattle.fmp_plain.proofs.dispatch.requests.Given as goal
 
 abbrev pub invariant-loop-index : goal.invariant-loop-index

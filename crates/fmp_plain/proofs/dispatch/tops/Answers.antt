@@ -1,6 +1,6 @@
 use Rattle.std.proofs.Common.{sym, arith}
-use Rattle.fmp_config.specs.Keeping.{top}
-use Rattle.fmp_config.specs.Numbers.{numbered}
+use Rattle.fmp_machine.specs.Keeping.{top}
+use Rattle.fmp_machine.specs.Numbers.{numbered}
 use Rattle.fmp_plain.proofs.Processors.{map-processors_to-more}
 use Rattle.fmp_plain.proofs.dispatch.tops.Goals as goal
 

@@ -1,7 +1,7 @@
 use Rattle.std.proofs.Common.{◌≡◌, length, map}
-use Rattle.fmp_config.specs.World.{processors_to}
-use Rattle.fmp_config.specs.Keeping.{top}
-use Rattle.fmp_config.specs.Numbers.{numbered}
+use Rattle.fmp_machine.specs.World.{processors_to}
+use Rattle.fmp_machine.specs.Keeping.{top}
+use Rattle.fmp_machine.specs.Numbers.{numbered}
 use Rattle.fmp_plain.proofs.dispatch.tops.Given as goal
 
 abbrev pub invariant-loop-index : goal.invariant-loop-index

@@ -1,4 +1,4 @@
-use Rattle.fmp_config.specs.Numbers.{numbered}
+use Rattle.fmp_machine.specs.Numbers.{numbered}
 use Rattle.fmp_safety.proofs.Interrupts.{finds_nothing, takes_request, runs_top}
 use Rattle.fmp_safety.proofs.laws.interrupts_dispatch.Goals as goal
 

@@ -1,4 +1,4 @@
-use Rattle.fmp_config.specs.Numbers.{numbered}
+use Rattle.fmp_machine.specs.Numbers.{numbered}
 use Rattle.fmp_safety.specs.Runs.{processor_of}
 use Rattle.fmp_safety.proofs.Stepping.{numbered_tops, safe_step}
 use Rattle.fmp_safety.proofs.Booted.{booted_safe, runs_safe}

@@ -1,6 +1,6 @@
 use Rattle.std.proofs.Common.{◌≡◌, ◌≤◌, ◌+◌, length}
 use Rattle.fmp_bytes.specs.Bytes.{pieces_of}
-use Rattle.fmp_config.specs.Boot.{booted}
+use Rattle.fmp_machine.specs.Boot.{booted}
 use Rattle.fmp_trace.specs.Checking.{verdict_from}
 use Rattle.fmp_trace.proofs.checking.compare.Given as goal
 

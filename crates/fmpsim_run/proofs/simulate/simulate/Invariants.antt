@@ -1,8 +1,8 @@
 use Rattle.std.proofs.Common.{◌≡◌, ◌≤◌, ◌++◌, length, drop}
 use Rattle.std.specs.Vec.{vec_capacity}
-use Rattle.fmp_config.specs.Boot.{booted}
-use Rattle.fmp_config.specs.Numbers.{numbered}
-use Rattle.fmp_config.specs.Step.{answers}
+use Rattle.fmp_machine.specs.Boot.{booted}
+use Rattle.fmp_machine.specs.Numbers.{numbered}
+use Rattle.fmp_machine.specs.Step.{answers}
 use Rattle.fmpsim_run.proofs.simulate.simulate.Given as goal
 
 abbrev pub invariant-loop-event : goal.invariant-loop-event

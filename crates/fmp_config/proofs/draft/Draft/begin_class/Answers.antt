@@ -1,5 +1,5 @@
-use Rattle.fmp_config.specs.Parts.{setup_of}
-use Rattle.fmp_config.proofs.Growing.{named_is_sound}
+use Rattle.fmp_machine.specs.Parts.{setup_of}
+use Rattle.fmp_machine.proofs.Growing.{named_is_sound}
 use Rattle.fmp_config.proofs.draft.Draft.begin_class.Goals as goal
 
 pub returns-clause-sound : goal.returns-clause-sound

@@ -1,9 +1,9 @@
 use Rattle.std.proofs.Common.{◌≡◌, refl, arith}
 use Rattle.fmp_statements.specs.declared.table.StatementName.TheVariants.{CreTsk}
 use Rattle.fmp_statements.specs.Cursor.{first_text}
-use Rattle.fmp_config.specs.Parts.{setup_of}
+use Rattle.fmp_machine.specs.Parts.{setup_of}
 use Rattle.fmp_config.specs.Reading.{part}
-use Rattle.fmp_config.proofs.Growing.{name_part, task_created}
+use Rattle.fmp_config.proofs.Sound.{name_part, task_created}
 use Rattle.fmp_config.proofs.draft.Draft.create_task.Goals as goal
 
 pub add_task-requires-clause-name : goal.add_task-requires-clause-name

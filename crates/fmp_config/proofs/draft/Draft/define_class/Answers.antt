@@ -2,9 +2,9 @@ use Rattle.std.proofs.Common.{◌≡◌, true, refl, arith}
 use Rattle.fmp_text.specs.Names.{is_name}
 use Rattle.fmp_statements.specs.declared.table.StatementName.TheVariants.{DefClass}
 use Rattle.fmp_statements.specs.Cursor.{first_text}
-use Rattle.fmp_config.specs.Parts.{setup_of}
+use Rattle.fmp_machine.specs.Parts.{setup_of}
 use Rattle.fmp_config.specs.Reading.{part}
-use Rattle.fmp_config.proofs.Growing.{class_defined, name_part}
+use Rattle.fmp_config.proofs.Sound.{class_defined, name_part}
 use Rattle.fmp_config.proofs.draft.Draft.define_class.Goals as goal
 
 pub returns-clause-sound : goal.returns-clause-sound

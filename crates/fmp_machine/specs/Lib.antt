@@ -1,0 +1,17 @@
+pub mod Setup
+pub mod Valid
+pub mod World
+pub mod Keeping
+pub mod Tasks
+pub mod Numbers
+pub mod Arguments
+pub mod Rows
+pub mod Processors
+pub mod TaskCalls
+pub mod SystemCalls
+pub mod Tick
+pub mod Step
+pub mod Boot
+pub mod Outcomes
+pub mod Parts
+pub mod Building

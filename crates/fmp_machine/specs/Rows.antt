@@ -1,0 +1,96 @@
+-- What is written of each call: where it may come from, its errors in order, and what it does.
+use Rattle.std.specs.Prelude.{ℤ, Bool, true, false, not, ◌&&◌, ◌||◌, Option, None, Some, List, [], ◌∷◌, if◌then◌else◌, unwrap_or, is_some}
+use Rattle.fmp_codes.specs.Numbers.{as_task}
+use Rattle.fmp_codes.specs.declared.numbers.Proc.{Proc}
+use Rattle.fmp_codes.specs.declared.numbers.Task.{Task}
+use Rattle.fmp_codes.specs.declared.codes.Code.{Code}
+use Rattle.fmp_codes.specs.declared.codes.Code.TheVariants as code
+use Rattle.fmp_codes.specs.declared.records.Answer.{Answer}
+use Rattle.fmp_codes.specs.declared.records.Answer.TheVariants as answer
+use Rattle.fmp_machine.specs.declared.effect.Effect.{Effect}
+use Rattle.fmp_machine.specs.declared.machine.Context.{Context}
+use Rattle.fmp_machine.specs.declared.machine.Context.TheVariants as context
+use Rattle.fmp_machine.specs.declared.machine.Rule.{Rule}
+use Rattle.fmp_machine.specs.World.{World, processor, handler, is_held}
+
+pub record Row (Q : Type 0) : Type 0 where
+  pub rule : Rule  -- when the call may be made
+  pub known : Bool  -- each ID is that of an object
+  pub proper : Bool  -- each other argument is in its range
+  pub errors : List (Bool × Code)  -- the errors on the state, in order
+  pub effect : World Q × Effect  -- what an accepted call does
+
+-- the context is another than the call's; a call from a task needs one that runs
+abbrev pub is_wrong_context : Context → Bool → Bool → Bool
+is_wrong_context context.Task has_handler has_task = has_handler || not has_task
+is_wrong_context context.Handler has_handler has_task = not has_handler
+is_wrong_context context.Any has_handler has_task = false
+
+-- the call may not be made on p now
+abbrev pub is_refused_context : {Q : Type 0} → World Q → Proc → Rule → Bool
+is_refused_context w p rule =
+    is_wrong_context rule.context (is_some (handler w p)) (is_some (processor w p).running)
+    || ((processor w p).locked && not rule.when_locked)
+    || (rule.unheld && is_held w p)
+
+-- the code of the first test that passes
+abbrev pub first_error : List (Bool × Code) → Option Code
+first_error [] = None
+first_error (e ∷ es) = if e.0 then Some e.1 else first_error es
+
+-- the first error of a call that applies
+abbrev pub check : {Q : Type 0} → World Q → Proc → Row Q → Option Code
+check w p row =
+    first_error (
+    (is_refused_context w p row.rule, code.Context)
+    ∷ (not row.known, code.Identifier)
+    ∷ (not row.proper, code.Parameter)
+    ∷ row.errors)
+
+-- an answer and nothing else
+abbrev pub plain : Answer → Effect
+plain a = record { answer = a; releases = []; lost = None }
+
+abbrev pub done : Effect
+done = plain (answer.Done code.Accepted None)
+
+abbrev pub with_value : ℤ → Effect
+with_value v = plain (answer.Done code.Accepted (Some v))
+
+abbrev pub refused : Code → Effect
+refused c = plain (answer.Done c None)
+
+-- the effect, or where there is an error its code and no change
+abbrev pub called_by : {Q : Type 0} → World Q → (World Q × Effect) → Option Code → World Q × Effect
+called_by w effect None = effect
+called_by w effect (Some c) = (w, refused c)
+
+-- what a call from p does, be it refused or not
+abbrev pub called : {Q : Type 0} → World Q → Proc → Row Q → World Q × Effect
+called w p row = called_by w row.effect (check w p row)
+
+abbrev pub in_task : Rule
+in_task = record { context = context.Task; when_locked = false; unheld = false }
+
+abbrev pub anywhere : Rule
+anywhere = record { context = context.Any; when_locked = true; unheld = false }
+
+-- the call may also be made in the CPU-locked state
+abbrev pub when_locked : {Q : Type 0} → Row Q → Row Q
+when_locked row = record row { rule = record row.rule { when_locked = true } }
+
+-- the call may be made from a task and from a handler, and in the CPU-locked state
+abbrev pub from_anywhere : {Q : Type 0} → Row Q → Row Q
+from_anywhere row = record row { rule = anywhere }
+
+-- a call from a task that has no arguments and no errors
+abbrev pub row : {Q : Type 0} → World Q × Effect → Row Q
+row effect = record { rule = in_task; known = true; proper = true; errors = []; effect = effect }
+
+-- a call on what its argument names. Where it names nothing the call is refused, and its effect on `none` is thrown away
+abbrev pub on_named : {Q X : Type 0} → X → Option X → (X → List (Bool × Code)) → (X → World Q × Effect) → Row Q
+on_named none o errors effect = record (row (effect (unwrap_or o none))) { known = is_some o; errors = errors (unwrap_or o none) }
+
+-- a call on the task that its argument names
+abbrev pub on_task : {Q : Type 0} → Option Task → (Task → List (Bool × Code)) → (Task → World Q × Effect) → Row Q
+on_task t errors effect = on_named (as_task 1) t errors effect

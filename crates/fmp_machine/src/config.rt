@@ -1,0 +1,88 @@
+//! A valid configuration.
+ghost use Rattle.std.specs.Prelude.{◌≡◌, ◌≤◌};
+ghost use Rattle.std.specs.List.{list_any};
+ghost use Rattle.fmp_machine.specs.Valid.{is_class_of};
+
+use crate::parts::{NamedClass, Parts};
+use crate::setup::{Class, TaskSetup};
+use fmp_text::Names;
+use std::marker::Model;
+
+/// A valid configuration: how many processors there are, the classes and tasks, and the names of the objects and functions.
+#[derive(Drop)]
+pub struct Config {
+    parts: Parts,
+}
+
+impl Model for Config {
+    ghost use Rattle.fmp_machine.specs.Parts.{setup_of};
+    ghost use Rattle.fmp_machine.specs.Setup.{Setup};
+    ghost use Rattle.fmp_machine.specs.Valid.{IsValid};
+
+    ghost Value = { Setup };
+
+    ghost view = { λ c. setup_of c.parts };
+
+    ghost invariant = { λ c. IsValid (setup_of c.parts) };
+}
+
+impl Config {
+    ghost use Rattle.std.specs.Prelude.{◌≡◌, map};
+    ghost use Rattle.fmp_machine.specs.Parts.{setup_of};
+    ghost use Rattle.fmp_machine.specs.Valid.{IsValid};
+
+    /// The configuration of these parts.
+    pub fn of(parts: Parts) -> Self
+        requires { IsValid (setup_of parts) }
+        ensures { result ≡ setup_of parts }
+    {
+        Config { parts }
+    }
+
+    /// The number of processors.
+    pub fn processors(&self) -> u8
+        ensures value { result ≡ self.now.processors }
+        ensures valid { IsValid self.now }
+    {
+        self.parts.names.processors()
+    }
+
+    /// The names of the objects and functions.
+    pub fn names(&self) -> &Names
+        ensures value { result.now ≡ self.now.names }
+        ensures valid { IsValid self.now }
+    {
+        &self.parts.names
+    }
+
+    /// The classes with their names, in the order in which they were defined.
+    pub fn classes(&self) -> &[NamedClass]
+        ensures value { map (λ c. c.class) result.now ≡ self.now.classes }
+        ensures names { map (λ c. c.name.items) result.now ≡ self.now.class_names }
+        ensures valid { IsValid self.now }
+    {
+        self.parts.classes.as_slice()
+    }
+
+    /// The tasks, in the order of their numbers.
+    pub fn tasks(&self) -> &[TaskSetup]
+        ensures value { result.now ≡ self.now.tasks }
+        ensures valid { IsValid self.now }
+    {
+        self.parts.tasks.as_slice()
+    }
+}
+
+/// Whether a class is one of a machine of so many processors.
+pub fn is_class_of(processors: u8, class: &Class) -> bool
+    requires { processors ≤ 8 }
+    ensures { result ≡ is_class_of processors class.now }
+{
+    class.has(class.initial) && !has_one(&class.members[processors as usize..])
+}
+
+fn has_one(members: &[bool]) -> bool
+    ensures { result ≡ list_any (λ m. m) members.now }
+{
+    members.iter().any(|member| *member)
+}

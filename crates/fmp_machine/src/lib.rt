@@ -1,0 +1,23 @@
+//! A configuration, valid by its type, the records of the machine, and what every machine has to do.
+//!
+//! The definitions of the machine are in `specs/`, to be read in the order of `specs/Lib.antt`; docs/PROFILE.md tells
+//! the same rules in words.
+#![tactic(auto)]
+
+mod config;
+mod effect;
+mod machine;
+mod parts;
+mod setup;
+
+pub use config::{Config, is_class_of};
+pub use effect::Effect;
+pub use machine::{
+    Alarm, Context, Cyclic, Eventflag, Pool, Processor, QueueKind, Rule, Semaphore, TaskRecord,
+    Wait,
+};
+pub use parts::{NamedClass, Parts, TaskFields};
+pub use setup::{
+    AlarmSetup, Class, CyclicSetup, DataQueueSetup, EventflagSetup, Limits, Order, PoolSetup,
+    SemaphoreSetup, TaskSetup, Timer,
+};
