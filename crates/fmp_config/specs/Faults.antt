@@ -1,8 +1,9 @@
--- What a reader returns, beside what reading gives.
-use Rattle.std.specs.Prelude.{◌≡◌, ℕ, ◌⊎◌, Result, Ok, Err}
+-- What a reader returns, beside what reading gives, and how it is told.
+use Rattle.std.specs.Prelude.{◌≡◌, ℕ, ◌⊎◌, List, [], ◌∷◌, ◌++◌, Result, Ok, Err, codes, decimal}
 use Rattle.fmp_statements.specs.declared.fault.Fault.{Fault}
 use Rattle.fmp_statements.specs.declared.fault.ConfigKind.{ConfigKind}
 use Rattle.fmp_statements.specs.declared.fault.ConfigKind.TheVariants.{Memory}
+use Rattle.fmp_statements.specs.Faults.{code_of, words_of}
 use Rattle.fmp_config.specs.declared.fault.ConfigFault.{ConfigFault}
 use Rattle.fmp_config.specs.declared.fault.ReadError.{ReadError}
 use Rattle.fmp_config.specs.declared.fault.ReadError.TheVariants as errors
@@ -30,3 +31,13 @@ FaultIs kind line read = (fault : Fault) × (read ≡ Err fault) × (fault.kind 
 abbrev pub GivesOrFails : {Y : Type 0} → Result Y ConfigFault → Result Y Fault → Type 0
 GivesOrFails (Ok y) read = read ≡ Ok y
 GivesOrFails (Err e) read = FaultIs e.kind e.line read ⊎ ((e.kind ≡ Memory) × (e.line ≡ 0))
+
+-- the word at fault behind a blank, where there is one
+abbrev pub with_blank : List ℕ → List ℕ
+with_blank [] = []
+with_blank (c ∷ cs) = codes " " ++ c ∷ cs
+
+-- a fault as it is told to a user
+abbrev pub text_of : ConfigFault → List ℕ
+text_of fault =
+    codes "line " ++ decimal fault.line ++ codes ": " ++ code_of fault.kind ++ codes " " ++ words_of fault.kind ++ with_blank fault.word.bytes

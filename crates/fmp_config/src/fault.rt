@@ -21,6 +21,11 @@ pub struct ConfigFault {
 
 /// As it is told to a user, with the word where there is one: `line 4: F3 unsupported API CRE_MTX`.
 impl fmt::Display for ConfigFault {
+    ghost use Rattle.std.specs.Prelude.{Some};
+    ghost use Rattle.fmp_config.specs.Faults.{text_of};
+
+    ghost output = { λ fault. Some (text_of fault) };
+
     fn fmt<W: fmt::Write>(&self, f: &mut fmt::Formatter<W>) -> fmt::Result {
         let (line, code, words) = (self.line, self.kind.code(), self.kind.words());
         write!(f, "line {line}: {code} {words}")?;

@@ -27,5 +27,5 @@ activate k w t p kept =
     if (task w t).active then note w t (record (task w t) { activations = 1; kept = kept }) else start k w t p
 
 -- a task ends, and its wait with it
-abbrev pub finish : {Q : Type 0} → Keeping Q → World Q → Task → World Q
+unfoldable pub finish : {Q : Type 0} → Keeping Q → World Q → Task → World Q
 finish k w t = end_wait k w t (ended (task w t))

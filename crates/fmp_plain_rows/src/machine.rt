@@ -197,8 +197,10 @@ impl Machine {
     }
 
     /// The same, and enables its dispatching.
+    #[tactic(auto, unfolding(fmp_machine::specs::Processors::opened))]
     pub fn open(&mut self, p: Proc)
-        ensures { self.new ≡ opened self.old p }
+        ensures state { self.new ≡ opened self.old p }
+        ensures next { self.new.order.next ≡ self.old.order.next }
     {
         self.unlock(p);
         self.set_dispatching_disabled(p, false);

@@ -121,6 +121,7 @@ impl Machine {
     }
 
     /// Ends a task. A queued activation starts it anew.
+    #[tactic(auto, unfolding(fmp_machine::specs::Tasks::finish))]
     pub fn finish(&mut self, t: Task)
         requires { self.old.order.next + 1 < 2 ^ 64 }
         ensures state { self.new ≡ finish numbered self.old t }

@@ -61,12 +61,14 @@ module _ {Q : Type 0} (w : World Q) (p : Proc) (within : IsNumberOf w.processors
   within_unlocked = (within.0, rw (length-set w.processors (p.number - 1) (record (processor w p) { locked = false })) within.1)
 
   pub opened_here : processor (opened w p) p ≡ record (processor w p) { locked = false; disabled = false }
+  unfolding opened
   opened_here =
       processor_here (unlocked w p) p within_unlocked (record (processor (unlocked w p) p) { disabled = false }) (unlocked w p).holders
       ∙ ap (λ (c : Processor). record c { disabled = false }) unlocked_here
 
 module _ {Q : Type 0} (w : World Q) (p : Proc) (within : IsNumberOf w.processors p.number) (some : is_some (processor w p).running ≡ true) where
   pub keeps_opened : Keeps w (opened w p) p
+  unfolding opened
   keeps_opened =
       let ran : is_some (processor (unlocked w p) p).running ≡ true = subst (λ (c : Processor). is_some c.running ≡ true) (sym (unlocked_here w p within some)) some in
       keeps_then w p (unlocked w p) (opened w p) refl (keeps_unlocked w p within some)

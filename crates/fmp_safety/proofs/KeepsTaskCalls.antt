@@ -46,11 +46,13 @@ module _ {Q : Type 0} (k : Keeping Q) (w : World Q) (p : Proc) (s : Safe k w) (w
 
   -- where no handler is due, p is not held once it is opened
   opened_free : FromTask w p → is_held (opened w p) p ≡ false
+  unfolding opened
   opened_free f =
       let none : is_some (handler (opened w p) p) ≡ false = f.handler in
       rw (none, opened_here w p within (some_runs w p f)) refl
 
   keeps_ext : Keeps w (called w p (ext_tsk k w p)).0 p
+  unfolding finish opened
   keeps_ext =
       keeps_called w p (ext_tsk k w p) occupied
       (λ a.

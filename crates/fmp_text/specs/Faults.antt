@@ -1,5 +1,6 @@
--- How the kinds of faults are printed.
-use Rattle.std.specs.Prelude.{ℕ, List, codes}
+-- How faults are printed.
+use Rattle.std.specs.Prelude.{ℕ, List, ◌++◌, codes, decimal}
+use Rattle.fmp_text.specs.declared.fault.TextFault.{TextFault}
 use Rattle.fmp_text.specs.declared.fault.TextKind.{TextKind}
 use Rattle.fmp_text.specs.declared.fault.TextKind.TheVariants.{BadByte, BadWord, UnknownName, WrongArguments, NumberOutOfRange, CutShort, TooMany, Memory}
 
@@ -24,3 +25,7 @@ words_of NumberOutOfRange = codes "number out of range"
 words_of CutShort = codes "cut short"
 words_of TooMany = codes "too many"
 words_of Memory = codes "want of memory"
+
+-- a fault as it is told to a user
+abbrev pub text_of : TextFault → List ℕ
+text_of fault = codes "line " ++ decimal fault.line ++ codes ": " ++ code_of fault.kind ++ codes " " ++ words_of fault.kind

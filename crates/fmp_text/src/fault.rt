@@ -72,6 +72,11 @@ pub struct TextFault {
 
 /// As it is told to a user: `line 4: E2 bad word`.
 impl fmt::Display for TextFault {
+    ghost use Rattle.std.specs.Prelude.{Some};
+    ghost use Rattle.fmp_text.specs.Faults.{text_of};
+
+    ghost output = { λ fault. Some (text_of fault) };
+
     fn fmt<W: fmt::Write>(&self, f: &mut fmt::Formatter<W>) -> fmt::Result {
         let (line, code, words) = (self.line, self.kind.code(), self.kind.words());
         write!(f, "line {line}: {code} {words}")

@@ -3,14 +3,12 @@
 #![tactic(auto)]
 
 mod cli;
-mod files;
 
 use cli::{Paths, Request};
-use files::{ReadSource, WriteSink};
 use fmp_config::ConfigKind;
 use fmp_text::TextKind;
 use fmp_trace::Verdict;
-use fmpsim_run::{RunFault, run_calls, run_check};
+use fmpsim_run::{ReadSource, RunFault, WriteSink, run_calls, run_check};
 use std::io::BufWriter;
 use std::process::ExitCode;
 use std::rt::{Env, Files};

@@ -8,6 +8,7 @@ mod memory;
 mod simulate;
 mod sink;
 mod source;
+mod std_io;
 #[cfg(test)]
 mod tests;
 mod texts;
@@ -19,4 +20,5 @@ pub use fault::RunFault;
 pub use memory::{MemSink, MemSource};
 pub use sink::{Sink, write_all};
 pub use source::{Failed, Source};
+pub use std_io::{ReadSource, WriteSink};
 pub use whole::{ReadFault, read_up_to};

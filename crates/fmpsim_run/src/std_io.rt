@@ -3,7 +3,8 @@ ghost use Rattle.std.specs.Prelude.{◌≡◌, ◌+◌, ◌-◌, ◌^◌, ◌<�
 ghost use Rattle.std.specs.Io.KnownBytes.{ReadConsumes, WriteAppends};
 ghost use Rattle.fmpsim_run.specs.Devices.{is_failed_write};
 
-use fmpsim_run::{Failed, Sink, Source};
+use crate::sink::Sink;
+use crate::source::{Failed, Source};
 use std::io;
 use std::io::{Read, Write};
 
@@ -15,6 +16,7 @@ pub struct ReadSource<R> {
 }
 
 impl<R> ReadSource<R> {
+    /// A source over a reader, of which no call has failed.
     pub fn new(reader: R) -> ReadSource<R>
         ensures { result.failures ≡ 0 }
     {
@@ -62,6 +64,7 @@ pub struct WriteSink<W> {
 }
 
 impl<W> WriteSink<W> {
+    /// A sink over a writer, of which no call has failed.
     pub fn new(writer: W) -> WriteSink<W>
         ensures { result.failures ≡ 0 }
     {
