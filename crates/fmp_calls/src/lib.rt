@@ -9,7 +9,7 @@ pub use kinds::{ArgumentKind, NameKind, ObjectKind, Value};
 pub use laws::tables_agree;
 pub use table::system::SystemName;
 pub use table::task::TaskName;
-pub use table::{CALL_NAMES, CallName, MOST_ARGUMENTS, find_call, values_of};
+pub use table::{CALL_NAMES, CallName, Form, MOST_ARGUMENTS, Values, find_call, parts};
 
 #[cfg(test)]
 mod tests;

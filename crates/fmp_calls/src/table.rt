@@ -1,8 +1,7 @@
 //! The table of the service calls. A call is one line in each table of its family, and one of `CALL_NAMES`.
 ghost use Rattle.std.specs.Prelude.{◌≡◌, ◌≤◌, length, find};
 ghost use Rattle.std.specs.Str.{bytes_eq};
-ghost use Rattle.fmp_calls.specs.Table.{text_of, kinds_of, call_of, name_of};
-ghost use Rattle.fmp_calls.specs.Table as spec;
+ghost use Rattle.fmp_calls.specs.Table.{text_of, kinds_of, call_of, name_of, values_of};
 
 pub mod system;
 pub mod task;
@@ -15,6 +14,9 @@ use fmp_codes::Call;
 
 /// The greatest number of arguments of a call.
 pub const MOST_ARGUMENTS: usize = 4;
+
+/// The arguments of a call, from left to right.
+pub type Values = ArrayVec<Value, MOST_ARGUMENTS>;
 
 /// The name of a service call, by its family.
 #[derive(Clone, Copy, Debug, PartialEq, Eq)]
@@ -39,8 +41,25 @@ pub const CALL_NAMES: [CallName; 12] = [
     CallName::System(SystemName::SnsDpn),
 ];
 
-/// A list of values.
-fn listed(values: &[Value]) -> ArrayVec<Value, MOST_ARGUMENTS>
+/// How a call is written.
+#[derive(Clone, Copy, Debug, PartialEq, Eq)]
+pub struct Form {
+    /// Its name.
+    pub text: &'static [u8],
+    /// The kinds of its arguments, from left to right.
+    pub kinds: &'static [ArgumentKind],
+}
+
+impl Form {
+    fn new(text: &'static [u8], kinds: &'static [ArgumentKind]) -> Self
+        ensures text { result.text.now ≡ text.now }
+        ensures kinds { result.kinds.now ≡ kinds.now }
+    {
+        Form { text, kinds }
+    }
+}
+
+fn listed(values: &[Value]) -> Values
     requires { length values.now ≤ MOST_ARGUMENTS }
     ensures { result.items ≡ values.now }
 {
@@ -50,13 +69,15 @@ fn listed(values: &[Value]) -> ArrayVec<Value, MOST_ARGUMENTS>
 }
 
 impl CallName {
-    /// The name of this call.
-    pub fn of(call: Call) -> Self
-        ensures { result ≡ name_of call }
+    /// How the call is written.
+    pub fn form(self) -> Form
+        ensures text { result.text.now ≡ text_of self }
+        ensures kinds { result.kinds.now ≡ kinds_of self }
+        ensures few { length result.kinds.now ≤ MOST_ARGUMENTS }
     {
-        match call {
-            Call::Task(call) => CallName::Task(TaskName::of(call)),
-            Call::System(call) => CallName::System(SystemName::of(call)),
+        match self {
+            CallName::Task(name) => name.form(),
+            CallName::System(name) => name.form(),
         }
     }
 
@@ -64,10 +85,7 @@ impl CallName {
     pub fn text(self) -> &'static [u8]
         ensures { result.now ≡ text_of self }
     {
-        match self {
-            CallName::Task(name) => name.text(),
-            CallName::System(name) => name.text(),
-        }
+        self.form().text
     }
 
     /// The kinds of the arguments, from left to right.
@@ -75,10 +93,7 @@ impl CallName {
         ensures kinds { result.now ≡ kinds_of self }
         ensures few { length result.now ≤ MOST_ARGUMENTS }
     {
-        match self {
-            CallName::Task(name) => name.kinds(),
-            CallName::System(name) => name.kinds(),
-        }
+        self.form().kinds
     }
 
     /// The call with these arguments, where they are of its kinds.
@@ -92,13 +107,20 @@ impl CallName {
     }
 }
 
-/// The arguments of a call, from left to right.
-pub fn values_of(call: Call) -> ArrayVec<Value, MOST_ARGUMENTS>
-    ensures { result.items ≡ spec.values_of call }
+/// The name and the arguments of a call.
+pub fn parts(call: Call) -> (CallName, Values)
+    ensures name { result.0 ≡ name_of call }
+    ensures values { result.1.items ≡ values_of call }
 {
     match call {
-        Call::Task(call) => task::values_of(call),
-        Call::System(call) => system::values_of(call),
+        Call::Task(call) => {
+            let (name, values) = task::parts(call);
+            (CallName::Task(name), values)
+        }
+        Call::System(call) => {
+            let (name, values) = system::parts(call);
+            (CallName::System(name), values)
+        }
     }
 }
 

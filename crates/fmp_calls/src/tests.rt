@@ -5,13 +5,13 @@ use std::test::*;
 #[test]
 fn act_tsk(rt: HostRuntime) -> Result<(), Fail> {
     let call = Call::Task(TaskCall::ActTsk(3));
-    let name = CallName::of(call);
+    let (name, values) = parts(call);
     assert_eq!(rt; name.text(), b"act_tsk".as_slice());
     assert_eq!(rt;
         name.kinds(),
         [ArgumentKind::Object(ObjectKind::Task)].as_slice()
     );
-    assert_eq!(rt; values_of(call).as_slice(), [Value::Number(3)].as_slice());
+    assert_eq!(rt; values.as_slice(), [Value::Number(3)].as_slice());
     assert!(rt; name.call(&[Value::Number(3)]) == Some(call));
     assert!(rt; name.call(&[]).is_none());
     Ok(())

@@ -6,3 +6,6 @@ mod tokens;
 
 pub use modes::{Mode, Step, step_of};
 pub use tokens::{End, Token, TokenKind, Tokens, read_tokens};
+
+#[cfg(test)]
+mod tests;

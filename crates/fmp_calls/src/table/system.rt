@@ -2,9 +2,8 @@
 ghost use Rattle.std.specs.Prelude.{◌≡◌, ◌≤◌, length};
 ghost use Rattle.fmp_calls.specs.Tables.SystemTable as spec;
 
-use crate::kinds::{ArgumentKind, Value};
-use crate::table::{MOST_ARGUMENTS, listed};
-use arrayvec::ArrayVec;
+use crate::kinds::Value;
+use crate::table::{Form, MOST_ARGUMENTS, Values, listed};
 use fmp_codes::SystemCall;
 
 /// The names of the calls on the processors and on the state of dispatching.
@@ -23,64 +22,29 @@ pub enum SystemName {
 }
 
 impl SystemName {
-    /// The name of this call.
-    pub fn of(call: SystemCall) -> Self
-        ensures { result ≡ spec.name_of call }
-    {
-        match call {
-            SystemCall::GetTid => SystemName::GetTid,
-            SystemCall::GetPid => SystemName::GetPid,
-            SystemCall::LocCpu => SystemName::LocCpu,
-            SystemCall::UnlCpu => SystemName::UnlCpu,
-            SystemCall::DisDsp => SystemName::DisDsp,
-            SystemCall::EnaDsp => SystemName::EnaDsp,
-            SystemCall::SnsCtx => SystemName::SnsCtx,
-            SystemCall::SnsLoc => SystemName::SnsLoc,
-            SystemCall::SnsDsp => SystemName::SnsDsp,
-            SystemCall::SnsDpn => SystemName::SnsDpn,
-        }
-    }
-
-    /// The name as it is written.
-    pub fn text(self) -> &'static [u8]
-        ensures { result.now ≡ spec.text_of self }
+    /// How the call is written.
+    pub fn form(self) -> Form
+        ensures text { result.text.now ≡ (spec.entry_of self).text }
+        ensures kinds { result.kinds.now ≡ (spec.entry_of self).kinds }
+        ensures few { length result.kinds.now ≤ MOST_ARGUMENTS }
     {
         match self {
-            SystemName::GetTid => b"get_tid",
-            SystemName::GetPid => b"get_pid",
-            SystemName::LocCpu => b"loc_cpu",
-            SystemName::UnlCpu => b"unl_cpu",
-            SystemName::DisDsp => b"dis_dsp",
-            SystemName::EnaDsp => b"ena_dsp",
-            SystemName::SnsCtx => b"sns_ctx",
-            SystemName::SnsLoc => b"sns_loc",
-            SystemName::SnsDsp => b"sns_dsp",
-            SystemName::SnsDpn => b"sns_dpn",
-        }
-    }
-
-    /// The kinds of the arguments, from left to right.
-    pub fn kinds(self) -> &'static [ArgumentKind]
-        ensures kinds { result.now ≡ spec.kinds_of self }
-        ensures few { length result.now ≤ MOST_ARGUMENTS }
-    {
-        match self {
-            SystemName::GetTid => &[],
-            SystemName::GetPid => &[],
-            SystemName::LocCpu => &[],
-            SystemName::UnlCpu => &[],
-            SystemName::DisDsp => &[],
-            SystemName::EnaDsp => &[],
-            SystemName::SnsCtx => &[],
-            SystemName::SnsLoc => &[],
-            SystemName::SnsDsp => &[],
-            SystemName::SnsDpn => &[],
+            SystemName::GetTid => Form::new(b"get_tid", &[]),
+            SystemName::GetPid => Form::new(b"get_pid", &[]),
+            SystemName::LocCpu => Form::new(b"loc_cpu", &[]),
+            SystemName::UnlCpu => Form::new(b"unl_cpu", &[]),
+            SystemName::DisDsp => Form::new(b"dis_dsp", &[]),
+            SystemName::EnaDsp => Form::new(b"ena_dsp", &[]),
+            SystemName::SnsCtx => Form::new(b"sns_ctx", &[]),
+            SystemName::SnsLoc => Form::new(b"sns_loc", &[]),
+            SystemName::SnsDsp => Form::new(b"sns_dsp", &[]),
+            SystemName::SnsDpn => Form::new(b"sns_dpn", &[]),
         }
     }
 
     /// The call with these arguments, where they are of its kinds.
     pub fn call(self, values: &[Value]) -> Option<SystemCall>
-        ensures { result ≡ spec.call_of self values.now }
+        ensures { result ≡ (spec.entry_of self).call values.now }
     {
         match (self, values) {
             (SystemName::GetTid, []) => Some(SystemCall::GetTid),
@@ -98,20 +62,21 @@ impl SystemName {
     }
 }
 
-/// The arguments of a call, from left to right.
-pub fn values_of(call: SystemCall) -> ArrayVec<Value, MOST_ARGUMENTS>
-    ensures { result.items ≡ spec.values_of call }
+/// The name and the arguments of a call.
+pub fn parts(call: SystemCall) -> (SystemName, Values)
+    ensures name { result.0 ≡ (spec.parts_of call).0 }
+    ensures values { result.1.items ≡ (spec.parts_of call).1 }
 {
     match call {
-        SystemCall::GetTid => listed(&[]),
-        SystemCall::GetPid => listed(&[]),
-        SystemCall::LocCpu => listed(&[]),
-        SystemCall::UnlCpu => listed(&[]),
-        SystemCall::DisDsp => listed(&[]),
-        SystemCall::EnaDsp => listed(&[]),
-        SystemCall::SnsCtx => listed(&[]),
-        SystemCall::SnsLoc => listed(&[]),
-        SystemCall::SnsDsp => listed(&[]),
-        SystemCall::SnsDpn => listed(&[]),
+        SystemCall::GetTid => (SystemName::GetTid, listed(&[])),
+        SystemCall::GetPid => (SystemName::GetPid, listed(&[])),
+        SystemCall::LocCpu => (SystemName::LocCpu, listed(&[])),
+        SystemCall::UnlCpu => (SystemName::UnlCpu, listed(&[])),
+        SystemCall::DisDsp => (SystemName::DisDsp, listed(&[])),
+        SystemCall::EnaDsp => (SystemName::EnaDsp, listed(&[])),
+        SystemCall::SnsCtx => (SystemName::SnsCtx, listed(&[])),
+        SystemCall::SnsLoc => (SystemName::SnsLoc, listed(&[])),
+        SystemCall::SnsDsp => (SystemName::SnsDsp, listed(&[])),
+        SystemCall::SnsDpn => (SystemName::SnsDpn, listed(&[])),
     }
 }

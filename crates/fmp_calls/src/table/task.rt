@@ -2,9 +2,10 @@
 ghost use Rattle.std.specs.Prelude.{◌≡◌, ◌≤◌, length};
 ghost use Rattle.fmp_calls.specs.Tables.TaskTable as spec;
 
-use crate::kinds::{ArgumentKind, ObjectKind, Value};
-use crate::table::{MOST_ARGUMENTS, listed};
-use arrayvec::ArrayVec;
+use crate::kinds::ArgumentKind::Object;
+use crate::kinds::ObjectKind::Task;
+use crate::kinds::Value::{self, Number};
+use crate::table::{Form, MOST_ARGUMENTS, Values, listed};
 use fmp_codes::TaskCall;
 
 /// The names of the calls on tasks.
@@ -15,55 +16,37 @@ pub enum TaskName {
 }
 
 impl TaskName {
-    /// The name of this call.
-    pub fn of(call: TaskCall) -> Self
-        ensures { result ≡ spec.name_of call }
-    {
-        match call {
-            TaskCall::ActTsk(..) => TaskName::ActTsk,
-            TaskCall::ExtTsk => TaskName::ExtTsk,
-        }
-    }
-
-    /// The name as it is written.
-    pub fn text(self) -> &'static [u8]
-        ensures { result.now ≡ spec.text_of self }
+    /// How the call is written.
+    pub fn form(self) -> Form
+        ensures text { result.text.now ≡ (spec.entry_of self).text }
+        ensures kinds { result.kinds.now ≡ (spec.entry_of self).kinds }
+        ensures few { length result.kinds.now ≤ MOST_ARGUMENTS }
     {
         match self {
-            TaskName::ActTsk => b"act_tsk",
-            TaskName::ExtTsk => b"ext_tsk",
-        }
-    }
-
-    /// The kinds of the arguments, from left to right.
-    pub fn kinds(self) -> &'static [ArgumentKind]
-        ensures kinds { result.now ≡ spec.kinds_of self }
-        ensures few { length result.now ≤ MOST_ARGUMENTS }
-    {
-        match self {
-            TaskName::ActTsk => &[ArgumentKind::Object(ObjectKind::Task)],
-            TaskName::ExtTsk => &[],
+            TaskName::ActTsk => Form::new(b"act_tsk", &[Object(Task)]),
+            TaskName::ExtTsk => Form::new(b"ext_tsk", &[]),
         }
     }
 
     /// The call with these arguments, where they are of its kinds.
     pub fn call(self, values: &[Value]) -> Option<TaskCall>
-        ensures { result ≡ spec.call_of self values.now }
+        ensures { result ≡ (spec.entry_of self).call values.now }
     {
         match (self, values) {
-            (TaskName::ActTsk, [Value::Number(task)]) => Some(TaskCall::ActTsk(*task)),
+            (TaskName::ActTsk, [Number(task)]) => Some(TaskCall::ActTsk(*task)),
             (TaskName::ExtTsk, []) => Some(TaskCall::ExtTsk),
             _ => None,
         }
     }
 }
 
-/// The arguments of a call, from left to right.
-pub fn values_of(call: TaskCall) -> ArrayVec<Value, MOST_ARGUMENTS>
-    ensures { result.items ≡ spec.values_of call }
+/// The name and the arguments of a call.
+pub fn parts(call: TaskCall) -> (TaskName, Values)
+    ensures name { result.0 ≡ (spec.parts_of call).0 }
+    ensures values { result.1.items ≡ (spec.parts_of call).1 }
 {
     match call {
-        TaskCall::ActTsk(task) => listed(&[Value::Number(task)]),
-        TaskCall::ExtTsk => listed(&[]),
+        TaskCall::ActTsk(task) => (TaskName::ActTsk, listed(&[Number(task)])),
+        TaskCall::ExtTsk => (TaskName::ExtTsk, listed(&[])),
     }
 }
