@@ -1,1 +1,2 @@
+pub mod Kinded
 pub mod Matched

@@ -1,3 +1,4 @@
+pub mod Arguments
 pub mod Entries
 pub mod Kinds
 pub mod Table

@@ -24,7 +24,7 @@ use Rattle.fmp_safety.proofs.Settling.{TopsMayRun, among, with_each, length_each
 use Rattle.fmp_safety.proofs.Ending.{runs_once}
 
 -- what holds of all items and of the blank holds of each that is looked up
-item_holds : {X : Type 0} (P : X → Type 0) (blank : X) (xs : List X) (n : ℕ) → P blank → All P xs → P (item blank xs n)
+pub item_holds : {X : Type 0} (P : X → Type 0) (blank : X) (xs : List X) (n : ℕ) → P blank → All P xs → P (item blank xs n)
 item_holds P blank xs n none all =
     ⊎_elim (λ (h : n - 1 < length xs). all (n - 1) blank h) (λ (h : length xs ≤ n - 1). subst P (sym (get_or_past xs (n - 1) blank h)) none) (cases_lt (n - 1) (length xs))
 

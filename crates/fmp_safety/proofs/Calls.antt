@@ -29,7 +29,7 @@ none_parts true c o e = absurd (none-some c (sym e))
 none_parts false c o e = (refl, e)
 
 module _ {Q : Type 0} (w : World Q) (p : Proc) where
-  accepts : (row : Row Q) → check w p row ≡ None → Accepts w p row
+  pub accepts : (row : Row Q) → check w p row ≡ None → Accepts w p row
   accepts row e =
       let one = none_parts (is_refused_context w p row.rule) code.Context _ e in
       let two = none_parts (not row.known) code.Identifier _ one.1 in

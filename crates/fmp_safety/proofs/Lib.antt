@@ -12,3 +12,6 @@ pub mod Stepping
 pub mod Booting
 pub mod Booted
 pub mod Interrupts
+pub mod Counted
+pub mod TellsCalls
+pub mod Telling

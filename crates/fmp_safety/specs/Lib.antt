@@ -3,3 +3,4 @@ pub mod Safe
 pub mod First
 pub mod Runs
 pub mod Laws
+pub mod Counts

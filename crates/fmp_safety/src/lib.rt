@@ -5,5 +5,7 @@
 #![tactic(auto)]
 
 mod laws;
+mod records;
 
 pub use laws::{first_means_least, interrupts_dispatch, runs_stay_safe};
+pub use records::records_name_what_there_is;

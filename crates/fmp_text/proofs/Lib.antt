@@ -1,4 +1,5 @@
 pub mod Judged
+pub mod Limited
 pub mod Listed
 pub mod Parsed
 pub mod Pieces

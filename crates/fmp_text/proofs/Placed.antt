@@ -77,7 +77,7 @@ at-position name list i there =
 -- ---- the numbers of names
 
 -- the place that a number stands for
-numbered : (lists : NameLists) (kind : NameKind) (n : ℕ) (name : List ℕ) → name_of lists kind n ≡ Some name → (0 < n) × (slice_get (names_of lists kind) (n - 1) ≡ Some name)
+pub numbered : (lists : NameLists) (kind : NameKind) (n : ℕ) (name : List ℕ) → name_of lists kind n ≡ Some name → (0 < n) × (slice_get (names_of lists kind) (n - 1) ≡ Some name)
 unfolding name_of
 numbered lists kind n name named =
     elim (cases_eq n 0) [

@@ -1,5 +1,7 @@
 //! Reading an event text.
-ghost use Rattle.std.specs.Prelude.{◌≡◌, ◌≤◌, vec_len, IfOk, IfErr};
+ghost use Rattle.std.specs.Prelude.{◌≡◌, ◌≤◌, vec_len, All, IfOk, IfErr};
+ghost use Rattle.fmp_calls.specs.Arguments.{EventInBits};
+ghost use Rattle.fmp_codes.specs.Records.{AreOn};
 ghost use Rattle.fmp_text.specs.Events.{IsFirst, reading_of, faultless};
 
 use crate::fault::{TextFault, TextKind};
@@ -21,8 +23,12 @@ pub const MOST_EVENTS: usize = 1_000_000;
 pub fn read_events(alloc: Global, text: &[u8], names: &Names) -> Result<Vec<Event>, TextFault>
     ensures ok { IfOk result (λ events. reading_of names.now text.now ≡ faultless events.items) }
     ensures few { IfOk result (λ events. vec_len events ≤ MOST_EVENTS) }
+    // The events are on the processors of the names, and their arguments are within the bits of their kinds.
+    ensures on { IfOk result (λ events. AreOn names.now.processors events.items) }
+    ensures in_bits { IfOk result (λ events. All EventInBits events.items) }
     ensures err { IfErr result (IsFirst (reading_of names.now text.now)) }
 {
+    names.validity();
     if text.len() > MOST_BYTES {
         return Err(TextFault {
             kind: TextKind::TooMany,

@@ -1,15 +1,18 @@
 -- The verdict on a text that prints records.
-use Rattle.std.proofs.Common.{◌≡◌, ◌≢◌, ◌⊎◌, ℕ, zero, suc, ◌+◌, ◌-◌, ◌<◌, ◌^◌, inl, inr, List, [], ◌∷◌, ◌++◌, length, take, slice_get, Option, Some, Result, Ok, Err, IfOk, IfErr, refl, sym, ap, subst, ◌∙◌, arith}
+use Rattle.std.proofs.Common.{◌≡◌, ◌≢◌, ◌⊎◌, ℕ, zero, suc, ◌+◌, ◌-◌, ◌<◌, ◌≤◌, ◌^◌, inl, inr, List, [], ◌∷◌, ◌++◌, length, take, slice_get, Option, Some, Result, Ok, Err, IfOk, IfErr, refl, sym, ap, subst, ◌∙◌, arith}
 use Rattle.std.specs.Prelude.{map, codes}
 use Rattle.std.specs.Str.{bytes_eq}
 use Rattle.std.proofs.lemmas.Bool.{cases_Bool, false≢true}
 use Rattle.std.proofs.lemmas.Slice.Eq.{bytes_eq-Decides}
+use Rattle.fmp_codes.specs.declared.records.Event.{Event}
 use Rattle.fmp_codes.specs.declared.records.Record.{Record}
 use Rattle.fmp_bytes.specs.Bytes.{pieces_of}
 use Rattle.fmp_machine.specs.Boot.{booted}
 use Rattle.fmp_machine.specs.Numbers.{State, numbered}
 use Rattle.fmp_machine.specs.Setup.{Setup}
 use Rattle.fmp_machine.specs.Step.{step, answers}
+use Rattle.fmp_machine.specs.Valid.{IsValid}
+use Rattle.fmp_text.specs.declared.events.TheConstants.{MOST_EVENTS}
 use Rattle.fmp_text.specs.declared.fault.TextFault.{TextFault}
 use Rattle.fmp_text.specs.Events.{IsMemory}
 use Rattle.fmp_trace.specs.Reading.{GivesOrFails}
@@ -17,11 +20,12 @@ use Rattle.fmp_text.specs.Names.{NameLists, AreValid}
 use Rattle.fmp_text.proofs.Parsed.{bind_parts}
 use Rattle.fmp_trace.specs.declared.checking.Verdict.{Verdict}
 use Rattle.fmp_trace.specs.declared.checking.Verdict.TheVariants.{Yes, No}
-use Rattle.fmp_trace.specs.Checking.{own_text, cores_from, own_lines, Compares, Judges, answered, verdict_from, checked}
+use Rattle.fmp_trace.specs.Checking.{own_text, cores_from, own_lines, Compares, Judges, PrintsAnswers, answered, verdict_from, checked}
 use Rattle.fmp_trace.specs.Fits.{AllFit}
 use Rattle.fmp_trace.specs.Lines.{core_text, line_text, lines_from}
 use Rattle.fmp_trace.specs.Prints.{PrintsWithin, FirstFault}
 use Rattle.fmp_trace.specs.Reading.{records_in}
+use Rattle.fmp_trace.proofs.FittingAnswers.{answers_events, length-answers, answers-fit}
 use Rattle.fmp_trace.proofs.GuessedLines.{line_guessed}
 use Rattle.fmp_trace.proofs.Numbered.{verdict_from-line}
 use Rattle.fmp_trace.proofs.ReadTexts.{lines_pieces, read_prints, prints_read, fault_is_first}
@@ -187,3 +191,13 @@ module _ (c : Setup) (text : List ℕ) (valid : AreValid c.names) where
   is_reading_fault (Ok verdict) e = tt
   is_reading_fault (Err fault) (inl e) = inl (fault_parts c text fault (records_in c.names text) valid refl (sym (sym e)))
   is_reading_fault (Err fault) (inr memory) = inr memory
+
+  -- what the machine answers is its own text
+  pub is_answered : (result : Result Verdict TextFault) → GivesOrFails (λ v. v) result (checked c text) → IsValid c → (events : List Event) → PrintsAnswers c text events → GivesOrFails (λ v. v) result (Ok Yes)
+  is_answered result e valid_config events p =
+      let records : List Record = answers numbered (booted c) events in
+      let few : length records ≤ MOST_EVENTS = rw (length-answers (booted c) events) p.few in
+      let fit : AllFit c.names records = answers-fit c events valid_config p.on p.in_bits in
+      let prints : PrintsWithin c.names text records = record { prints = record { lines = p.prints; fit = fit }; few = few; short = p.short } in
+      let own : text ≡ own_text c records = p.prints ∙ ap (λ (es : List Event). lines_from c.names 1 (answers numbered (booted c) es)) (sym (answers_events (booted c) events)) in
+      is_own result e records prints own

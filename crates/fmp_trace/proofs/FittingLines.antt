@@ -4,6 +4,7 @@ use Rattle.std.specs.Prelude.{codes}
 use Rattle.std.specs.Str.{bytes_eq}
 use Rattle.std.proofs.lemmas.Bool.{cases_Bool, eqb-false, ltb-true}
 use Rattle.std.proofs.lemmas.List.{append-nil}
+use Rattle.fmp_codes.specs.Records.{processor_of, ValueFits, Ascend}
 use Rattle.fmp_codes.specs.declared.numbers.Proc.{Proc}
 use Rattle.fmp_codes.specs.declared.records.Event.{Event}
 use Rattle.fmp_codes.specs.declared.records.Event.TheVariants as events
@@ -12,14 +13,14 @@ use Rattle.fmp_codes.specs.declared.records.Release.{Release}
 use Rattle.fmp_codes.specs.declared.records.Record.{Record}
 use Rattle.fmp_bytes.specs.declared.classes.Class.TheVariants.{Word}
 use Rattle.fmp_bytes.specs.Bytes.{front, after, behind, cut_at, pieces_of}
+use Rattle.fmp_calls.specs.Arguments.{EventInBits}
 use Rattle.fmp_calls.specs.declared.kinds.ObjectKind.TheVariants as objects
 use Rattle.fmp_text.specs.Names.{NameLists, AreValid}
 use Rattle.fmp_text.specs.Reading.{call_in}
 use Rattle.fmp_text.proofs.Parsed.{and_then_parts, tested_some}
-use Rattle.fmp_trace.specs.Fits.{ValueFits, EventFits, IsNamed, RunnerFits, ReleasesFit, Ascend, FitsNames}
+use Rattle.fmp_trace.specs.Fits.{IsNamed, RunnerFits, ReleasesFit, FitsNames}
 use Rattle.fmp_trace.specs.Guess.{with_release, with_lost, with_run_change, with_requests, with_part, with_word, with_words, words_left, read, guess_answer, guess_call, guess_event, guess_runner, guess_processor, guess}
 use Rattle.fmp_trace.specs.GuessParts.{processor_in, signed_in, task_in, coded_in, answer_in, runner_in, release_in, running_in, request_in, requests_in}
-use Rattle.fmp_trace.specs.Lines.{processor_of}
 use Rattle.fmp_trace.proofs.FittingParts.{signed_in-fits, processor_in-fits, task_in-fits, running_in-fits, runner_in-fits, coded_in-fits, answer_in-fits, call-fits}
 
 -- ---- what stands behind the answer
@@ -72,7 +73,7 @@ with_run_change-fits names r q text valid fits e =
 
 -- processors that were added to others, in ascending order
 AddsAscending : NameLists → ℕ → List Proc → List Proc → Type 0
-AddsAscending names least front all = (added : List Proc) × (all ≡ front ++ added) × Ascend names least added
+AddsAscending names least front all = (added : List Proc) × (all ≡ front ++ added) × Ascend names.processors least added
 
 requests_ascend : (names : NameLists) (least : ℕ) (front all : List Proc) (pieces : List (List ℕ)) → AreValid names → requests_in names least front pieces ≡ Some all → AddsAscending names least front all
 unfolding AddsAscending request_in
@@ -93,7 +94,7 @@ with_requests-fits names r q text valid fits e =
     let added = requests_ascend names 0 [] p.0 (pieces_of 44 text) valid p.1 in
     let same : ◌≡◌ {A = Record} (record r { requests = p.0 }) q = let e2 = p.2 in cc in
     subst (FitsNames names) same
-    (record { processor = fits.processor; event = fits.event; runner = fits.runner; answer = fits.answer; releases = fits.releases; few = fits.few; lost = fits.lost; run_change = fits.run_change; requests = subst (Ascend names 0) (sym added.1) added.2 })
+    (record { processor = fits.processor; event = fits.event; runner = fits.runner; answer = fits.answer; releases = fits.releases; few = fits.few; lost = fits.lost; run_change = fits.run_change; requests = subst (Ascend names.processors 0) (sym added.1) added.2 })
 
 with_part-fits : (names : NameLists) (r q : Record) (key text : List ℕ) → AreValid names → FitsNames names r → with_part names r key text ≡ Some q → FitsNames names q
 unfolding with_part
@@ -128,7 +129,7 @@ with_words-fits names r q (word ∷ words) valid fits e =
 
 -- ---- a line
 
-guess_answer-fits : (names : NameLists) (runner : Option Runner) (e : Event) (text : List ℕ) (r : Record) → AreValid names → (processor_of e).number ≤ names.processors → EventFits e → RunnerFits names runner → guess_answer names runner e text ≡ Some r → FitsNames names r
+guess_answer-fits : (names : NameLists) (runner : Option Runner) (e : Event) (text : List ℕ) (r : Record) → AreValid names → (processor_of e).number ≤ names.processors → EventInBits e → RunnerFits names runner → guess_answer names runner e text ≡ Some r → FitsNames names r
 unfolding guess_answer
 guess_answer-fits names runner e text r valid processor event runner_fits h =
     let p = and_then_parts (behind 32 text) _ r h in

@@ -1,13 +1,12 @@
 -- What is guessed of a part of a line fits the names, whatever the part is.
-use Rattle.std.proofs.Common.{◌≡◌, ◌⊎◌, ℕ, zero, suc, ◌-◌, ◌<◌, ◌≤◌, ◌^◌, ℤ, pos, negsuc, Bool, true, false, not, ◌&&◌, ◌||◌, cond, eqb, leb, ltb, inl, inr, List, [], ◌∷◌, Option, Some, None, option_map, Ok, refl, sym, ap, subst, ◌∙◌, arith}
+use Rattle.std.proofs.Common.{◌≡◌, ◌⊎◌, ℕ, zero, suc, ◌-◌, ◌≤◌, ◌^◌, ℤ, Bool, true, false, ◌&&◌, cond, leb, inl, inr, List, Option, Some, None, option_map, Ok, ap, subst, ◌∙◌, arith}
 use Rattle.std.specs.Prelude.{codes}
 use Rattle.std.specs.Option.{option_or}
 use Rattle.std.specs.Str.{bytes_eq}
-use Rattle.std.proofs.lemmas.Bool.{and_parts, leb-true, ltb-true}
+use Rattle.std.proofs.lemmas.Bool.{and_parts, leb-true}
 use Rattle.std.proofs.lemmas.Option.{slice_get_within}
 use Rattle.fmp_codes.specs.Numbers.{as_proc, as_task, as_object}
 use Rattle.fmp_codes.specs.declared.calls.Call.{Call}
-use Rattle.fmp_codes.specs.declared.calls.Mode.TheVariants as modes
 use Rattle.fmp_codes.specs.declared.codes.Code.{Code}
 use Rattle.fmp_codes.specs.declared.numbers.Proc.{Proc}
 use Rattle.fmp_codes.specs.declared.numbers.Task.{Task}
@@ -17,51 +16,31 @@ use Rattle.fmp_codes.specs.declared.records.Answer.TheVariants as answers
 use Rattle.fmp_codes.specs.declared.records.Runner.{Runner}
 use Rattle.fmp_codes.specs.declared.records.Runner.TheVariants as runners
 use Rattle.fmp_bytes.specs.Bytes.{cut_at}
-use Rattle.fmp_bytes.specs.Numerals.{magnitude_of, number_of, signed_of, unsigned_limited}
+use Rattle.fmp_bytes.specs.Numerals.{magnitude_of, number_of}
 use Rattle.fmp_calls.specs.Kinds.{most_of}
-use Rattle.fmp_calls.specs.Table as table
-use Rattle.fmp_calls.specs.declared.kinds.ArgumentKind.{ArgumentKind}
-use Rattle.fmp_calls.specs.declared.kinds.ArgumentKind.TheVariants as kinds
 use Rattle.fmp_calls.specs.declared.kinds.NameKind.TheVariants as name_kinds
 use Rattle.fmp_calls.specs.declared.kinds.ObjectKind.{ObjectKind}
 use Rattle.fmp_calls.specs.declared.kinds.ObjectKind.TheVariants as objects
-use Rattle.fmp_calls.specs.declared.kinds.Value.{Value}
-use Rattle.fmp_calls.specs.declared.kinds.Value.TheVariants as values
-use Rattle.fmp_text.specs.Argument.{ranged, number32, constant_of, zero_if}
-use Rattle.fmp_text.specs.Grammar.{IsObjectName, SpellsValue, SpellsPieces, SpellsArguments}
 use Rattle.fmp_text.specs.Names.{NameLists, AreValid, names_of, name_of}
 use Rattle.fmp_text.specs.Names.{number_of as number_of_name}
 use Rattle.fmp_text.specs.Reading.{call_in}
+use Rattle.fmp_text.proofs.Limited.{mapped, signed_within, call_in_bits}
 use Rattle.fmp_text.proofs.Parsed.{and_then_parts, tested_some}
-use Rattle.fmp_text.proofs.Placed.{name_of-number_of}
+use Rattle.fmp_text.proofs.Placed.{name_of-number_of, numbered}
 use Rattle.fmp_text.proofs.SpelledCalls.{call_is_spelled}
-use Rattle.fmp_trace.specs.Fits.{IsWithin, ValueFits, ArgumentFits, ArgumentsFit, CallFits, IsNamed, RunnerFits, AnswerFits, RunningFits}
+use Rattle.fmp_codes.specs.Records.{IsWithin, ValueFits, AnswerFits}
+use Rattle.fmp_calls.specs.Arguments.{CallInBits}
+use Rattle.fmp_trace.specs.Fits.{IsNamed, RunnerFits, RunningFits}
 use Rattle.fmp_trace.specs.GuessParts.{in_processors, processor_in, signed_in, task_in, object_in, code_in, value_in, coded_in, done_in, word_answer, answer_in, named_runner, runner_in, running_in}
-use Rattle.fmp_trace.proofs.GuessedRunners.{stands}
 
 -- ---- numbers
-
-mapped : {A B : Type 0} (f : A → B) (found : Option A) (b : B) → option_map f found ≡ Some b → (a : A) × (found ≡ Some a) × (f a ≡ b)
-mapped f None b e = absurd cc
-mapped f (Some a) b e = let same : f a ≡ b = cc in (a, refl, same)
-
-pub signed_fits : (limit : ℕ) (negative : Bool) (m : ℕ) (z : ℤ) → 0 < limit → signed_of limit negative m ≡ Some z → IsWithin limit z
-signed_fits limit true zero z some e =
-    let t = tested_some (leb 0 limit) (pos 0) z e in
-    subst (IsWithin limit) t.1 some
-signed_fits limit true (suc m) z some e =
-    let t = tested_some (leb (suc m) limit) (negsuc m) z e in
-    subst (IsWithin limit) t.1 (omega (arith, leb-true (suc m) limit t.0))
-signed_fits limit false m z some e =
-    let t = tested_some (ltb m limit) (pos m) z e in
-    subst (IsWithin limit) t.1 (ltb-true m limit t.0)
 
 pub signed_in-fits : (text : List ℕ) (z : ℤ) → signed_in text ≡ Some z → IsWithin (2 ^ 63) z
 unfolding signed_in
 signed_in-fits text z e =
     let p = and_then_parts (number_of text) _ z e in
     let q = and_then_parts p.0.magnitude _ z p.2 in
-    signed_fits (2 ^ 63) p.0.negative q.0 z (omega arith) q.2
+    signed_within (2 ^ 63) p.0.negative q.0 z (omega arith) q.2
 
 in_processors-fits : (most : ℕ) (found : Option ℕ) (p : Proc) → most ≤ 8 → in_processors most found ≡ Some p → p.number ≤ most
 unfolding in_processors
@@ -87,7 +66,7 @@ not_zero names kind (suc n) name e = omega arith
 number_fits : (names : NameLists) (kind : ObjectKind) (word : List ℕ) (n : ℕ) → AreValid names → number_of_name names (name_kinds.Object kind) word ≡ Some n → IsNamed names kind n × (1 ≤ n) × (n ≤ most_of kind)
 number_fits names kind word n valid e =
     let named = name_of-number_of names (name_kinds.Object kind) n word e in
-    let within = slice_get_within (names_of names (name_kinds.Object kind)) (n - 1) word (stands names (name_kinds.Object kind) n word named) in
+    let within = slice_get_within (names_of names (name_kinds.Object kind)) (n - 1) word (numbered names (name_kinds.Object kind) n word named).1 in
     let least = not_zero names kind n word named in
     ((word, named), least, omega (arith, within, least, valid.limits kind))
 
@@ -208,101 +187,5 @@ answer_in-fits text a e =
 
 -- ---- calls
 
-number32-fits : (negative : Bool) (m : ℕ) (value : Value) → number32 negative m ≡ Some value → (z : ℤ) × (value ≡ values.Number z) × IsWithin (2 ^ 31) z
-number32-fits negative m value e =
-    let p = mapped values.Number (signed_of (2 ^ 31) negative m) value e in
-    (p.0, sym p.2, signed_fits (2 ^ 31) negative m p.0 (omega arith) p.1)
-
--- a number of 32 signed bits fits each kind that it is a value of
-IsNumbers : ArgumentKind → Type 0
-IsNumbers kind = (z : ℤ) → IsWithin (2 ^ 31) z → ArgumentFits kind (values.Number z)
-
-numbers_fit : (kind : ArgumentKind) (value : Value) → IsNumbers kind → (z : ℤ) × (value ≡ values.Number z) × IsWithin (2 ^ 31) z → ArgumentFits kind value
-unfolding IsNumbers
-numbers_fit kind value step p = subst (ArgumentFits kind) (sym p.1) (step p.0 p.2)
-
-ranged-fits : (kind : ArgumentKind) (negative : Bool) (m : ℕ) (value : Value) → ranged kind negative m ≡ Some value → ArgumentFits kind value
-unfolding IsNumbers
-ranged-fits (kinds.Object k) negative m value e = numbers_fit (kinds.Object k) value (λ z h. h) (number32-fits negative m value e)
-ranged-fits kinds.Priority negative m value e = numbers_fit kinds.Priority value (λ z h. h) (number32-fits negative m value e)
-ranged-fits kinds.Processor negative m value e = numbers_fit kinds.Processor value (λ z h. h) (number32-fits negative m value e)
-ranged-fits kinds.Time negative m value e = numbers_fit kinds.Time value (λ z h. h) (number32-fits negative m value e)
-ranged-fits kinds.Timeout negative m value e = numbers_fit kinds.Timeout value (λ z h. h) (number32-fits negative m value e)
-ranged-fits kinds.Block negative m value e = numbers_fit kinds.Block value (λ z h. h) (number32-fits negative m value e)
-ranged-fits kinds.Pattern negative m value e =
-    let p = mapped values.Pattern (unsigned_limited negative m) value e in
-    let t = tested_some (ltb m (2 ^ 32) && (not negative || eqb m 0)) m p.0 p.1 in
-    let lt = (and_parts (ltb m (2 ^ 32)) (not negative || eqb m 0) t.0).0 in
-    subst (ArgumentFits kinds.Pattern) p.2 (omega (arith, ltb-true m (2 ^ 32) lt, t.1))
-ranged-fits kinds.Data negative m value e =
-    let p = mapped values.Data (signed_of (2 ^ 63) negative m) value e in
-    subst (ArgumentFits kinds.Data) p.2 (signed_fits (2 ^ 63) negative m p.0 (omega arith) p.1)
-ranged-fits kinds.Mode negative m value e = absurd cc
-
-zero_fits : (kind : ArgumentKind) (b : Bool) (value : Value) → IsNumbers kind → zero_if b ≡ Some value → ArgumentFits kind value
-unfolding IsNumbers
-zero_fits kind b value step e =
-    let t = tested_some b (values.Number (pos 0)) value e in
-    subst (ArgumentFits kind) t.1 (step (pos 0) (omega arith))
-
-timeout_fits : (a b : Bool) (value : Value) → cond a (Some (values.Number (pos 0))) (cond b (Some (values.Number (negsuc 0))) None) ≡ Some value → ArgumentFits kinds.Timeout value
-timeout_fits true b value e = let same : values.Number (pos 0) ≡ value = cc in subst (ArgumentFits kinds.Timeout) same (omega arith)
-timeout_fits false true value e = let same : values.Number (negsuc 0) ≡ value = cc in subst (ArgumentFits kinds.Timeout) same (omega arith)
-timeout_fits false false value e = absurd cc
-
-mode_fits : (a b : Bool) (x y value : Value) → ArgumentFits kinds.Mode x → ArgumentFits kinds.Mode y → cond a (Some x) (cond b (Some y) None) ≡ Some value → ArgumentFits kinds.Mode value
-mode_fits true b x y value f g e = let same : x ≡ value = cc in subst (ArgumentFits kinds.Mode) same f
-mode_fits false true x y value f g e = let same : y ≡ value = cc in subst (ArgumentFits kinds.Mode) same g
-mode_fits false false x y value f g e = absurd cc
-
-constant-fits : (kind : ArgumentKind) (word : List ℕ) (value : Value) → constant_of kind word ≡ Some value → ArgumentFits kind value
-unfolding constant_of IsNumbers
-constant-fits (kinds.Object objects.Task) word value e = zero_fits (kinds.Object objects.Task) _ value (λ z h. h) e
-constant-fits kinds.Priority word value e = zero_fits kinds.Priority _ value (λ z h. h) e
-constant-fits kinds.Processor word value e = zero_fits kinds.Processor _ value (λ z h. h) e
-constant-fits kinds.Timeout word value e = timeout_fits _ _ value e
-constant-fits kinds.Mode word value e = mode_fits (bytes_eq word (codes "TWF_ANDW")) (bytes_eq word (codes "TWF_ORW")) (values.Mode modes.Andw) (values.Mode modes.Orw) value tt tt e
-constant-fits (kinds.Object objects.Semaphore) word value e = absurd cc
-constant-fits (kinds.Object objects.Eventflag) word value e = absurd cc
-constant-fits (kinds.Object objects.DataQueue) word value e = absurd cc
-constant-fits (kinds.Object objects.Pool) word value e = absurd cc
-constant-fits (kinds.Object objects.Cyclic) word value e = absurd cc
-constant-fits (kinds.Object objects.Alarm) word value e = absurd cc
-constant-fits (kinds.Object objects.SpinLock) word value e = absurd cc
-constant-fits kinds.Time word value e = absurd cc
-constant-fits kinds.Pattern word value e = absurd cc
-constant-fits kinds.Data word value e = absurd cc
-constant-fits kinds.Block word value e = absurd cc
-
-most_of-le : (kind : ObjectKind) → most_of kind ≤ 64
-most_of-le objects.Task = omega arith
-most_of-le _ = omega arith
-
-object-fits : (names : NameLists) (kind : ArgumentKind) (token : List ℕ) (value : Value) → AreValid names → IsObjectName names kind token value → ArgumentFits kind value
-object-fits names kind token value valid o =
-    let is_kind = o.is_kind in let is_value = o.is_value in
-    let within = slice_get_within (names_of names (name_kinds.Object o.object)) (o.number - 1) token (stands names (name_kinds.Object o.object) o.number token o.is_name) in
-    let few : o.number < 2 ^ 31 = omega (arith, within, valid.limits o.object, most_of-le o.object) in
-    rw (is_kind, is_value) few
-
-value-fits : (names : NameLists) (kind : ArgumentKind) (token : List ℕ) (value : Value) → AreValid names → SpellsValue names kind token value → ArgumentFits kind value
-value-fits names kind token value valid (inl n) = ranged-fits kind n.negative n.magnitude value n.in_range
-value-fits names kind token value valid (inr (inl constant)) = constant-fits kind token value constant
-value-fits names kind token value valid (inr (inr object)) = object-fits names kind token value valid object
-
-pieces-fit : (names : NameLists) (kinds : List ArgumentKind) (values : List Value) (pieces : List (List ℕ)) → AreValid names → SpellsPieces names kinds values pieces → ArgumentsFit kinds values
-pieces-fit names [] [] [] valid s = tt
-pieces-fit names (kind ∷ kinds) (value ∷ values) (piece ∷ pieces) valid s = (value-fits names kind s.0.0 value valid s.0.2, pieces-fit names kinds values pieces valid s.1)
-pieces-fit names [] [] (piece ∷ pieces) valid s = absurd s
-pieces-fit names [] (value ∷ values) pieces valid s = absurd s
-pieces-fit names (kind ∷ kinds) [] pieces valid s = absurd s
-pieces-fit names (kind ∷ kinds) (value ∷ values) [] valid s = absurd s
-
-arguments-fit : (names : NameLists) (kinds : List ArgumentKind) (values : List Value) (text : List ℕ) → AreValid names → SpellsArguments names kinds values text → ArgumentsFit kinds values
-arguments-fit names [] values text valid s = subst (ArgumentsFit []) (sym s.1) tt
-arguments-fit names (kind ∷ kinds) values text valid s = pieces-fit names (kind ∷ kinds) values s.0 valid s.2
-
-pub call-fits : (names : NameLists) (text : List ℕ) (call : Call) → AreValid names → call_in names text ≡ Ok call → CallFits call
-call-fits names text call valid e =
-    let s = call_is_spelled names text call e in
-    arguments-fit names (table.kinds_of (table.name_of call)) (table.values_of call) s.inner valid s.arguments
+pub call-fits : (names : NameLists) (text : List ℕ) (call : Call) → AreValid names → call_in names text ≡ Ok call → CallInBits call
+call-fits names text call valid e = call_in_bits names text call valid (call_is_spelled names text call e)

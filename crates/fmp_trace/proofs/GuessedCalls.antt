@@ -11,7 +11,9 @@ use Rattle.fmp_bytes.specs.declared.classes.Class.TheVariants.{Argument}
 use Rattle.fmp_bytes.specs.Bytes.{is_of, is_identifier}
 use Rattle.fmp_bytes.specs.Numerals.{signed_of}
 use Rattle.fmp_bytes.proofs.Fronts.{list_all-weaker, list_all-both}
+use Rattle.fmp_codes.specs.Records.{IsWithin}
 use Rattle.fmp_calls.proofs.Matched.{is_identifier-text_of}
+use Rattle.fmp_calls.specs.Arguments.{CallInBits}
 use Rattle.fmp_calls.specs.declared.kinds.ArgumentKind.{ArgumentKind}
 use Rattle.fmp_calls.specs.declared.kinds.ArgumentKind.TheVariants as kinds
 use Rattle.fmp_calls.specs.declared.kinds.NameKind.TheVariants as name_kinds
@@ -27,9 +29,9 @@ use Rattle.fmp_text.specs.Reading.{call_in}
 use Rattle.fmp_text.proofs.Spelled.{value_at-spelled}
 use Rattle.fmp_text.proofs.SpelledCalls.{call_in-spelled}
 use Rattle.fmp_bytes.proofs.Tokens.{AreOfArgument, identifier_bytes, number_bytes}
-use Rattle.fmp_trace.specs.Fits.{IsWithin, ArgumentFits, ArgumentsFit, CallFits}
 use Rattle.fmp_trace.specs.Values.{named, object_text, value_text, arguments_from, call_text}
 use Rattle.fmp_trace.proofs.Bytes.{inner, inner-argument}
+use Rattle.fmp_trace.proofs.FittingArguments.{ArgumentFits, ArgumentsFit, call_arguments_fit}
 use Rattle.fmp_trace.proofs.GuessedValues.{is_signed}
 
 -- ---- joining
@@ -189,16 +191,16 @@ unfolding call_text
 call_text-unclosed names call =
     ap (λ (r : List ℕ). r ++ (41 ∷ [])) (append_assoc (table.text_of (table.name_of call)) (40 ∷ []) (arguments_from names 0 (table.kinds_of (table.name_of call)) (table.values_of call)))
 
-pub unclosed_bytes : (names : NameLists) (call : Call) → AreValid names → CallFits call → list_all inner (unclosed names call) ≡ true
+pub unclosed_bytes : (names : NameLists) (call : Call) → AreValid names → CallInBits call → list_all inner (unclosed names call) ≡ true
 unfolding is_of
 unclosed_bytes names call valid fits =
     let word = (identifier_bytes (table.text_of (table.name_of call)) (is_identifier-text_of (table.name_of call))).1 in
     list_all-both inner (table.text_of (table.name_of call)) (40 ∷ arguments_from names 0 (table.kinds_of (table.name_of call)) (table.values_of call))
     (list_all-weaker (is_of Argument) inner inner-argument (table.text_of (table.name_of call)) word)
-    (arguments_bytes names (table.kinds_of (table.name_of call)) (table.values_of call) valid fits)
+    (arguments_bytes names (table.kinds_of (table.name_of call)) (table.values_of call) valid (call_arguments_fit call fits))
 
-pub call_read : (names : NameLists) (call : Call) → AreValid names → CallFits call → call_in names (call_text names call) ≡ Ok call
+pub call_read : (names : NameLists) (call : Call) → AreValid names → CallInBits call → call_in names (call_text names call) ≡ Ok call
 unfolding is_of
 call_read names call valid fits =
     call_in-spelled names (call_text names call) call valid
-    (record { before = []; between = []; inner = arguments_from names 0 (table.kinds_of (table.name_of call)) (table.values_of call); behind = []; before_blank = refl; between_blank = refl; behind_blank = refl; arguments = arguments_spelled names (table.kinds_of (table.name_of call)) (table.values_of call) fits; parts = call_text-unclosed names call ∙ append_assoc (table.text_of (table.name_of call)) (40 ∷ arguments_from names 0 (table.kinds_of (table.name_of call)) (table.values_of call)) (41 ∷ []) })
+    (record { before = []; between = []; inner = arguments_from names 0 (table.kinds_of (table.name_of call)) (table.values_of call); behind = []; before_blank = refl; between_blank = refl; behind_blank = refl; arguments = arguments_spelled names (table.kinds_of (table.name_of call)) (table.values_of call) (call_arguments_fit call fits); parts = call_text-unclosed names call ∙ append_assoc (table.text_of (table.name_of call)) (40 ∷ arguments_from names 0 (table.kinds_of (table.name_of call)) (table.values_of call)) (41 ∷ []) })

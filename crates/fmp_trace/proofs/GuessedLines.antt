@@ -17,10 +17,12 @@ use Rattle.fmp_bytes.proofs.Spelled.{behind-same}
 use Rattle.fmp_bytes.proofs.Tokens.{identifier_words}
 use Rattle.fmp_calls.proofs.Matched.{is_identifier-text_of, no_tick, no_ipi}
 use Rattle.fmp_calls.specs.Table as table
+use Rattle.fmp_calls.specs.Arguments.{CallInBits, EventInBits}
+use Rattle.fmp_codes.specs.Records.{processor_of}
 use Rattle.fmp_text.specs.Names.{NameLists, AreValid}
-use Rattle.fmp_trace.specs.Fits.{CallFits, EventFits, FitsNames}
+use Rattle.fmp_trace.specs.Fits.{FitsNames}
 use Rattle.fmp_trace.specs.Guess.{guess_answer, guess_call, guess_event, guess_runner, guess_processor, guess}
-use Rattle.fmp_trace.specs.Lines.{processor_of, event_text, runner_text, answer_text, tail_text, head_text, core_text}
+use Rattle.fmp_trace.specs.Lines.{event_text, runner_text, answer_text, tail_text, head_text, core_text}
 use Rattle.fmp_trace.specs.Values.{arguments_from, call_text}
 use Rattle.fmp_trace.proofs.Bytes.{other_than, solid, inner, printed-solid, printed-inner, solid-argument, decimal_bytes}
 use Rattle.fmp_trace.proofs.GuessedCalls.{led, join-led, unclosed, call_text-unclosed, unclosed_bytes, call_read}
@@ -65,7 +67,7 @@ module _ (names : NameLists) (r : Record) (valid : AreValid names) (fits : FitsN
       let words : pieces_left 32 (cut_at 32 rest_text).1 ≡ tail_words names r = cc in
       rw (behind-same 32 rest_text, first, answer_guessed r.answer fits.answer, words) (tail_guessed names r valid fits.releases fits.few fits.lost fits.run_change fits.requests)
 
-  call_guessed : (p : Proc) (call : Call) → CallFits call → r.event ≡ events.Call p call → guess_event names r.runner p (call_text names call ++ 32 ∷ rest_text) ≡ Some r
+  call_guessed : (p : Proc) (call : Call) → CallInBits call → r.event ≡ events.Call p call → guess_event names r.runner p (call_text names call ++ 32 ∷ rest_text) ≡ Some r
   unfolding guess_event guess_call is_of
   call_guessed p call call_fits is_event =
       let name = table.text_of (table.name_of call) in
@@ -81,7 +83,7 @@ module _ (names : NameLists) (r : Record) (valid : AreValid names) (fits : FitsN
       let tick = no_tick (table.name_of call) in let ipi = no_ipi (table.name_of call) in
       rw (word, tick, ipi, cut, taken, call_read names call valid call_fits, ← is_event) rest_guessed
 
-  event_guessed : (e : Event) → EventFits e → r.event ≡ e → guess_event names r.runner (processor_of e) (event_text names e ++ 32 ∷ rest_text) ≡ Some r
+  event_guessed : (e : Event) → EventInBits e → r.event ≡ e → guess_event names r.runner (processor_of e) (event_text names e ++ 32 ∷ rest_text) ≡ Some r
   unfolding guess_event is_of
   event_guessed (events.Call p call) event_fits is_event = call_guessed p call event_fits is_event
   event_guessed (events.Tick p) event_fits is_event = rw (← is_event) rest_guessed
@@ -117,7 +119,7 @@ module _ (names : NameLists) (r : Record) (valid : AreValid names) (fits : FitsN
       list_all-both (is_of Printed) (answer_text r.answer) (tail_text names r) (list_all-weaker solid (is_of Printed) printed-solid (answer_text r.answer) (answer_solid r.answer fits.answer))
       (ap (list_all (is_of Printed)) (tail-led names r) ∙ led_printed (tail_words names r) (tail_solid names r valid fits.releases fits.lost fits.run_change))
 
-  event_printed : (e : Event) → EventFits e → list_all (is_of Printed) (event_text names e) ≡ true
+  event_printed : (e : Event) → EventInBits e → list_all (is_of Printed) (event_text names e) ≡ true
   unfolding is_of
   event_printed (events.Call p call) event_fits =
       ap (list_all (is_of Printed)) (call_text-unclosed names call)

@@ -1,5 +1,5 @@
 -- The runner that is printed is guessed right: no two objects have one name, of whatever kinds.
-use Rattle.std.proofs.Common.{◌≡◌, ◌≢◌, ℕ, zero, suc, ◌-◌, ◌<◌, ◌≤◌, Bool, true, false, cond, eqb, inl, inr, List, [], ◌∷◌, length, get_or, set, Option, Some, None, option_map, slice_get, refl, sym, ap, ◌∙◌, arith}
+use Rattle.std.proofs.Common.{◌≡◌, ◌≢◌, ℕ, zero, suc, ◌-◌, ◌<◌, ◌≤◌, Bool, true, false, cond, inl, inr, List, [], ◌∷◌, length, get_or, set, Option, Some, None, option_map, slice_get, refl, sym, ap, ◌∙◌, arith}
 use Rattle.std.specs.Prelude.{codes}
 use Rattle.std.specs.List.{list_all, sum_by}
 use Rattle.std.specs.Str.{bytes_eq}
@@ -13,13 +13,12 @@ use Rattle.fmp_codes.specs.declared.records.Runner.TheVariants as runners
 use Rattle.fmp_bytes.specs.declared.classes.Class.TheVariants.{Word, Argument}
 use Rattle.fmp_bytes.specs.Bytes.{is_of}
 use Rattle.fmp_calls.specs.Kinds.{place_of}
-use Rattle.fmp_calls.specs.declared.kinds.NameKind.{NameKind}
 use Rattle.fmp_calls.specs.declared.kinds.NameKind.TheVariants as kinds
 use Rattle.fmp_calls.specs.declared.kinds.ObjectKind.{ObjectKind}
 use Rattle.fmp_calls.specs.declared.kinds.ObjectKind.TheVariants as objects
 use Rattle.fmp_text.specs.Names.{NameLists, AreValid, names_of, name_of, times}
 use Rattle.fmp_text.specs.Names.{number_of as number_of_name}
-use Rattle.fmp_text.proofs.Placed.{name_of-number_of}
+use Rattle.fmp_text.proofs.Placed.{name_of-number_of, numbered}
 use Rattle.fmp_text.proofs.Valid.{place_of-lt}
 use Rattle.fmp_trace.specs.Fits.{IsNamed, RunnerFits}
 use Rattle.fmp_trace.specs.GuessParts.{task_in, object_in, named_runner, runner_in}
@@ -28,14 +27,6 @@ use Rattle.fmp_trace.specs.Values.{named}
 use Rattle.fmp_trace.proofs.GuessedValues.{printed_name, task_guessed, object_guessed, name_bytes}
 
 -- ---- names of two kinds
-
-pub stands : (lists : NameLists) (kind : NameKind) (n : ℕ) (name : List ℕ) → name_of lists kind n ≡ Some name → slice_get (names_of lists kind) (n - 1) ≡ Some name
-unfolding name_of
-stands lists kind n name is_name =
-    elim (cases_Bool (eqb n 0)) [
-      | inl t ↦ let e = rw t at is_name in absurd cc
-      | inr f ↦ rw f at is_name
-    ]
 
 counted_once : (b : Bool) → b ≡ true → ◌≡◌ {A = ℕ} (cond b 1 0) 1
 counted_once true e = refl
@@ -60,8 +51,8 @@ twice f lists i j none apart within_i within_j here there =
 other_kind : (names : NameLists) (kind other : ObjectKind) (n : ℕ) (name : List ℕ) (found : Option ℕ) → AreValid names → place_of kind ≢ place_of other → name_of names (kinds.Object kind) n ≡ Some name → number_of_name names (kinds.Object other) name ≡ found → found ≡ None
 other_kind names kind other n name None valid apart is_name found = refl
 other_kind names kind other n name (Some m) valid apart is_name found =
-    let here = once_in name (names_of names (kinds.Object kind)) (n - 1) (stands names (kinds.Object kind) n name is_name) in
-    let there = once_in name (names_of names (kinds.Object other)) (m - 1) (stands names (kinds.Object other) m name (name_of-number_of names (kinds.Object other) m name found)) in
+    let here = once_in name (names_of names (kinds.Object kind)) (n - 1) (numbered names (kinds.Object kind) n name is_name).1 in
+    let there = once_in name (names_of names (kinds.Object other)) (m - 1) (numbered names (kinds.Object other) m name (name_of-number_of names (kinds.Object other) m name found)).1 in
     let kinds_are = valid.kinds in
     let more = twice (times name) names.objects (place_of kind) (place_of other) refl apart (omega (arith, kinds_are, place_of-lt kind)) (omega (arith, kinds_are, place_of-lt other)) here there in
     absurd (omega (arith, more, valid.distinct name))

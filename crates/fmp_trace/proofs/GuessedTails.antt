@@ -22,7 +22,8 @@ use Rattle.fmp_bytes.proofs.Cutting.{cut_at-append, pieces_of-join}
 use Rattle.fmp_bytes.proofs.Fronts.{list_all-weaker, list_all-both}
 use Rattle.fmp_calls.specs.declared.kinds.ObjectKind.TheVariants as objects
 use Rattle.fmp_text.specs.Names.{NameLists, AreValid}
-use Rattle.fmp_trace.specs.Fits.{ValueFits, IsNamed, AnswerFits, ReleasesFit, RunningFits, RunChangeFits, Ascend}
+use Rattle.fmp_codes.specs.Records.{ValueFits, AnswerFits, Ascend}
+use Rattle.fmp_trace.specs.Fits.{IsNamed, ReleasesFit, RunningFits, RunChangeFits}
 use Rattle.fmp_trace.specs.Guess.{with_release, with_lost, with_run_change, with_requests, with_part, with_word, with_words}
 use Rattle.fmp_trace.specs.GuessParts.{release_in, request_in, requests_in}
 use Rattle.fmp_trace.specs.Lines.{code_text, answer_text, task_text, release_text, releases_text, lost_text, running_text, run_change_text, requests_from, tail_text}
@@ -143,7 +144,7 @@ request_guessed names least p above most =
     let test = lt-ltb least p.number above in
     rw (found, test) refl
 
-numbers_guessed : (names : NameLists) (least : ℕ) (front ps : List Proc) → Ascend names least ps → requests_in names least front (numbers ps) ≡ Some (front ++ ps)
+numbers_guessed : (names : NameLists) (least : ℕ) (front ps : List Proc) → Ascend names.processors least ps → requests_in names least front (numbers ps) ≡ Some (front ++ ps)
 numbers_guessed names least front [] fits = ap (λ (ps : List Proc). Some ps) (sym (append-nil front))
 numbers_guessed names least front (p ∷ ps) fits =
     let one = request_guessed names least p fits.0 fits.1 in
@@ -156,7 +157,7 @@ numbers_apart [] = refl
 numbers_apart (p ∷ ps) =
     and_from (list_all (λ b. not (eqb b 44)) (decimal p.number)) (list_all (list_all (λ b. not (eqb b 44))) (numbers ps)) (other_than (is_of Argument) 44 refl (decimal p.number) (decimal_bytes p.number (omega (arith, p.most)))) (numbers_apart ps)
 
-requests_guessed : (names : NameLists) (e : Event) (runner : Option Runner) (a : Answer) (releases : List Release) (lost : Option ℤ) (change : Option (Option Task)) (ps : List Proc) → Ascend names 0 ps
+requests_guessed : (names : NameLists) (e : Event) (runner : Option Runner) (a : Answer) (releases : List Release) (lost : Option ℤ) (change : Option (Option Task)) (ps : List Proc) → Ascend names.processors 0 ps
     → with_words names (made e runner a releases lost change []) (request_words ps) ≡ Some (made e runner a releases lost change ps)
 unfolding with_part with_requests
 requests_guessed names e runner a releases lost change [] fits = refl
@@ -165,7 +166,7 @@ requests_guessed names e runner a releases lost change (p ∷ ps) fits =
     let found = numbers_guessed names 0 [] (p ∷ ps) fits in
     rw (key_word names (made e runner a releases lost change []) (codes "ipi") (decimal p.number ++ led 44 (numbers ps)) refl, pieces, found) refl
 
-pub tail_guessed : (names : NameLists) (r : Record) → AreValid names → ReleasesFit names r.releases → length r.releases ≤ 64 → ValueFits r.lost → RunChangeFits names r.run_change → Ascend names 0 r.requests
+pub tail_guessed : (names : NameLists) (r : Record) → AreValid names → ReleasesFit names r.releases → length r.releases ≤ 64 → ValueFits r.lost → RunChangeFits names r.run_change → Ascend names.processors 0 r.requests
     → with_words names (made r.event r.runner r.answer [] None None []) (tail_words names r) ≡ Some r
 tail_guessed names r valid releases few lost change requests =
     releases_guessed names (made r.event r.runner r.answer [] None None []) r.releases (lost_words r.lost ++ (run_words names r.run_change ++ request_words r.requests)) valid releases (omega (arith, few))

@@ -28,7 +28,8 @@ use Rattle.fmp_text.specs.Names.{NameLists, AreValid, name_of, is_reserved, is_p
 use Rattle.fmp_text.specs.Names.{number_of as number_of_name}
 use Rattle.fmp_text.specs.Names as names
 use Rattle.fmp_text.proofs.Placed.{number_of-name_of, object_name}
-use Rattle.fmp_trace.specs.Fits.{IsWithin, ValueFits, IsNamed, RunningFits, AnswerFits}
+use Rattle.fmp_codes.specs.Records.{IsWithin, ValueFits, AnswerFits}
+use Rattle.fmp_trace.specs.Fits.{IsNamed, RunningFits}
 use Rattle.fmp_trace.specs.GuessParts.{in_processors, processor_in, signed_in, task_in, object_in, code_in, value_in, coded_in, done_in, word_answer, answer_in, running_in}
 use Rattle.fmp_trace.specs.Lines.{code_text, answer_text, task_text, running_text}
 use Rattle.fmp_trace.specs.Values.{named}

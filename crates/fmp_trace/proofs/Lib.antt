@@ -1,5 +1,7 @@
 pub mod Bytes
 pub mod CheckedTexts
+pub mod FittingAnswers
+pub mod FittingArguments
 pub mod FittingLines
 pub mod FittingParts
 pub mod GuessedCalls

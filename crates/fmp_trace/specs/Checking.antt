@@ -1,13 +1,17 @@
 -- What is answered of a text that prints records: whether they are the machine's own answers.
-use Rattle.std.specs.Prelude.{◌≡◌, ◌≢◌, ℕ, ◌+◌, ◌-◌, ◌≤◌, Bool, List, [], ◌∷◌, length, map, take, slice_get, Result, Ok, Err, if◌then◌else◌}
+use Rattle.std.specs.Prelude.{◌≡◌, ◌≢◌, ℕ, ◌+◌, ◌-◌, ◌≤◌, Bool, List, [], ◌∷◌, length, map, take, slice_get, Result, Ok, Err, All, if◌then◌else◌}
 use Rattle.std.specs.Option.{ok_or}
 use Rattle.std.specs.Str.{bytes_eq}
+use Rattle.fmp_codes.specs.Records.{AreOn}
+use Rattle.fmp_codes.specs.declared.records.Event.{Event}
 use Rattle.fmp_codes.specs.declared.records.Record.{Record}
 use Rattle.fmp_bytes.specs.Bytes.{pieces_of}
+use Rattle.fmp_calls.specs.Arguments.{EventInBits}
 use Rattle.fmp_machine.specs.Boot.{booted}
 use Rattle.fmp_machine.specs.Numbers.{State, numbered}
 use Rattle.fmp_machine.specs.Setup.{Setup}
 use Rattle.fmp_machine.specs.Step.{step, answers}
+use Rattle.fmp_text.specs.declared.events.TheConstants.{MOST_BYTES, MOST_EVENTS}
 use Rattle.fmp_text.specs.declared.fault.TextFault.{TextFault}
 use Rattle.fmp_text.specs.declared.fault.TextKind.TheVariants.{BadWord}
 use Rattle.fmp_text.specs.Names.{NameLists}
@@ -49,6 +53,14 @@ pub record Judges (c : Setup) (text : List ℕ) (verdict : Verdict) : Type 0 whe
   pub records : List Record
   pub prints : PrintsWithin c.names text records
   pub compares : Compares c text records verdict
+
+-- the text is what the machine answers to these events, which are on its processors, within the limits of texts
+pub record PrintsAnswers (c : Setup) (text : List ℕ) (events : List Event) : Type 0 where
+  pub on : AreOn c.processors events
+  pub in_bits : All EventInBits events
+  pub few : length events ≤ MOST_EVENTS
+  pub short : length text ≤ MOST_BYTES
+  pub prints : text ≡ lines_from c.names 1 (answers numbered (booted c) events)
 
 -- a text was judged: it reads as some records, or has the fault, unless memory ran out
 abbrev pub Passes : {T : Type 0} → Result T TextFault → Result (List Record) TextFault → Type 0

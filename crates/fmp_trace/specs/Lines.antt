@@ -2,6 +2,7 @@
 use Rattle.std.specs.Prelude.{ℕ, zero, suc, ◌+◌, ℤ, List, [], ◌∷◌, ◌++◌, Option, Some, None, codes, decimal}
 use Rattle.std.specs.Fmt.{signed_decimal}
 use Rattle.fmp_codes.specs.Codes as code
+use Rattle.fmp_codes.specs.Records.{processor_of}
 use Rattle.fmp_codes.specs.declared.codes.Code.{Code}
 use Rattle.fmp_codes.specs.declared.numbers.Proc.{Proc}
 use Rattle.fmp_codes.specs.declared.numbers.Task.{Task}
@@ -16,12 +17,6 @@ use Rattle.fmp_codes.specs.declared.records.Record.{Record}
 use Rattle.fmp_calls.specs.declared.kinds.ObjectKind.TheVariants as objects
 use Rattle.fmp_text.specs.Names.{NameLists}
 use Rattle.fmp_trace.specs.Values.{named, call_text}
-
--- the processor of an event
-abbrev pub processor_of : Event → Proc
-processor_of (events.Call p call) = p
-processor_of (events.Tick p) = p
-processor_of (events.Ipi p) = p
 
 abbrev pub event_text : NameLists → Event → List ℕ
 event_text lists (events.Call p call) = call_text lists call

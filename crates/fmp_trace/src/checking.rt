@@ -3,9 +3,10 @@ ghost use Rattle.std.specs.Prelude.{◌≡◌, ◌≤◌, ◌<◌, ◌+◌, ◌�
 ghost use Rattle.std.specs.Option.{ok_or};
 ghost use Rattle.fmp_bytes.specs.Bytes.{pieces_of};
 ghost use Rattle.fmp_machine.specs.Boot.{booted};
+ghost use Rattle.fmp_codes.specs.declared.records.Event.{Event as AnyEvent};
 ghost use Rattle.fmp_codes.specs.declared.records.Record.{Record as AnyRecord};
 ghost use Rattle.fmp_text.specs.Events.{IsMemory};
-ghost use Rattle.fmp_trace.specs.Checking.{Judges, own_text};
+ghost use Rattle.fmp_trace.specs.Checking.{Judges, PrintsAnswers, own_text};
 ghost use Rattle.fmp_trace.specs.Prints.{PrintsWithin, FirstFault};
 ghost use Rattle.fmp_trace.specs.Guess.{guess as guess_of};
 ghost use Rattle.fmp_trace.specs.Reading.{GivesOrFails, records_from};
@@ -113,6 +114,8 @@ pub fn check(alloc: Global, config: &Config, text: &[u8]) -> Result<Verdict, Tex
     ensures complete { (records : List AnyRecord) → PrintsWithin config.now.names text.now records → IfErr result IsMemory }
     // That of its own answers is yes.
     ensures own { (records : List AnyRecord) → PrintsWithin config.now.names text.now records → text.now ≡ own_text config.now records → GivesOrFails (λ v. v) result (Ok Verdict.Yes) }
+    // So is that of what the machine answers to any events, within the limits of texts.
+    ensures answers { (events : List AnyEvent) → PrintsAnswers config.now text.now events → GivesOrFails (λ v. v) result (Ok Verdict.Yes) }
     // The fault is the first one, or want of memory.
     ensures fault { IfErr result (λ fault. FirstFault config.now.names text.now fault ⊎ IsMemory fault) }
 {

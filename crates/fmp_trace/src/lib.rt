@@ -11,6 +11,6 @@ mod tests;
 mod values;
 
 pub use checking::{Verdict, check};
-pub use laws::texts_print_one_list;
+pub use laws::{answers_fit_the_names, texts_print_one_list};
 pub use lines::trace_text;
 pub use reading::read_trace;

@@ -1,5 +1,6 @@
 //! Printing records, a line for each.
 ghost use Rattle.std.specs.Prelude.{◌≡◌, ◌<◌, ◌^◌, ◌++◌, length, OnOk, IfOk};
+ghost use Rattle.fmp_codes.specs.Records as records;
 ghost use Rattle.fmp_trace.specs.Lines as spec;
 
 use crate::values::{put_call, put_named, put_number, put_signed};
@@ -19,7 +20,7 @@ fn put_event(out: &mut Vec<u8>, names: &Names, event: Event) -> Result<(), Alloc
 }
 
 fn processor_of(event: Event) -> Proc
-    ensures { result ≡ spec.processor_of event }
+    ensures { result ≡ records.processor_of event }
 {
     match event {
         Event::Call(processor, _) => processor,

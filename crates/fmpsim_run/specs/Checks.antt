@@ -1,7 +1,8 @@
 -- What a run that checks a trace does.
-use Rattle.std.specs.Prelude.{◌≡◌, ◌⊎◌, ℕ, List, ◌++◌, Ok, codes, decimal}
+use Rattle.std.specs.Prelude.{◌≡◌, ◌⊎◌, ℕ, List, ◌++◌, Result, Ok, Err, codes, decimal}
 use Rattle.fmp_text.specs.Events.{IsMemory}
 use Rattle.fmp_text.specs.Names.{NameLists}
+use Rattle.fmp_statements.specs.declared.fault.ConfigKind.TheVariants as config_kind
 use Rattle.fmp_config.specs.Statements.{config_in}
 use Rattle.fmp_machine.specs.Setup.{Setup}
 use Rattle.fmp_trace.specs.declared.checking.Verdict.{Verdict}
@@ -22,6 +23,13 @@ pub record Checked (config_text trace_text : List ℕ) (verdict : Verdict) : Typ
   pub config : Setup
   pub configures : config_in config_text ≡ Ok config
   pub judges : Judges config trace_text verdict
+
+-- yes, or a fault that neither text has: a read or a write that failed, or want of memory
+abbrev pub IsYes : Result Verdict RunFault → Type 0
+IsYes (Ok verdict) = verdict ≡ Yes
+IsYes (Err (run.Config fault)) = fault.kind ≡ config_kind.Memory
+IsYes (Err (run.Text fault)) = IsMemory fault
+IsYes (Err other) = Unit {0}
 
 -- a front of the verdict was written after old
 abbrev pub IsCheckBegun : List ℕ → List ℕ → List ℕ → List ℕ → Type 0

@@ -1,9 +1,11 @@
 //! The run that checks a trace.
-ghost use Rattle.std.specs.Prelude.{◌≡◌, ◌≢◌, ◌+◌, ◌-◌, ◌^◌, ◌<◌, ◌++◌, [], IsTrue, OnOk, IfOk, IfErr, Err, Ok, false, if◌then◌else◌};
-ghost use Rattle.fmp_trace.specs.Checking.{Judges};
+ghost use Rattle.std.specs.Prelude.{◌≡◌, ◌≢◌, ℕ, ◌+◌, ◌-◌, ◌^◌, ◌<◌, ◌≤◌, List, ◌++◌, [], length, IsTrue, OnOk, IfOk, IfErr, Err, Ok, false, if◌then◌else◌};
+ghost use Rattle.fmp_codes.specs.declared.records.Event.{Event as AnyEvent};
+ghost use Rattle.fmp_text.specs.declared.events.TheConstants.{MOST_BYTES};
+ghost use Rattle.fmp_trace.specs.Checking.{Judges, PrintsAnswers};
 ghost use Rattle.fmpsim_run.specs.Faults.{failed_read, failed_write, is_config, is_write};
-ghost use Rattle.fmpsim_run.specs.Runs.{CountsReads, FirstConfigFault};
-ghost use Rattle.fmpsim_run.specs.Checks.{Checked, IsCheckBegun, IsFirstOfTrace, FirstTraceFault, verdict_text};
+ghost use Rattle.fmpsim_run.specs.Runs.{Answered, CountsReads, FirstConfigFault};
+ghost use Rattle.fmpsim_run.specs.Checks.{Checked, IsCheckBegun, IsFirstOfTrace, IsYes, FirstTraceFault, verdict_text};
 
 use crate::fault::RunFault;
 use crate::sink::{Sink, write_all};
@@ -23,6 +25,7 @@ fn verdict_from<S: Source>(
 ) -> Result<Verdict, RunFault>
     requires { S.failures source.old < 2 ^ 64 - 1 }
     ensures ok { IsTrue S.tells → IfOk result (Judges config.now (S.left source.old)) }
+    ensures answers { IsTrue S.tells → (events : List AnyEvent) → PrintsAnswers config.now (S.left source.old) events → IsYes result }
     ensures read { IsTrue S.tells → OnOk result (S.left source.new ≡ []) }
     ensures fault { IsTrue S.tells → IfErr result (IsFirstOfTrace config.now.names (S.left source.old)) }
     ensures kinds { IfErr result (λ fault. (is_config fault ≡ false) × (is_write fault ≡ false)) }
@@ -45,6 +48,8 @@ fn checked<R: Source, S: Source>(
     requires trace_calls { S.failures trace.old < 2 ^ 64 - 1 }
 
     ensures checked { IsTrue R.tells → IsTrue S.tells → IfOk result (Checked (R.left config.old) (S.left trace.old)) }
+    ensures answers { IsTrue R.tells → IsTrue S.tells → (event_text : List ℕ) → Answered (R.left config.old) event_text (S.left trace.old)
+        → length (S.left trace.old) ≤ MOST_BYTES → IsYes result }
     ensures config_read { IsTrue R.tells → OnOk result (R.left config.new ≡ []) }
     ensures trace_read { IsTrue S.tells → OnOk result (S.left trace.new ≡ []) }
 
@@ -54,6 +59,7 @@ fn checked<R: Source, S: Source>(
     ensures no_write { failed_write result ≡ false }
 {
     let configuration = config_from(alloc, config)?;
+    configuration.names().validity();
     verdict_from(alloc, &configuration, trace)
 }
 
@@ -90,6 +96,10 @@ pub fn run_check<R: Source, S: Source, W: Sink>(
     ensures written { IsTrue W.tells → IfOk result (λ verdict. W.written answer.new ≡ W.written answer.old ++ verdict_text verdict) }
     ensures config_read { IsTrue R.tells → OnOk result (R.left config.new ≡ []) }
     ensures trace_read { IsTrue S.tells → OnOk result (S.left trace.new ≡ []) }
+
+    // A trace that answers some events, as `run_calls` writes it, is checked with yes.
+    ensures answers { IsTrue R.tells → IsTrue S.tells → (event_text : List ℕ) → Answered (R.left config.old) event_text (S.left trace.old)
+        → length (S.left trace.old) ≤ MOST_BYTES → IsYes result }
 
     // A fault of a text is its first one.
     ensures config_fault { IsTrue R.tells → IfErr result (FirstConfigFault (R.left config.old)) }

@@ -1,9 +1,10 @@
 //! The answers to a list of events.
 ghost use Rattle.std.specs.Prelude.{◌≡◌, ◌≤◌, length, IfOk};
+ghost use Rattle.fmp_codes.specs.Records.{AreOn};
 ghost use Rattle.fmp_machine.specs.Boot.{booted};
 ghost use Rattle.fmp_machine.specs.Numbers.{numbered};
 ghost use Rattle.fmp_machine.specs.Step.{answers};
-ghost use Rattle.fmp_safety.specs.Runs.{AreOn, IsSafeThroughout};
+ghost use Rattle.fmp_safety.specs.Runs.{IsSafeThroughout};
 
 use fmp_codes::{Event, Record};
 use fmp_machine::Config;

@@ -2,7 +2,7 @@
 ghost use Rattle.std.specs.Prelude.{◌≡◌, ◌+◌, ◌-◌, ◌≤◌, ◌^◌, ◌<◌, [], IsTrue, OnOk, IfOk, IfErr, Ok, false, vec_len, if◌then◌else◌};
 ghost use Rattle.fmp_config.specs.Statements.{config_in};
 ghost use Rattle.fmp_text.specs.Events.{reading_of, faultless};
-ghost use Rattle.fmp_safety.specs.Runs.{AreOn};
+ghost use Rattle.fmp_codes.specs.Records.{AreOn};
 ghost use Rattle.fmpsim_run.specs.Faults.{failed_read, is_config, is_text, is_write};
 ghost use Rattle.fmpsim_run.specs.Runs.{FirstConfigFault, FirstEventFault};
 

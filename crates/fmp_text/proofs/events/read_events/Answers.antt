@@ -6,6 +6,7 @@ use Rattle.fmp_text.specs.declared.events.TheConstants.{MOST_BYTES, MOST_EVENTS}
 use Rattle.fmp_text.specs.Names.{NameLists}
 use Rattle.fmp_text.specs.Lines.{is_skipped}
 use Rattle.fmp_text.specs.Events.{Reading, at_end, reading_of, reading_from, with_events}
+use Rattle.fmp_text.proofs.Limited.{reading_on, reading_in_bits}
 use Rattle.fmp_text.proofs.Scanned.{IsScanned, said_as, scan_event, scan_past, scan_fault, scan_last, take-to_end}
 use Rattle.fmp_text.proofs.events.read_events.Goals as goal
 use Rattle.fmp_text.proofs.events.read_events.Goals.{After-first_said-next, After-is_skipped}
@@ -65,3 +66,9 @@ returns-else-is_skipped-clause-err c =
     let p = (goal.at.returns-else-is_skipped-clause-err c).After-is_skipped in
     let test : is_skipped (drop (c.loop-found.used + c.first_said-next.result.used) c.args.text.now) ≡ false = sym (skipped p) ∙ c.if-is_skipped.false in
     inl (ap (λ (r : Reading). r.fault) (rw test at (last p (scan (goal.at.returns-else-is_skipped-clause-err c).After-first_said-next))))
+
+pub returns-then-is_skipped-clause-on : goal.returns-then-is_skipped-clause-on
+returns-then-is_skipped-clause-on c = reading_on c.args.names.now c.args.text.now c.loop-found.events.items (returns-then-is_skipped-clause-ok c)
+
+pub returns-then-is_skipped-clause-in_bits : goal.returns-then-is_skipped-clause-in_bits
+returns-then-is_skipped-clause-in_bits c = reading_in_bits c.args.names.now c.args.text.now c.loop-found.events.items c.validity.ensures (returns-then-is_skipped-clause-ok c)

@@ -1,6 +1,6 @@
 use Rattle.std.proofs.Common.{subst}
 use Rattle.fmp_text.specs.Names.{AreValid}
-use Rattle.fmp_trace.proofs.CheckedTexts.{is_judged, has_one, is_own, is_reading_fault}
+use Rattle.fmp_trace.proofs.CheckedTexts.{is_judged, has_one, is_own, is_answered, is_reading_fault}
 use Rattle.fmp_trace.proofs.checking.check.Goals as goal
 
 pub returns : goal.returns
@@ -10,5 +10,6 @@ returns c =
       verdict = is_judged c.args.config.now c.args.text.now valid c.check_within.result c.check_within.ensures;
       complete = has_one c.args.config.now c.args.text.now valid c.check_within.result c.check_within.ensures;
       own = is_own c.args.config.now c.args.text.now valid c.check_within.result c.check_within.ensures;
+      answers = is_answered c.args.config.now c.args.text.now valid c.check_within.result c.check_within.ensures c.names.ensures.valid;
       fault = is_reading_fault c.args.config.now c.args.text.now valid c.check_within.result c.check_within.ensures;
     }

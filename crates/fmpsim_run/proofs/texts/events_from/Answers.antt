@@ -1,7 +1,6 @@
 use Rattle.std.proofs.Common.{◌∙◌, ap, sym, subst}
 use Rattle.fmp_text.specs.Events.{IsFirst, Reading, reading_of}
 use Rattle.fmpsim_run.proofs.Fronts.{reading_of-front, reading_of-ok}
-use Rattle.fmpsim_run.proofs.Placed.{reading_of_on}
 use Rattle.fmpsim_run.proofs.texts.events_from.Goals as goal
 
 pub returns-in-Ok-clause-ok : goal.returns-in-Ok-clause-ok
@@ -18,6 +17,3 @@ returns-clause-fault g c = λ tells.
     let read = c.in_ok-text.ensures.ok tells in
     let same = reading_of-front c.args.names.now _ _ _ read.front read.whole ∙ ap (reading_of c.args.names.now) (sym c.as_slice.ensures.value) in
     subst (λ (r : Reading). IsFirst r c.in-Err.fault) (sym same) c.in-Err.ensures.err
-
-pub returns-in-Ok-clause-on : goal.returns-in-Ok-clause-on
-returns-in-Ok-clause-on g c = reading_of_on c.args.names.now c.as_slice.result.now _ c.in-Ok.ensures.ok

@@ -1,0 +1,7 @@
+use Rattle.std.proofs.lemmas.Result.{err_from_is_err_and}
+use Rattle.fmpsim_run.proofs.check.run_check.Goals as goal
+
+pub returns-in_err-verdict-clause-answers : goal.returns-in_err-verdict-clause-answers
+returns-in_err-verdict-clause-answers g c = λ tells tells_too event_text answered short.
+    let p = err_from_is_err_and c.from_residual.result c.from_residual.ensures.1 in
+    rw (p.1, p.2) (c.in_err-verdict.ensures.answers tells tells_too event_text answered short)
