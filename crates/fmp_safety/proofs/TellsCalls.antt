@@ -20,7 +20,7 @@ use Rattle.fmp_machine.specs.declared.effect.Effect.{Effect}
 use Rattle.fmp_machine.specs.declared.machine.Processor.{Processor}
 use Rattle.fmp_machine.specs.World.{World, task, processor, with_processor}
 use Rattle.fmp_machine.specs.Keeping.{Keeping}
-use Rattle.fmp_machine.specs.Tasks.{activate, start}
+use Rattle.fmp_machine.specs.Tasks.{activate, finish, start}
 use Rattle.fmp_machine.specs.Keeping.{note}
 use Rattle.fmp_machine.specs.Rows.{Row, check, called, called_by, plain, done, with_value}
 use Rattle.fmp_machine.specs.Arguments.{caller}
@@ -67,15 +67,20 @@ module _ {Q : Type 0} (k : Keeping Q) (n : Counts) (w : World Q) (h : HasCounts 
       (λ _. counts_task n w h t.number _ w.waits_left w.order) (λ _. counts_task n w h t.number _ w.waits_left _)) tt
 
   counts_opened : HasCounts n (opened w p)
+  unfolding opened
   counts_opened =
       let unlocks = counts_processor n w h p.number (record (processor w p) { locked = false }) (unlocked w p).holders in
       counts_processor n (unlocked w p) unlocks p.number _ (unlocked w p).holders
+
+  counts_finish : (v : World Q) → HasCounts n v → (t : Task) → HasCounts n (finish k v t)
+  unfolding finish
+  counts_finish v i t = counts_task n v i t.number _ _ _
 
   -- what each call does and tells where it is accepted
 
   tells_task_call : (c : TaskCall) → Accepts w p (task_row k w p c) → Tells n (task_row k w p c).effect
   tells_task_call (task_call.ActTsk id) a = tells_activation _ _ None
-  tells_task_call task_call.ExtTsk a = tells_plain n _ answer.Gone (counts_task n (opened w p) counts_opened (caller w p).number _ _ _) tt
+  tells_task_call task_call.ExtTsk a = tells_plain n _ answer.Gone (counts_finish (opened w p) counts_opened (caller w p)) tt
 
   tells_system_call : (c : SystemCall) → Accepts w p (system_row k w p c) → Tells n (system_row k w p c).effect
   tells_system_call system.GetTid a = tells_value _ (number_within (processor w p).running)
