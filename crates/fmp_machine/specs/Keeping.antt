@@ -5,12 +5,14 @@ use Rattle.fmp_codes.specs.declared.numbers.Task.{Task}
 use Rattle.fmp_codes.specs.declared.numbers.Object.{Object}
 use Rattle.fmp_codes.specs.declared.numbers.Pri.{Pri}
 use Rattle.fmp_machine.specs.declared.setup.Order.{Order}
+use Rattle.fmp_machine.specs.declared.setup.Order.TheVariants as order
 use Rattle.fmp_machine.specs.declared.machine.TaskRecord.{TaskRecord}
 use Rattle.fmp_machine.specs.declared.machine.Wait.{Wait}
 use Rattle.fmp_machine.specs.declared.machine.Wait.TheVariants as wait
 use Rattle.fmp_machine.specs.declared.machine.QueueKind.{QueueKind}
 use Rattle.fmp_machine.specs.declared.machine.QueueKind.TheVariants as kind
-use Rattle.fmp_machine.specs.World.{World, task, with_item}
+use Rattle.fmp_machine.specs.World.{World, task, item, with_item}
+use Rattle.fmp_machine.specs.Objects.{semaphore, eventflag, data_queue, pool}
 
 pub record Keeping (Q : Type 0) : Type 0 where
   -- a task becomes the last of its priority on its processor, and is no longer ready
@@ -44,6 +46,16 @@ abbrev pub waits_in : QueueKind → Object → Option Wait → Bool
 waits_in x o None = false
 waits_in x o (Some y) = is_in x o y
 
+-- the order of the queue in which a wait stands. Receivers of a data queue wait first come first
+abbrev pub order_of : {Q : Type 0} → World Q → Wait → Order
+order_of w wait.Sleep = order.First
+order_of w wait.Delay = order.First
+order_of w (wait.Semaphore s) = (semaphore w s).setup.order
+order_of w (wait.Eventflag f pattern mode) = (eventflag w f).setup.order
+order_of w (wait.Send d value) = (data_queue w d).order
+order_of w (wait.Receive d) = order.First
+order_of w (wait.Pool m) = (pool w m).setup.order
+
 -- the task that comes first on a processor
 abbrev pub top : {Q : Type 0} → Keeping Q → World Q → Proc → Option Task
 top k w p = k.top w.order w.tasks p
@@ -72,3 +84,27 @@ without_wait k q r t = if is_some r.wait then k.leave q r t else q
 abbrev pub end_wait : {Q : Type 0} → Keeping Q → World Q → Task → TaskRecord → World Q
 end_wait k w t r =
     place k (record w { order = without_wait k w.order (task w t) t; waits_left = with_item w.waits_left t.number None }) t r
+
+-- The task t waits for this with so many ticks left, or for ever. It leaves its ready queue, and is the last in the queue and of the timed waits.
+abbrev pub begin_wait : {Q : Type 0} → Keeping Q → World Q → Task → Wait → Option ℕ → World Q
+begin_wait k w t x left =
+    let r = record (task w t) { wait = Some x } in
+    record w {
+      tasks = with_item w.tasks t.number r;
+      waits_left = with_item w.waits_left t.number left;
+      order = k.join (depart k w.order (task w t) t) (order_of w x) r left t;
+    }
+
+-- in a queue by priority a task of this record leaves and joins again, with the ticks that it has left
+abbrev pub rejoin : {Q : Type 0} → Keeping Q → Q → Order → TaskRecord → Option ℕ → Task → Q
+rejoin k q order.First r left t = q
+rejoin k q order.Priority r left t = k.join (k.leave q r t) order.Priority r left t
+
+-- the order when t, which has this wait or none, comes last among its equals where it stands
+abbrev pub behind : {Q : Type 0} → Keeping Q → World Q → Task → TaskRecord → Option Wait → Q
+behind k w t r None = arrive k (depart k w.order (task w t) t) r t
+behind k w t r (Some x) = rejoin k w.order (order_of w x) r (item None w.waits_left t.number) t
+
+-- The fields of t change. Where it is ready it goes last, and where it waits in a queue by priority its wait begins anew.
+abbrev pub requeue : {Q : Type 0} → Keeping Q → World Q → Task → TaskRecord → World Q
+requeue k w t r = record w { tasks = with_item w.tasks t.number r; order = behind k w t r (task w t).wait }

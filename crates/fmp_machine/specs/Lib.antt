@@ -1,6 +1,7 @@
 pub mod Setup
 pub mod Valid
 pub mod World
+pub mod Objects
 pub mod Keeping
 pub mod Tasks
 pub mod Numbers

@@ -11,7 +11,11 @@ use Rattle.fmp_machine.specs.declared.effect.Effect.{Effect}
 use Rattle.fmp_machine.specs.declared.machine.Context.{Context}
 use Rattle.fmp_machine.specs.declared.machine.Context.TheVariants as context
 use Rattle.fmp_machine.specs.declared.machine.Rule.{Rule}
+use Rattle.fmp_machine.specs.declared.machine.Wait.{Wait}
 use Rattle.fmp_machine.specs.World.{World, processor, handler, is_held}
+use Rattle.fmp_machine.specs.Keeping.{Keeping, begin_wait}
+use Rattle.fmp_machine.specs.Tasks.{make_ready}
+use Rattle.fmp_machine.specs.Arguments.{caller, is_timeout, is_zero, ticks_of}
 
 pub record Row (Q : Type 0) : Type 0 where
   pub rule : Rule  -- when the call may be made
@@ -83,6 +87,14 @@ when_locked row = record row { rule = record row.rule { when_locked = true } }
 abbrev pub from_anywhere : {Q : Type 0} → Row Q → Row Q
 from_anywhere row = record row { rule = anywhere }
 
+-- where this is so, the call may be made only while dispatching is not held
+abbrev pub unheld_if : {Q : Type 0} → Bool → Row Q → Row Q
+unheld_if b row = record row { rule = record row.rule { unheld = b } }
+
+-- a call that can make the caller wait, with this timeout
+abbrev pub waiting : {Q : Type 0} → ℤ → Row Q → Row Q
+waiting timeout row = unheld_if true (record row { proper = row.proper && is_timeout timeout })
+
 -- a call from a task that has no arguments and no errors
 abbrev pub row : {Q : Type 0} → World Q × Effect → Row Q
 row effect = record { rule = in_task; known = true; proper = true; errors = []; effect = effect }
@@ -94,3 +106,16 @@ on_named none o errors effect = record (row (effect (unwrap_or o none))) { known
 -- a call on the task that its argument names
 abbrev pub on_task : {Q : Type 0} → Option Task → (Task → List (Bool × Code)) → (Task → World Q × Effect) → Row Q
 on_task t errors effect = on_named (as_task 1) t errors effect
+
+-- a task waits for this so long, unless the timeout is 0
+abbrev pub wait_for : {Q : Type 0} → Keeping Q → World Q → Task → Wait → ℤ → World Q × Effect
+wait_for k w t x timeout =
+    if is_zero timeout then (w, refused code.TimedOut) else (begin_wait k w t x (ticks_of timeout), plain answer.Wait)
+
+-- what can be done at once is done; else the caller waits
+abbrev pub done_or_wait : {Q : Type 0} → Keeping Q → World Q → Proc → Bool → World Q × Effect → Wait → ℤ → World Q × Effect
+done_or_wait k w p can effect x timeout = if can then effect else wait_for k w (caller w p) x timeout
+
+-- the wait of a task ends with a code and perhaps a value, and the call is accepted
+abbrev pub release : {Q : Type 0} → Keeping Q → World Q → Task → Code → Option ℤ → World Q × Effect
+release k w t c v = (make_ready k w t, record done { releases = record { task = t; code = c; value = v } ∷ [] })

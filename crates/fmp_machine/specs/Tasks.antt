@@ -1,10 +1,11 @@
--- How a task begins and ends.
+-- How a task begins, becomes ready, and ends.
 use Rattle.std.specs.Prelude.{◌-◌, true, false, Option, None, nat_lt, if◌then◌else◌, unwrap_or}
 use Rattle.fmp_codes.specs.declared.numbers.Proc.{Proc}
 use Rattle.fmp_codes.specs.declared.numbers.Task.{Task}
+use Rattle.fmp_codes.specs.declared.numbers.Pri.{Pri}
 use Rattle.fmp_machine.specs.declared.machine.TaskRecord.{TaskRecord}
 use Rattle.fmp_machine.specs.World.{World, task}
-use Rattle.fmp_machine.specs.Keeping.{Keeping, note, place, end_wait}
+use Rattle.fmp_machine.specs.Keeping.{Keeping, note, place, end_wait, requeue}
 
 -- a task as it starts on p
 abbrev pub started : TaskRecord → Proc → TaskRecord
@@ -29,3 +30,11 @@ activate k w t p kept =
 -- a task ends, and its wait with it
 unfoldable pub finish : {Q : Type 0} → Keeping Q → World Q → Task → World Q
 finish k w t = end_wait k w t (ended (task w t))
+
+-- the wait of a task is over, and it is ready last of its priority unless it is suspended
+abbrev pub make_ready : {Q : Type 0} → Keeping Q → World Q → Task → World Q
+make_ready k w t = end_wait k w t (record (task w t) { wait = None })
+
+-- a task has this priority from now on, and comes last of it
+abbrev pub change_priority : {Q : Type 0} → Keeping Q → World Q → Task → Pri → World Q
+change_priority k w t n = requeue k w t (record (task w t) { priority = n })

@@ -15,7 +15,7 @@ use Rattle.fmp_machine.specs.Boot.{resting, blank, all_started, boot, booted, un
 use Rattle.fmp_safety.specs.Safe.{Safe}
 use Rattle.fmp_safety.specs.Runs.{AreOn, IsSafeThroughout}
 use Rattle.fmp_codes.specs.declared.records.Event.{Event}
-use Rattle.fmp_safety.proofs.Keeps.{Rests}
+use Rattle.fmp_safety.proofs.Rests.{Rests}
 use Rattle.fmp_safety.proofs.Settling.{TopsMayRun}
 use Rattle.fmp_safety.proofs.Stepping.{numbered_tops, safe_throughout}
 use Rattle.fmp_safety.proofs.Booting.{HasInitial, blank_rests, started_processors, started_due, started_rests, safe_running, length_running}

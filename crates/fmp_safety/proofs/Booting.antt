@@ -19,7 +19,7 @@ use Rattle.fmp_machine.specs.Tasks.{started, start}
 use Rattle.fmp_machine.specs.Boot.{resting, blank, all_started, with_top_running, with_tops_running}
 use Rattle.fmp_safety.specs.Safe.{IsNumberOf, TaskInRange, TicksInRange, SafeAt, Safe}
 use Rattle.fmp_safety.proofs.Items.{item_after}
-use Rattle.fmp_safety.proofs.Keeps.{Rests, rests_task, rests_processors}
+use Rattle.fmp_safety.proofs.Rests.{Rests, rests_task, rests_processors}
 use Rattle.fmp_safety.proofs.Settling.{TopsMayRun, among, with_each, length_each, each_at, locked_each}
 use Rattle.fmp_safety.proofs.Ending.{runs_once}
 

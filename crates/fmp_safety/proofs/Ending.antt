@@ -2,7 +2,7 @@
 use Rattle.std.proofs.Common.{◌≡◌, ℕ, ◌==◌, true, false, not, ◌||◌, ◌&&◌, List, length, refl, sym, ap, ◌∙◌, subst, Option, Some, None, ⊎_elim}
 use Rattle.std.specs.Prelude.{is_some, is_none, option_map, slice_index_or}
 use Rattle.std.specs.Option.{option_or}
-use Rattle.std.proofs.lemmas.Bool.{cases_eq, eqb-true, ne_eqb, and_parts, or_parts, both_ways, cond_both, false≢true, not-false}
+use Rattle.std.proofs.lemmas.Bool.{cases_eq, eqb-true, ne_eqb, and_parts, or_parts, both_ways, cond_both, false≢true, true≢false, not-false}
 use Rattle.std.proofs.lemmas.List.{length-set}
 use Rattle.fmp_codes.specs.declared.numbers.Proc.{Proc}
 use Rattle.fmp_codes.specs.declared.numbers.Task.{Task}
@@ -15,7 +15,8 @@ use Rattle.fmp_machine.specs.Keeping.{Keeping, top}
 use Rattle.fmp_machine.specs.Step.{is_same, tops, is_requested, requests, settle}
 use Rattle.fmp_safety.specs.Safe.{IsNumberOf, may_run_on, SafeAt, RunsOnce, Safe}
 use Rattle.fmp_safety.proofs.Items.{proc_same, task_same, item_after, item_same, item_other}
-use Rattle.fmp_safety.proofs.Keeps.{Rests, Keeps, rests_processors}
+use Rattle.fmp_safety.proofs.Rests.{Rests, rests_processors}
+use Rattle.fmp_safety.proofs.Keeps.{Keeps}
 use Rattle.fmp_safety.proofs.Settling.{TopsMayRun, requested, top_before, with_latches, length_each, locked_each, or_latched, latches_at, at_end, settle_is}
 
 pub same_true : (a b : Option Task) → is_same a b ≡ true → a ≡ b
@@ -43,6 +44,20 @@ free_parts w p e =
     let parts = or_parts (is_some (handler w p) || c.locked) c.disabled e in
     let others = or_parts (is_some (handler w p)) c.locked parts.0 in
     record { handler = others.0; locked = others.1; disabled = parts.1 }
+
+-- A processor where handlers may become due: `now` is the due one, and `before` was.
+
+free_before : (now before : Option Runner) (c : Processor) → (is_some now ≡ false → is_some before ≡ false) →
+    (is_some now || c.locked || c.disabled) ≡ false → (is_some before || c.locked || c.disabled) ≡ false
+free_before (Some x) before c none free = absurd (true≢false free)
+free_before None before c none free = rw (none refl) free
+
+still_occupied : (now before : Option Runner) (c : Processor) → (is_some now ≡ false → is_some before ≡ false) →
+    ((is_some before || c.locked || c.disabled) ≡ true → is_some (option_or before (option_map runner.Task c.running)) ≡ true) →
+    (is_some now || c.locked || c.disabled) ≡ true → is_some (option_or now (option_map runner.Task c.running)) ≡ true
+still_occupied (Some x) before c none old held = refl
+still_occupied None None c none old held = old held
+still_occupied None (Some x) c none old held = absurd (true≢false (none refl))
 
 module _ {Q : Type 0} (k : Keeping Q) (w v : World Q) (p : Proc) (s : Safe k w) (h : Keeps w v p) (first : TopsMayRun k v) (within : IsNumberOf w.processors p.number) where
   abbrev rs : List Proc
@@ -99,18 +114,19 @@ module _ {Q : Type 0} (k : Keeping Q) (w v : World Q) (p : Proc) (s : Safe k w) 
       let same : item no_processor (at_end k v cs p) i.number ≡ or_latched (is_requested k (tops k w) v p i) (processor w i) =
       unchanged_there i d ∙ at_latches i n ∙ ap (or_latched (is_requested k (tops k w) v p i)) (h.processors i d) in
       let runs_same : (item no_processor (at_end k v cs p) i.number).running ≡ (processor w i).running = ap (λ (c : Processor). c.running) same in
-      let held_same : is_held (record v { processors = at_end k v cs p }) i ≡ is_held w i =
-      ap (λ (c : Processor). is_some (handler v i) || c.locked || c.disabled) same
-      ∙ ap (λ (o : Option Runner). is_some o || (processor w i).locked || (processor w i).disabled) (h.handlers i d) in
+      let flags_same : (handlers : Option Runner) → (is_some handlers || (item no_processor (at_end k v cs p) i.number).locked || (item no_processor (at_end k v cs p) i.number).disabled)
+      ≡ (is_some handlers || (processor w i).locked || (processor w i).disabled) =
+      λ o. ap (λ (c : Processor). is_some o || c.locked || c.disabled) same in
       record {
         runs = λ t e. h.others t i d (old.runs t (sym runs_same ∙ e));
         dispatched = λ l free.
             let parts = or_parts (processor w i).latch (is_requested k (tops k w) v p i) (sym (ap (λ (c : Processor). c.latch) same) ∙ l) in
             let kept : not (is_same (top k w i) (top k v i)) ≡ false = rw (ne_eqb i.number p.number d, top_before k w i n) at parts.1 in
-            runs_same ∙ old.dispatched parts.0 (sym held_same ∙ free) ∙ same_true (top k w i) (top k v i) (not-false _ kept);
+            let was_free : is_held w i ≡ false = free_before (handler v i) (handler w i) (processor w i) (h.handlers i d) (sym (flags_same (handler v i)) ∙ free) in
+            runs_same ∙ old.dispatched parts.0 was_free ∙ same_true (top k w i) (top k v i) (not-false _ kept);
         occupied = λ e.
             subst (λ o. is_some (option_or (handler v i) (option_map runner.Task o)) ≡ true) (sym runs_same)
-            (subst (λ (o : Option Runner). is_some (option_or o (option_map runner.Task (processor w i).running)) ≡ true) (sym (h.handlers i d)) (old.occupied (sym held_same ∙ e)));
+            (still_occupied (handler v i) (handler w i) (processor w i) (h.handlers i d) old.occupied (sym (flags_same (handler v i)) ∙ e));
         disabled = λ e. subst (λ o. is_some o ≡ true) (sym runs_same) (old.disabled (sym (ap (λ (c : Processor). c.disabled) same) ∙ e));
       }
 

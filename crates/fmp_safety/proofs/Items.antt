@@ -6,6 +6,7 @@ use Rattle.std.proofs.lemmas.Bool.{cases_eq, cases_lt}
 use Rattle.std.proofs.lemmas.List.{get_or-set_same, get_or-set_other, length-set, get_or_past}
 use Rattle.fmp_codes.specs.declared.numbers.Proc.{Proc}
 use Rattle.fmp_codes.specs.declared.numbers.Task.{Task}
+use Rattle.fmp_codes.specs.declared.numbers.Object.{Object}
 use Rattle.fmp_machine.specs.World.{item, with_item}
 
 made_same : {A : Type 0} (most : ℕ) (make : (n : ℕ) → 1 ≤ n → n ≤ most → A) (n k : ℕ) → n ≡ k →
@@ -14,16 +15,22 @@ made_same most make n k e l m =
     let P : ℕ → Type 0 = λ k. (l' : 1 ≤ k) (m' : k ≤ most) → make n l m ≡ make k l' m' in
     subst P e (λ l' m'. ap (λ x. make n x m) (le_prop l l') ∙ ap (λ x. make n l' x) (le_prop m m'))
 
--- of one number there is one processor, and one task
+-- of one number there is one processor, one task and one object of a kind
 pub proc_same : (p q : Proc) → p.number ≡ q.number → p ≡ q
 proc_same p q e = made_same 8 (λ n l m. record { number = n; least = l; most = m }) p.number q.number e p.least p.most q.least q.most
 
 pub task_same : (t u : Task) → t.number ≡ u.number → t ≡ u
 task_same t u e = made_same 64 (λ n l m. record { number = n; least = l; most = m }) t.number u.number e t.least t.most u.least u.most
 
+pub object_same : (m n : Object) → m.number ≡ n.number → m ≡ n
+object_same m n e = made_same 32 (λ n l m. record { number = n; least = l; most = m }) m.number n.number e m.least m.most n.least n.most
+
 -- the place of a number from 1 on tells it
 pub place_same : (m n : ℕ) → 1 ≤ m → 1 ≤ n → m - 1 ≡ n - 1 → m ≡ n
 place_same m n a b e = omega (arith, a, b, e)
+
+pub task_at : (t u : Task) → t.number - 1 ≡ u.number - 1 → t ≡ u
+task_at t u e = task_same t u (place_same t.number u.number t.least u.least e)
 
 module _ {X : Type 0} (blank : X) (xs : List X) (n : ℕ) (x : X) where
   -- what holds of the item of a number after another one was put in the place of n

@@ -10,7 +10,7 @@ use Rattle.fmp_codes.specs.declared.numbers.Proc.{Proc}
 use Rattle.fmp_machine.specs.declared.machine.Processor.{Processor}
 use Rattle.fmp_machine.specs.World.{World, processor}
 use Rattle.fmp_machine.specs.Processors.{is_at, with_lock, holds_lock, unlocked, opened}
-use Rattle.fmp_safety.specs.Objects.{holder}
+use Rattle.fmp_machine.specs.Objects.{holder}
 use Rattle.fmp_safety.specs.Safe.{IsNumberOf}
 use Rattle.fmp_safety.proofs.Items.{proc_same}
 use Rattle.fmp_safety.proofs.Keeps.{Keeps, keeps_then, keeps_processor, processor_here}

@@ -2,7 +2,6 @@
 use Rattle.std.proofs.Common.{◌≡◌, true, false, refl, sym, subst, lit≤, Option, Some, None}
 use Rattle.std.specs.Prelude.{is_some, unwrap_or}
 use Rattle.std.proofs.lemmas.Bool.{both_ways, cond_both}
-use Rattle.std.proofs.lemmas.List.Elements.{All-set}
 use Rattle.std.proofs.lemmas.Option.{none-some}
 use Rattle.fmp_codes.specs.Numbers.{as_task}
 use Rattle.fmp_codes.specs.declared.numbers.Proc.{Proc}
@@ -13,14 +12,15 @@ use Rattle.fmp_machine.specs.declared.machine.Processor.{Processor}
 use Rattle.fmp_machine.specs.Setup.{has_member}
 use Rattle.fmp_machine.specs.World.{World, task, processor, handler, is_held}
 use Rattle.fmp_machine.specs.Keeping.{Keeping, note}
-use Rattle.fmp_machine.specs.Tasks.{ended, start, activate, finish}
+use Rattle.fmp_machine.specs.Tasks.{start, activate, finish}
 use Rattle.fmp_machine.specs.Rows.{called}
 use Rattle.fmp_machine.specs.Arguments.{caller, task_or_caller}
 use Rattle.fmp_machine.specs.Processors.{opened}
 use Rattle.fmp_machine.specs.TaskCalls.{act, ext_tsk, task_row}
-use Rattle.fmp_safety.specs.Safe.{IsNumberOf, TaskInRange, TicksInRange, Safe}
-use Rattle.fmp_safety.proofs.Keeps.{Occupied, Keeps, keeps_then, keeps_task, occupied_by_task}
-use Rattle.fmp_safety.proofs.KeepsTasks.{becomes_noted, becomes_started, becomes_ended}
+use Rattle.fmp_safety.specs.Safe.{IsNumberOf, TaskInRange, Safe}
+use Rattle.fmp_safety.proofs.Keeps.{Occupied, Keeps, keeps_then, occupied_by_task}
+use Rattle.fmp_safety.proofs.KeepsTasks.{may_run_parts, becomes_noted, becomes_started, becomes_ended}
+use Rattle.fmp_safety.proofs.KeepsWords.{keeps_note, keeps_place, keeps_end_wait}
 use Rattle.fmp_safety.proofs.KeepsProcessors.{keeps_opened, opened_here}
 use Rattle.fmp_safety.proofs.Calls.{FromTask, from_task, keeps_called, occupied_at, some_runs}
 
@@ -33,11 +33,10 @@ module _ {Q : Type 0} (k : Keeping Q) (w : World Q) (p : Proc) (s : Safe k w) (w
       ((q : Proc) → kept ≡ Some q → has_member (task w t).setup.class q ≡ true) → Keeps w (activate k w t to kept) p
   keeps_activate t to kept member keeps =
       cond_both (task w t).active (note w t (record (task w t) { activations = 1; kept = kept })) (start k w t to) (λ (v : World Q). Keeps w v p)
-      (λ active. keeps_task w p t _ w.waits_left w.order
+      (λ active. keeps_note k w p occupied t _
       (becomes_noted w p t _ refl refl refl
-      (λ r. record { activations = lit≤ tt; wakeups = r.wakeups; assigned = r.assigned; kept = keeps; dormant = λ e. absurd (both_ways _ e active) }))
-      occupied (λ h. h))
-      (λ dormant. keeps_task w p t _ w.waits_left _ (becomes_started w p t to dormant member) occupied (λ h. h))
+      (λ r. record { activations = lit≤ tt; wakeups = r.wakeups; assigned = r.assigned; kept = keeps; dormant = λ e. absurd (both_ways _ e active) })))
+      (λ dormant. keeps_place k w p occupied t _ (becomes_started w p t to dormant member))
 
   keeps_act : (t : Option Task) → Keeps w (called w p (act k w t)).0 p
   keeps_act t =
@@ -61,9 +60,8 @@ module _ {Q : Type 0} (k : Keeping Q) (w : World Q) (p : Proc) (s : Safe k w) (w
       let some = some_runs w p f in
       let ran : is_some (processor (opened w p) p).running ≡ true = subst (λ (c : Processor). is_some c.running ≡ true) (sym (opened_here w p within some)) some in
       keeps_then w p (opened w p) (finish k (opened w p) t) refl (keeps_opened w p within some)
-      (keeps_task (opened w p) p t (ended (task w t)) _ _
-      (becomes_ended (opened w p) p t ((s.processors p within).runs t f.running) (opened_free f))
-      (occupied_by_task (opened w p) p ran) (All-set TicksInRange _ _ None tt)))
+      (keeps_end_wait k (opened w p) p (occupied_by_task (opened w p) p ran) t _
+      (becomes_ended (opened w p) p t (may_run_parts p (task w t) ((s.processors p within).runs t f.running)).assigned (λ _. opened_free f))))
 
   pub keeps_task_call : (c : TaskCall) → Keeps w (called w p (task_row k w p c)).0 p
   keeps_task_call (call.ActTsk id) = keeps_act (task_or_caller w p id)

@@ -1,17 +1,20 @@
 -- What the record of a task may become.
-use Rattle.std.proofs.Common.{◌≡◌, ◌-◌, ◌==◌, ◌&&◌, true, false, refl, sym, ◌∙◌, arith, Option, Some, None}
+use Rattle.std.proofs.Common.{◌≡◌, ℕ, ◌≤◌, ◌-◌, ◌==◌, ◌&&◌, inl, inr, Bool, true, false, refl, sym, subst, ◌∙◌, arith, Option, Some, None}
 use Rattle.std.specs.Prelude.{nat_lt, is_none, unwrap_or}
-use Rattle.std.proofs.lemmas.Bool.{and_parts, both_ways, cond_both, eqb-true, true≢false, ltb-false}
-use Rattle.std.proofs.lemmas.Option.{none-some}
+use Rattle.std.proofs.lemmas.Bool.{and_parts, and_from, false_from_ne_true, both_ways, cond_both, eqb-true, true≢false, ltb-false}
+use Rattle.std.proofs.lemmas.Option.{none-some, same_Some}
 use Rattle.fmp_codes.specs.declared.numbers.Proc.{Proc}
 use Rattle.fmp_codes.specs.declared.numbers.Task.{Task}
+use Rattle.fmp_codes.specs.declared.numbers.Pri.{Pri}
 use Rattle.fmp_machine.specs.declared.setup.Class.{Class}
 use Rattle.fmp_machine.specs.declared.setup.Limits.{Limits}
 use Rattle.fmp_machine.specs.declared.machine.TaskRecord.{TaskRecord}
+use Rattle.fmp_machine.specs.declared.machine.Wait.{Wait}
 use Rattle.fmp_machine.specs.Setup.{has_member}
-use Rattle.fmp_machine.specs.World.{World, task, is_held}
+use Rattle.fmp_machine.specs.World.{World, task, processor, is_held}
 use Rattle.fmp_machine.specs.Tasks.{started, ended}
 use Rattle.fmp_safety.specs.Safe.{may_run_on, TaskInRange}
+use Rattle.fmp_safety.proofs.Rests.{MayBegin}
 use Rattle.fmp_safety.proofs.Keeps.{Becomes}
 
 pub record MayRunOn (p : Proc) (r : TaskRecord) : Type 0 where
@@ -30,6 +33,11 @@ kept_or_assigned : (c : Class) (kept : Option Proc) (p : Proc) → has_member c 
 kept_or_assigned c None p a f = a
 kept_or_assigned c (Some q) p a f = f q refl
 
+runs_without_wait : (p : Proc) (o : TaskRecord) → may_run_on p o ≡ true → may_run_on p (record o { wait = None }) ≡ true
+runs_without_wait p o m =
+    let parts = and_parts o.active ((o.assigned.number == p.number) && is_none o.wait) m in
+    and_from _ _ parts.0 (and_from _ _ (and_parts (o.assigned.number == p.number) (is_none o.wait) parts.1).0 refl)
+
 module _ {Q : Type 0} (w : World Q) (p : Proc) (t : Task) where
   -- fields change of which nothing depends that runs or waits
   pub becomes_noted : (r : TaskRecord) → r.active ≡ (task w t).active → r.assigned ≡ (task w t).assigned → r.wait ≡ (task w t).wait →
@@ -39,9 +47,45 @@ module _ {Q : Type 0} (w : World Q) (p : Proc) (t : Task) where
       record {
         others = λ q d m. sym (same q) ∙ m;
         own = λ e h m. sym (same p) ∙ m;
-        waits = λ x e. sym c ∙ e;
+        waits = λ x e. inl (sym c ∙ e);
         range = range;
       }
+
+  -- a task has another number of queued wakeups
+  pub becomes_counted : (n : ℕ) → ((task w t).wakeups ≤ w.limits.wakeups → n ≤ w.limits.wakeups) → Becomes w p t (record (task w t) { wakeups = n })
+  becomes_counted n most =
+      becomes_noted (record (task w t) { wakeups = n }) refl refl refl
+      (λ r. record { activations = r.activations; wakeups = most r.wakeups; assigned = r.assigned; kept = r.kept; dormant = r.dormant })
+
+  -- a task has another priority, or is suspended while it is active, or no longer
+  pub becomes_changed : (n : Pri) (suspended : Bool) → (suspended ≡ true → (task w t).active ≡ true) → Becomes w p t (record (task w t) { priority = n; suspended = suspended })
+  becomes_changed n suspended active =
+      becomes_noted (record (task w t) { priority = n; suspended = suspended }) refl refl refl
+      (λ r. record {
+        activations = r.activations;
+        wakeups = r.wakeups;
+        assigned = r.assigned;
+        kept = r.kept;
+        dormant = λ e. ((r.dormant e).0, (r.dormant e).1, false_from_ne_true suspended (λ s. both_ways _ e (active s)));
+      })
+
+  -- a wait is over, if there was one
+  pub becomes_released : Becomes w p t (record (task w t) { wait = None })
+  becomes_released = record {
+    others = λ q d m. runs_without_wait q (task w t) m;
+    own = λ e h m. runs_without_wait p (task w t) m;
+    waits = λ x e. absurd (none-some x e);
+    range = λ r. record { activations = r.activations; wakeups = r.wakeups; assigned = r.assigned; kept = r.kept; dormant = λ e. ((r.dormant e).0, refl, (r.dormant e).2) };
+  }
+
+  -- what p may run begins to wait, where p is not held
+  pub becomes_waiting : (x : Wait) → may_run_on p (task w t) ≡ true → is_held w p ≡ false → MayBegin w x → Becomes w p t (record (task w t) { wait = Some x })
+  becomes_waiting x mine free may = record {
+    others = λ q d m. absurd (d (sym (may_run_parts q (task w t) m).assigned ∙ (may_run_parts p (task w t) mine).assigned));
+    own = λ e h m. absurd (both_ways _ free h);
+    waits = λ y e. inr (subst (MayBegin w) (same_Some x y e) may);
+    range = λ r. record { activations = r.activations; wakeups = r.wakeups; assigned = r.assigned; kept = r.kept; dormant = λ e. absurd (both_ways _ e (may_run_parts p (task w t) mine).active) };
+  }
 
   -- a dormant task starts on a processor of its class
   pub becomes_started : (to : Proc) → (task w t).active ≡ false → (TaskInRange w.limits (task w t) → has_member (task w t).setup.class to ≡ true) →
@@ -78,15 +122,16 @@ at_rest limits o r none = record {
   dormant = λ e. (omega (arith, ltb-false 0 o.activations none), refl, refl);
 }
 
+no_wait_ended : (o : TaskRecord) → (ended o).wait ≡ None
+no_wait_ended o = cond_both (nat_lt 0 o.activations) (started (over o) (next_on o)) (over o) (λ (r : TaskRecord). r.wait ≡ None) (λ _. refl) (λ _. refl)
+
 module _ {Q : Type 0} (w : World Q) (p : Proc) (t : Task) where
-  -- a task that p may run ends, where p is not held
-  pub becomes_ended : may_run_on p (task w t) ≡ true → is_held w p ≡ false → Becomes w p t (ended (task w t))
-  becomes_ended mine free = record {
-    others = λ q d m. absurd (d (sym (may_run_parts q (task w t) m).assigned ∙ (may_run_parts p (task w t) mine).assigned));
-    own = λ e h m. absurd (both_ways _ free h);
-    waits = λ x.
-        cond_both (nat_lt 0 (task w t).activations) (started (over (task w t)) (next_on (task w t))) (over (task w t)) (λ (r : TaskRecord). r.wait ≡ Some x → (task w t).wait ≡ Some x)
-        (λ _ e. absurd (none-some x e)) (λ _ e. absurd (none-some x e));
+  -- a task that is assigned to p ends, where it does not run there while p is held
+  pub becomes_ended : (task w t).assigned.number ≡ p.number → ((processor w p).running ≡ Some t → is_held w p ≡ false) → Becomes w p t (ended (task w t))
+  becomes_ended here free = record {
+    others = λ q d m. absurd (d (sym (may_run_parts q (task w t) m).assigned ∙ here));
+    own = λ e h m. absurd (both_ways _ (free e) h);
+    waits = λ x e. absurd (none-some x (sym (no_wait_ended (task w t)) ∙ e));
     range = λ r.
         cond_both (nat_lt 0 (task w t).activations) (started (over (task w t)) (next_on (task w t))) (over (task w t)) (TaskInRange w.limits)
         (λ _. again w.limits (task w t) r) (λ none. at_rest w.limits (task w t) r none);

@@ -1,10 +1,12 @@
 pub mod Items
+pub mod Rests
 pub mod Keeps
 pub mod Settling
 pub mod Ending
 pub mod Calls
 pub mod KeepsProcessors
 pub mod KeepsTasks
+pub mod KeepsWords
 pub mod KeepsSystemCalls
 pub mod KeepsTaskCalls
 pub mod First

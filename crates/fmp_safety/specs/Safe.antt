@@ -12,7 +12,7 @@ use Rattle.fmp_machine.specs.declared.machine.QueueKind.TheVariants as kind
 use Rattle.fmp_machine.specs.Setup.{has_member}
 use Rattle.fmp_machine.specs.World.{World, task, processor, runner_of, is_held}
 use Rattle.fmp_machine.specs.Keeping.{Keeping, top, waits_in}
-use Rattle.fmp_safety.specs.Objects.{semaphore, eventflag, data_queue, values, free_block, holder, holds}
+use Rattle.fmp_machine.specs.Objects.{semaphore, eventflag, data_queue, values, free_block, holder, holds}
 
 -- n is the number of one of these
 abbrev pub IsNumberOf : {X : Type 0} → List X → ℕ → Type 0

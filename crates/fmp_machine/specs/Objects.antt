@@ -1,4 +1,4 @@
--- What is looked up of the objects, and what a task waits for.
+-- Look-ups of the objects, and what of them a task may wait for.
 use Rattle.std.specs.Prelude.{ℕ, ℤ, not, Bool, false, Option, None, List, [], ◌==◌, nat_lt, replicate, take, bit_and}
 use Rattle.std.specs.List.{position}
 use Rattle.fmp_codes.specs.declared.numbers.Proc.{Proc}
