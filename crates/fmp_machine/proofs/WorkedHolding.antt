@@ -10,6 +10,7 @@ use Rattle.fmp_machine.specs.Setup.{of_tasks}
 use Rattle.fmp_machine.specs.Tasks.{finish}
 use Rattle.fmp_machine.specs.Numbers.{numbered}
 use Rattle.fmp_machine.specs.Processors.{opened}
+use Rattle.fmp_machine.specs.TaskCalls.{act, ext_tsk}
 use Rattle.fmp_machine.specs.Step.{front_of, settled, unchanged}
 use Rattle.fmp_machine.proofs.Scenario.{Plays, a_task, both, ok, error, value, by_task, nobody, call_on, tick_on, ipi_on, runs}
 
@@ -24,7 +25,7 @@ lock_states : Plays (of_tasks 2 (a_task (both 1) 10 true ∷ [])) (
     ∷ by_task 1 (call_on 1 (call.System system.UnlCpu)) ok
     ∷ by_task 1 (call_on 1 (call.System system.SnsDpn)) (value (pos 0))
     ∷ [])
-unfolding numbered front_of settled unchanged opened finish
+unfolding numbered front_of settled unchanged act ext_tsk opened finish
 lock_states = refl
 
 -- a task of higher priority is started while dispatching is disabled, and runs once it is enabled
@@ -38,7 +39,7 @@ disabled_dispatching : Plays (of_tasks 2 (a_task (both 1) 10 true ∷ a_task (bo
     ∷ by_task 3 (ipi_on 2) answer.Nothing
     ∷ by_task 3 (call_on 2 (call.System system.SnsCtx)) (value (pos 0))
     ∷ [])
-unfolding numbered front_of settled unchanged opened finish
+unfolding numbered front_of settled unchanged act ext_tsk opened finish
 disabled_dispatching = refl
 
 -- in the CPU-locked state ticks and interrupts are held, the context is judged before the ID, unlocking leaves dispatching
@@ -60,5 +61,5 @@ locked_and_disabled : Plays (of_tasks 1 (a_task (both 1) 10 true ∷ a_task (bot
     ∷ record (by_task 2 (call_on 1 (call.Task task.ExtTsk)) answer.Gone) { run_change = Some None }
     ∷ nobody (call_on 1 (call.System system.SnsCtx)) answer.Idle
     ∷ [])
-unfolding numbered front_of settled unchanged opened finish
+unfolding numbered front_of settled unchanged act ext_tsk opened finish
 locked_and_disabled = refl

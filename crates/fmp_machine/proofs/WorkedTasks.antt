@@ -10,6 +10,7 @@ use Rattle.fmp_machine.specs.Setup.{of_tasks}
 use Rattle.fmp_machine.specs.Tasks.{finish}
 use Rattle.fmp_machine.specs.Numbers.{numbered}
 use Rattle.fmp_machine.specs.Processors.{opened}
+use Rattle.fmp_machine.specs.TaskCalls.{act, ext_tsk}
 use Rattle.fmp_machine.specs.Step.{front_of, settled, unchanged}
 use Rattle.fmp_machine.proofs.Scenario.{Plays, a_task, both, ok, error, value, by_task, nobody, call_on, tick_on, ipi_on, runs}
 
@@ -17,7 +18,7 @@ use Rattle.fmp_machine.proofs.Scenario.{Plays, a_task, both, ok, error, value, b
 started_at_once : Plays (of_tasks 2 (a_task (both 1) 10 true ∷ a_task (both 1) 5 false ∷ [])) (
     record (by_task 1 (call_on 1 (call.Task (task.ActTsk (pos 2)))) ok) { run_change = runs 2 }
     ∷ [])
-unfolding numbered front_of settled unchanged opened finish
+unfolding numbered front_of settled unchanged act ext_tsk opened finish
 started_at_once = refl
 
 -- an interrupt comes late, and then once more
@@ -27,7 +28,7 @@ late_interrupt : Plays (of_tasks 2 (a_task (both 1) 10 true ∷ a_task (both 2) 
     ∷ record (nobody (ipi_on 2) answer.Taken) { run_change = runs 2 }
     ∷ by_task 2 (ipi_on 2) answer.Nothing
     ∷ [])
-unfolding numbered front_of settled unchanged opened finish
+unfolding numbered front_of settled unchanged act ext_tsk opened finish
 late_interrupt = refl
 
 -- the same, and then an activation is queued, a second one is refused, and the task restarts in place
@@ -41,7 +42,7 @@ queued_activation : Plays (of_tasks 2 (a_task (both 1) 10 true ∷ a_task (both 
     ∷ by_task 2 (call_on 2 (call.Task task.ExtTsk)) answer.Gone
     ∷ record (by_task 2 (call_on 2 (call.Task task.ExtTsk)) answer.Gone) { run_change = Some None }
     ∷ [])
-unfolding numbered front_of settled unchanged opened finish
+unfolding numbered front_of settled unchanged act ext_tsk opened finish
 queued_activation = refl
 
 -- ids that name nothing are refused, 0 is the caller, and a tick dispatches
@@ -59,5 +60,5 @@ ids_and_tick : Plays (of_tasks 2 (a_task (both 1) 10 true ∷ a_task (both 2) 10
     ∷ record (by_task 1 (call_on 1 (call.Task task.ExtTsk)) answer.Gone) { run_change = Some None }
     ∷ nobody (call_on 1 (call.Task (task.ActTsk (pos 9)))) answer.Idle
     ∷ [])
-unfolding numbered front_of settled unchanged opened finish
+unfolding numbered front_of settled unchanged act ext_tsk opened finish
 ids_and_tick = refl

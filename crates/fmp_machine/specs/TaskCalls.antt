@@ -20,11 +20,11 @@ activation k w t to kept =
     (λ u. (activate k w u (to u) kept, done))
 
 -- a task is activated where it is assigned
-abbrev pub act : {Q : Type 0} → Keeping Q → World Q → Option Task → Row Q
+unfoldable pub act : {Q : Type 0} → Keeping Q → World Q → Option Task → Row Q
 act k w t = activation k w t (λ u. (task w u).assigned) None
 
 -- the caller ends, and leaves its processor unlocked and its dispatching enabled
-abbrev pub ext_tsk : {Q : Type 0} → Keeping Q → World Q → Proc → Row Q
+unfoldable pub ext_tsk : {Q : Type 0} → Keeping Q → World Q → Proc → Row Q
 ext_tsk k w p = when_locked (row (finish k (opened w p) (caller w p), plain answer.Gone))
 
 abbrev pub task_row : {Q : Type 0} → Keeping Q → World Q → Proc → TaskCall → Row Q

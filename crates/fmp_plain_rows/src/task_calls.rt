@@ -25,6 +25,7 @@ impl Machine {
     }
 
     /// Activates a task where it is assigned.
+    #[tactic(auto, unfolding(fmp_machine::specs::TaskCalls::act))]
     fn act_tsk(&mut self, p: Proc, id: i32) -> Result<Effect, Code>
         requires { self.old.order.next + 1 < 2 ^ 64 }
         ensures row { (self.new, effect_of result) ≡ called self.old p (act numbered self.old (task_or_caller self.old p id)) }
@@ -39,6 +40,7 @@ impl Machine {
     }
 
     /// Ends the caller, and leaves its processor unlocked and its dispatching enabled.
+    #[tactic(auto, unfolding(fmp_machine::specs::TaskCalls::ext_tsk))]
     fn ext_tsk(&mut self, p: Proc) -> Result<Effect, Code>
         requires { self.old.order.next + 1 < 2 ^ 64 }
         ensures row { (self.new, effect_of result) ≡ called self.old p (ext_tsk numbered self.old p) }

@@ -39,6 +39,7 @@ module _ {Q : Type 0} (k : Keeping Q) (w : World Q) (p : Proc) (s : Safe k w) (w
       (λ dormant. keeps_place k w p occupied t _ (becomes_started w p t to dormant member))
 
   keeps_act : (t : Option Task) → Keeps w (called w p (act k w t)).0 p
+  unfolding act
   keeps_act t =
       keeps_called w p (act k w t) occupied
       (λ a. keeps_activate (unwrap_or t (as_task 1)) (task w (unwrap_or t (as_task 1))).assigned None (λ r. r.assigned) (λ q e. absurd (none-some q e)))
@@ -51,7 +52,7 @@ module _ {Q : Type 0} (k : Keeping Q) (w : World Q) (p : Proc) (s : Safe k w) (w
       rw (none, opened_here w p within (some_runs w p f)) refl
 
   keeps_ext : Keeps w (called w p (ext_tsk k w p)).0 p
-  unfolding finish opened
+  unfolding ext_tsk finish opened
   keeps_ext =
       keeps_called w p (ext_tsk k w p) occupied
       (λ a.

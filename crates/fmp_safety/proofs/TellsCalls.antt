@@ -26,7 +26,7 @@ use Rattle.fmp_machine.specs.Rows.{Row, check, called, called_by, plain, done, w
 use Rattle.fmp_machine.specs.Arguments.{caller}
 use Rattle.fmp_machine.specs.Processors.{unlocked, opened}
 use Rattle.fmp_machine.specs.SystemCalls.{truth, system_row}
-use Rattle.fmp_machine.specs.TaskCalls.{task_row}
+use Rattle.fmp_machine.specs.TaskCalls.{act, ext_tsk, task_row}
 use Rattle.fmp_machine.specs.Step.{row_of}
 use Rattle.fmp_safety.specs.Counts.{Counts, IsReleaseOf, HasCounts}
 use Rattle.fmp_safety.proofs.Calls.{Accepts, accepts}
@@ -79,6 +79,7 @@ module _ {Q : Type 0} (k : Keeping Q) (n : Counts) (w : World Q) (h : HasCounts 
   -- what each call does and tells where it is accepted
 
   tells_task_call : (c : TaskCall) → Accepts w p (task_row k w p c) → Tells n (task_row k w p c).effect
+  unfolding act ext_tsk
   tells_task_call (task_call.ActTsk id) a = tells_activation _ _ None
   tells_task_call task_call.ExtTsk a = tells_plain n _ answer.Gone (counts_finish (opened w p) counts_opened (caller w p)) tt
 
