@@ -1,7 +1,10 @@
 //! Whole runs over memory. Each trace is worked out by hand from the rules of docs/PROFILE.md.
-ghost use Rattle.std.specs.Prelude.{◌≡◌, false, []};
+ghost use Rattle.std.specs.Prelude.{◌≡◌, false, [], IfOk};
+ghost use Rattle.fmpsim_run.specs.Runs.{IsAnswered};
 
 use crate::{Failed, MemSink, MemSource, RunFault, Sink, Source, run_calls, run_check};
+use fmp_text::MOST_BYTES;
+use fmp_trace::Verdict;
 use std::alloc::Global;
 use std::process::Abort;
 use std::test::Fail;
@@ -99,7 +102,9 @@ const KEEPING_TRACE: &[u8] = b"\
 ";
 
 /// Runs over memory, and tells what is written.
-fn run(alloc: Global, config: &[u8], events: &[u8]) -> Result<MemSink, RunFault> {
+fn run(alloc: Global, config: &[u8], events: &[u8]) -> Result<MemSink, RunFault>
+    ensures { IfOk result (λ trace. IsAnswered config.now events.now [] trace.bytes.items) }
+{
     let mut trace = MemSink::with_room(alloc, 1000)?;
     run_calls(
         alloc,
@@ -419,6 +424,29 @@ fn checked(alloc: Global, config: &[u8], trace: &[u8]) -> Result<MemSink, RunFau
         &mut answer,
     )?;
     Ok(answer)
+}
+
+/// The verdict on what a run over memory writes: yes, of whatever texts, by the contracts of the two runs.
+fn verdict_on_own(alloc: Global, config: &[u8], events: &[u8]) -> Result<Verdict, RunFault>
+    ensures { IfOk result (λ verdict. verdict ≡ Verdict.Yes) }
+{
+    let trace = run(alloc, config, events)?;
+    if trace.bytes().len() > MOST_BYTES {
+        return Err(RunFault::Memory);
+    }
+    run_check(
+        alloc,
+        &mut MemSource::new(config),
+        &mut MemSource::new(trace.bytes()),
+        &mut MemSink::with_room(alloc, 20)?,
+    )
+}
+
+#[test]
+fn own_trace(rt: HostRuntime) -> Result<(), Fail> {
+    let verdict = verdict_on_own(rt.alloc(), REMOTE, EVENTS)?;
+    assert!(rt; matches!(verdict, Verdict::Yes));
+    Ok(())
 }
 
 /// The machine's own trace, one with another answer, and the empty one.
