@@ -1,5 +1,5 @@
 -- Which values are arguments of a kind, and which are within the bits of theirs.
-use Rattle.std.specs.Prelude.{ℕ, ◌<◌, ◌^◌, Bool, true, false, ◌&&◌, List, [], ◌∷◌}
+use Rattle.std.specs.Prelude.{◌<◌, ◌^◌, Bool, true, false, ◌&&◌, List, [], ◌∷◌}
 use Rattle.fmp_codes.specs.Records.{IsWithin}
 use Rattle.fmp_codes.specs.declared.calls.Call.{Call}
 use Rattle.fmp_codes.specs.declared.records.Event.{Event}
