@@ -1,5 +1,8 @@
 -- What a reader returns, beside what reading gives, and how it is told.
-use Rattle.std.specs.Prelude.{◌≡◌, ℕ, ◌⊎◌, List, [], ◌∷◌, ◌++◌, Result, Ok, Err, codes, decimal}
+use Rattle.std.specs.Prelude.{◌≡◌, ℕ, ◌-◌, ◌⊎◌, List, [], ◌∷◌, ◌++◌, length, drop, nat_le, if◌then◌else◌, Result, Ok, Err, codes, decimal}
+use Rattle.std.specs.Str.{is_utf8}
+use Rattle.fmp_tokens.specs.Lexing.{Lexeme}
+use Rattle.fmp_statements.specs.Cursor.{first_text, is_word_next}
 use Rattle.fmp_statements.specs.declared.fault.Fault.{Fault}
 use Rattle.fmp_statements.specs.declared.fault.ConfigKind.{ConfigKind}
 use Rattle.fmp_statements.specs.declared.fault.ConfigKind.TheVariants.{Memory}
@@ -41,3 +44,19 @@ with_blank (c ∷ cs) = codes " " ++ c ∷ cs
 abbrev pub text_of : ConfigFault → List ℕ
 text_of fault =
     codes "line " ++ decimal fault.line ++ codes ": " ++ code_of fault.kind ++ codes " " ++ words_of fault.kind ++ with_blank fault.word.bytes
+
+-- a text of at most 64 bytes, or none
+abbrev pub fitting : List ℕ → List ℕ
+fitting text = if nat_le (length text) 64 then text else []
+
+-- a text as a word, empty where it is too long or no text
+abbrev pub word_of : List ℕ → List ℕ
+word_of text = if is_utf8 text then fitting text else []
+
+-- the identifier with which some tokens begin
+abbrev pub word_next : List Lexeme → List ℕ
+word_next tokens = if is_word_next tokens then word_of (first_text tokens) else []
+
+-- the identifier with which the last so many tokens begin
+abbrev pub word_at : List Lexeme → ℕ → List ℕ
+word_at tokens left = word_next (drop (length tokens - left) tokens)

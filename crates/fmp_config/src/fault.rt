@@ -1,6 +1,7 @@
 //! Why there is no configuration.
 ghost use Rattle.std.specs.Prelude.{◌≡◌};
 ghost use Rattle.fmp_config.specs.declared.fault.ReadError.TheVariants as errors;
+ghost use Rattle.fmp_config.specs.Faults as spec;
 
 use arrayvec::ArrayString;
 use fmp_statements::{ConfigKind, Fault, first_text, from_place, is_word_next};
@@ -67,16 +68,31 @@ impl From<Fault> for ReadError {
     }
 }
 
+/// The word, or none where it is too long.
+fn fitting(word: &str) -> ArrayString<MOST_NAME_BYTES>
+    ensures { result.bytes ≡ spec.fitting word.now }
+{
+    match ArrayString::from(word) {
+        Ok(word) => word,
+        Err(_) => ArrayString::new(),
+    }
+}
+
 /// The text as a word, empty where it is too long or no text.
-fn word_of(text: &[u8]) -> ArrayString<MOST_NAME_BYTES> {
+#[tactic(auto, using(crate::proofs::Words::is_text, crate::proofs::Words::is_no_text))]
+fn word_of(text: &[u8]) -> ArrayString<MOST_NAME_BYTES>
+    ensures { result.bytes ≡ spec.word_of text.now }
+{
     match str::from_utf8(text) {
-        Ok(word) => ArrayString::from(word).unwrap_or(ArrayString::new()),
+        Ok(word) => fitting(word),
         Err(_) => ArrayString::new(),
     }
 }
 
 /// The identifier with which the last so many tokens begin.
-fn word_at(tokens: &[Token<'_>], left: usize) -> ArrayString<MOST_NAME_BYTES> {
+fn word_at(tokens: &[Token<'_>], left: usize) -> ArrayString<MOST_NAME_BYTES>
+    ensures { result.bytes ≡ spec.word_at tokens.now left }
+{
     let rest = from_place(tokens.len().saturating_sub(left), tokens);
     if is_word_next(rest) {
         word_of(first_text(rest))
@@ -89,12 +105,14 @@ impl ReadError {
     ghost use Rattle.std.specs.Prelude.{◌≡◌};
     ghost use Rattle.fmp_config.specs.declared.fault.ReadError.TheVariants as errors;
     ghost use Rattle.fmp_statements.specs.declared.fault.Fault.{Fault};
+    ghost use Rattle.fmp_config.specs.Faults.{word_at};
     ghost use Rattle.fmp_statements.specs.declared.fault.ConfigKind.TheVariants.{Memory};
 
     /// The fault with its word, where these are the tokens.
     pub fn with_word(self, tokens: &[Token<'_>]) -> ConfigFault
         ensures memory { self ≡ errors.Memory → (result.kind ≡ Memory) × (result.line ≡ 0) }
         ensures fault { (f : Fault) → self ≡ errors.Fault f → (result.kind ≡ f.kind) × (result.line ≡ f.line) }
+        ensures word { (f : Fault) → self ≡ errors.Fault f → result.word.bytes ≡ word_at tokens.now f.left }
     {
         match self {
             ReadError::Memory => ConfigFault {

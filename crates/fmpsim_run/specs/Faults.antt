@@ -1,5 +1,9 @@
 -- The faults of a run.
-use Rattle.std.specs.Prelude.{Bool, true, false, Result, Ok, Err}
+use Rattle.std.specs.Prelude.{ℕ, Bool, true, false, Result, Ok, Err}
+use Rattle.fmp_statements.specs.declared.fault.ConfigKind.{ConfigKind}
+use Rattle.fmp_statements.specs.declared.fault.ConfigKind.TheVariants as config_kind
+use Rattle.fmp_text.specs.declared.fault.TextKind.{TextKind}
+use Rattle.fmp_text.specs.declared.fault.TextKind.TheVariants as text_kind
 use Rattle.fmpsim_run.specs.declared.whole.ReadFault.{ReadFault}
 use Rattle.fmpsim_run.specs.declared.whole.ReadFault.TheVariants as read
 use Rattle.fmpsim_run.specs.declared.fault.RunFault.{RunFault}
@@ -46,3 +50,19 @@ failed_read (Err fault) = is_read fault
 abbrev pub failed_write : {T : Type 0} → Result T RunFault → Bool
 failed_write (Ok value) = false
 failed_write (Err fault) = is_write fault
+
+-- what the program ends with: 1 for a fault of a text, 3 for a device, 4 for want of memory
+abbrev pub config_status : ConfigKind → ℕ
+config_status config_kind.Memory = 4
+config_status other = 1
+
+abbrev pub text_status : TextKind → ℕ
+text_status text_kind.Memory = 4
+text_status other = 1
+
+abbrev pub status : RunFault → ℕ
+status (run.Config fault) = config_status fault.kind
+status (run.Text fault) = text_status fault.kind
+status run.Read = 3
+status run.Write = 3
+status run.Memory = 4

@@ -1,5 +1,5 @@
 -- What a run over a configuration and events does.
-use Rattle.std.specs.Prelude.{◌≡◌, ◌≢◌, ℕ, ◌+◌, ◌≤◌, List, ◌++◌, Result, Ok, if◌then◌else◌}
+use Rattle.std.specs.Prelude.{◌≡◌, ◌⊎◌, ℕ, ◌+◌, ◌≤◌, List, ◌++◌, Result, Ok, if◌then◌else◌}
 use Rattle.fmp_codes.specs.declared.records.Event.{Event}
 use Rattle.fmp_text.specs.Events.{IsFirst, reading_of, faultless}
 use Rattle.fmp_statements.specs.declared.fault.ConfigKind.TheVariants as config_kind
@@ -35,9 +35,9 @@ IsAnswered config_text event_text old new = (output : List ℕ) × Answered conf
 abbrev pub IsBegun : List ℕ → List ℕ → List ℕ → List ℕ → Type 0
 IsBegun config_text event_text old new = (output : List ℕ) × Answered config_text event_text output × BeginsWith old output new
 
--- want of memory, or the kind and the line of the text's first fault
+-- the kind and the line of the text's first fault, or want of memory, which has no line
 abbrev pub IsFirstFault : List ℕ → ConfigFault → Type 0
-IsFirstFault text fault = fault.kind ≢ config_kind.Memory → FaultIs fault.kind fault.line (config_in text)
+IsFirstFault text fault = FaultIs fault.kind fault.line (config_in text) ⊎ ((fault.kind ≡ config_kind.Memory) × (fault.line ≡ 0))
 
 -- a fault of the configuration is the first one of its text
 abbrev pub FirstConfigFault : List ℕ → RunFault → Type 0

@@ -1,12 +1,12 @@
 //! Why a run did not go to its end.
 ghost use Rattle.std.specs.Prelude.{◌≡◌};
 ghost use Rattle.fmpsim_run.specs.declared.fault.RunFault.TheVariants.{Memory, Write};
-ghost use Rattle.fmpsim_run.specs.Faults.{read_fault_of};
+ghost use Rattle.fmpsim_run.specs.Faults.{read_fault_of, config_status, text_status, status};
 
 use crate::source::Failed;
 use crate::whole::ReadFault;
-use fmp_config::ConfigFault;
-use fmp_text::TextFault;
+use fmp_config::{ConfigFault, ConfigKind};
+use fmp_text::{TextFault, TextKind};
 use std::alloc::AllocError;
 use thiserror::Error;
 
@@ -53,5 +53,35 @@ impl From<Failed> for RunFault {
 
     fn from(_error: Failed) -> RunFault {
         RunFault::Write
+    }
+}
+
+fn status_of_config(kind: ConfigKind) -> u8
+    ensures { result ≡ config_status kind }
+{
+    match kind {
+        ConfigKind::Memory => 4,
+        _ => 1,
+    }
+}
+
+fn status_of_text(kind: TextKind) -> u8
+    ensures { result ≡ text_status kind }
+{
+    match kind {
+        TextKind::Memory => 4,
+        _ => 1,
+    }
+}
+
+/// What a run that did not go to its end ends the program with.
+pub fn status_of(fault: &RunFault) -> u8
+    ensures { result ≡ status fault.now }
+{
+    match fault {
+        RunFault::Config(fault) => status_of_config(fault.kind),
+        RunFault::Text(fault) => status_of_text(fault.kind),
+        RunFault::Read | RunFault::Write => 3,
+        RunFault::Memory => 4,
     }
 }

@@ -16,7 +16,7 @@ mod whole;
 
 pub use calls::run_calls;
 pub use check::run_check;
-pub use fault::RunFault;
+pub use fault::{RunFault, status_of};
 pub use memory::{MemSink, MemSource};
 pub use sink::{Sink, write_all};
 pub use source::{Failed, Source};

@@ -14,7 +14,7 @@ returns-in-Ok-clause-read g c = λ tells.
     (c.in_ok-text.ensures.ok tells).whole (rw c.as_slice.ensures.value at (config_in-ok c.as_slice.result.now _ c.in-Ok.ensures.exact))
 
 pub returns-clause-fault : goal.returns-clause-fault
-returns-clause-fault g c = λ tells other.
+returns-clause-fault g c = λ tells.
     let read = c.in_ok-text.ensures.ok tells in
     let same = config_in-front _ _ _ read.front read.whole ∙ ap config_in (sym c.as_slice.ensures.value) in
-    subst (FaultIs c.in-Err.fault.kind c.in-Err.fault.line) (sym same) (elim c.in-Err.ensures.exact [ inl e ↦ e | inr memory ↦ absurd (other memory.0) ])
+    elim c.in-Err.ensures.exact [ inl e ↦ inl (subst (FaultIs c.in-Err.fault.kind c.in-Err.fault.line) (sym same) e) | inr memory ↦ inr memory ]
