@@ -1,77 +1,127 @@
--- The tables of the calls agree with one another.
-use Rattle.std.proofs.Common.{◌≡◌, ◌≤◌, true, List, [], ◌∷◌, length, Option, Some, None, false, find, refl, subst, arith}
-use Rattle.std.specs.Prelude.{codes}
+-- The table of the calls: calls, their names and their arguments give each other back.
+use Rattle.std.proofs.Common.{◌≡◌, ◌∙◌, ◌≤◌, ◌⊎◌, inl, inr, sym, ap, true, Bool, List, [], ◌∷◌, length, Option, Some, None, option_map, find, false, refl, arith}
+use Rattle.std.specs.Option.{option_or}
+use Rattle.std.proofs.lemmas.Slice.Eq.{bytes_eq-Decides}
+use Rattle.std.specs.Prelude.{ℕ}
+use Rattle.std.specs.Prelude.{codes, unwrap_or, if◌then◌else◌}
 use Rattle.std.specs.Str.{bytes_eq}
 use Rattle.fmp_codes.specs.declared.calls.Call.{Call}
 use Rattle.fmp_codes.specs.declared.calls.Call.TheVariants as calls
-use Rattle.fmp_codes.specs.declared.calls.TaskCall.TheVariants as task_calls
-use Rattle.fmp_codes.specs.declared.calls.SystemCall.TheVariants as system_calls
+use Rattle.fmp_codes.specs.declared.calls.TaskCall.TheVariants as task
+use Rattle.fmp_codes.specs.declared.calls.SystemCall.TheVariants as system
 use Rattle.fmp_bytes.specs.Bytes.{is_of, is_identifier}
 use Rattle.fmp_calls.specs.declared.kinds.Value.{Value}
-use Rattle.fmp_calls.specs.declared.kinds.Value.TheVariants as values
-use Rattle.fmp_calls.specs.declared.table.CallName.{CallName}
-use Rattle.fmp_calls.specs.declared.table.CallName.TheVariants as names
-use Rattle.fmp_calls.specs.declared.table.task.TaskName.TheVariants as task_names
-use Rattle.fmp_calls.specs.declared.table.system.SystemName.TheVariants as system_names
-use Rattle.fmp_calls.specs.Table.{text_of, kinds_of, name_of, values_of, call_of}
-use Rattle.fmp_calls.specs.declared.table.TheConstants.{CALL_NAMES}
+use Rattle.fmp_calls.specs.Kinds.{are_of_kinds}
+use Rattle.fmp_calls.specs.Entries.{arguments_from, values_in}
+use Rattle.fmp_calls.specs.Table.{line_of, text_of, kinds_of, name_of, values_of, call_of, named}
+use Rattle.fmp_calls.specs.Entries.{Line}
+use Rattle.fmp_calls.specs.Tables.TaskTable as task_table
+use Rattle.fmp_calls.specs.Tables.SystemTable as system_table
+use Rattle.fmp_calls.specs.declared.table.task.TheConstants.{TASK_CALLS}
+use Rattle.fmp_calls.specs.declared.table.system.TheConstants.{SYSTEM_CALLS}
+use Rattle.fmp_calls.proofs.Found.{found_passes}
+use Rattle.fmp_calls.proofs.Arguments.{values_in-arguments_from}
 
--- A lemma goes through all calls, or all names, where its first clauses name one of each family.
+-- What holds of each line of the table by computing. A lemma goes through all lines, where its first clauses name one of each family.
+record IsLine (call : Call) : Type 0 where
+  made : (line_of call).make (values_of call) ≡ call
+  kept : (list : List Value) → values_of ((line_of call).make list) ≡ values_in (kinds_of call) (arguments_from (kinds_of call) 0 list)
+  again : (list other : List Value) → (line_of ((line_of call).make list)).make other ≡ (line_of call).make other
+  same_text : (list : List Value) → text_of ((line_of call).make list) ≡ text_of call
+  same_kinds : (list : List Value) → kinds_of ((line_of call).make list) ≡ kinds_of call
+  of_kinds : are_of_kinds (kinds_of call) (values_of call) ≡ true
+  found : named (text_of call) ≡ Some (name_of call)
+  few : length (kinds_of call) ≤ 4
+
+is_line : (call : Call) → IsLine call
+is_line (calls.Task task.ExtTsk) = record { made = refl; kept = λ l. refl; again = λ l o. refl; same_text = λ l. refl; same_kinds = λ l. refl; of_kinds = refl; found = refl; few = omega arith }
+is_line (calls.System system.GetTid) = record { made = refl; kept = λ l. refl; again = λ l o. refl; same_text = λ l. refl; same_kinds = λ l. refl; of_kinds = refl; found = refl; few = omega arith }
+is_line _ = record { made = refl; kept = λ l. refl; again = λ l o. refl; same_text = λ l. refl; same_kinds = λ l. refl; of_kinds = refl; found = refl; few = omega arith }
 
 -- ---- a call is its name with its arguments
 
 pub call_of-parts : (call : Call) → call_of (name_of call) (values_of call) ≡ Some call
-call_of-parts (calls.Task task_calls.ExtTsk) = refl
-call_of-parts (calls.System system_calls.GetTid) = refl
-call_of-parts _ = refl
+call_of-parts call =
+    let is = is_line call in
+    rw (is.same_kinds [], is.of_kinds, is.again [] (values_of call), is.made) refl
 
--- ---- a name with arguments is at most one call
+-- the values are the arguments of the call that is made of them
+agreeing : (name : Call) (list : List Value) (call : Call) (fits : Bool) → are_of_kinds (kinds_of name) list ≡ fits
+    → (if fits then Some ((line_of name).make list) else None) ≡ Some call → (name_of call ≡ name_of name) × (values_of call ≡ list)
+agreeing name list call true fits e =
+    let is = is_line name in
+    let same : (line_of name).make list ≡ call = ap (λ (o : Option Call). unwrap_or o call) e in
+    (sym (ap name_of same) ∙ is.again list [], sym (ap values_of same) ∙ is.kept list ∙ values_in-arguments_from (kinds_of name) list fits)
+agreeing name list call false fits e = search
 
--- what was made of a name and a list has them as its parts
-HasParts : CallName → List Value → Option Call → Type 0
-HasParts name list None = Unit {0}
-HasParts name list (Some call) = (name_of call ≡ name) × (values_of call ≡ list)
+pub call_of-agrees : (name : Call) (list : List Value) (call : Call) → call_of name list ≡ Some call → (name_of call ≡ name_of name) × (values_of call ≡ list)
+call_of-agrees name list call e = agreeing name list call (are_of_kinds (kinds_of name) list) refl e
 
--- with a clause for each list of arguments that a call has
-made : (name : CallName) (list : List Value) → HasParts name list (call_of name list)
-unfolding HasParts
-made (names.Task task_names.ActTsk) [] = assumption
-made (names.System system_names.GetTid) [] = assumption
-made _ [] = assumption
-made _ (values.Number a ∷ []) = assumption
-made _ _ = assumption
+-- ---- names and kinds
 
-pub call_of-agrees : (name : CallName) (list : List Value) (call : Call) → call_of name list ≡ Some call → (name_of call ≡ name) × (values_of call ≡ list)
-unfolding HasParts
-call_of-agrees name list call e = subst (HasParts name list) e (made name list)
+pub named-text_of : (call : Call) → named (text_of call) ≡ Some (name_of call)
+named-text_of call = (is_line call).found
 
--- ---- the names and the kinds
+pub text_of-name_of : (call : Call) → text_of (name_of call) ≡ text_of call
+text_of-name_of call = (is_line call).same_text []
 
--- a name is found by its text, which is an identifier and no other event's, and it has few arguments
-record IsProper (name : CallName) : Type 0 where
-  found : find (λ n. bytes_eq (text_of n) (text_of name)) CALL_NAMES ≡ Some name
-  word : is_identifier (text_of name) ≡ true
-  no_tick : bytes_eq (text_of name) (codes "tick") ≡ false
-  no_ipi : bytes_eq (text_of name) (codes "ipi") ≡ false
-  few : length (kinds_of name) ≤ 4
+pub kinds_of-name_of : (call : Call) → kinds_of (name_of call) ≡ kinds_of call
+kinds_of-name_of call = (is_line call).same_kinds []
 
-proper : (name : CallName) → IsProper name
+-- the call has the name's text and kinds
+pub call_of-same : (name : Call) (list : List Value) (call : Call) → call_of name list ≡ Some call → (text_of call ≡ text_of name) × (kinds_of call ≡ kinds_of name)
+call_of-same name list call e =
+    let agrees = call_of-agrees name list call e in
+    (sym (text_of-name_of call) ∙ ap text_of agrees.0 ∙ text_of-name_of name, sym (kinds_of-name_of call) ∙ ap kinds_of agrees.0 ∙ kinds_of-name_of name)
+
+pub are_of_kinds-values_of : (call : Call) → are_of_kinds (kinds_of call) (values_of call) ≡ true
+are_of_kinds-values_of call = (is_line call).of_kinds
+
+pub length-kinds_of-le : (call : Call) → length (kinds_of call) ≤ 4
+length-kinds_of-le call = (is_line call).few
+
+-- a name is an identifier, and no other event's
+record IsProper (call : Call) : Type 0 where
+  word : is_identifier (text_of call) ≡ true
+  no_tick : bytes_eq (text_of call) (codes "tick") ≡ false
+  no_ipi : bytes_eq (text_of call) (codes "ipi") ≡ false
+
+proper : (call : Call) → IsProper call
 unfolding is_of
-proper (names.Task task_names.ActTsk) = search arith
-proper (names.System system_names.GetTid) = search arith
-proper _ = search arith
+proper (calls.Task task.ExtTsk) = record { word = refl; no_tick = refl; no_ipi = refl }
+proper (calls.System system.GetTid) = record { word = refl; no_tick = refl; no_ipi = refl }
+proper _ = record { word = refl; no_tick = refl; no_ipi = refl }
 
-pub find-text_of : (name : CallName) → find (λ n. bytes_eq (text_of n) (text_of name)) CALL_NAMES ≡ Some name
-find-text_of name = (proper name).found
+pub is_identifier-text_of : (call : Call) → is_identifier (text_of call) ≡ true
+is_identifier-text_of call = (proper call).word
 
-pub is_identifier-text_of : (name : CallName) → is_identifier (text_of name) ≡ true
-is_identifier-text_of name = (proper name).word
+pub no_tick : (call : Call) → bytes_eq (text_of call) (codes "tick") ≡ false
+no_tick call = (proper call).no_tick
 
-pub no_tick : (name : CallName) → bytes_eq (text_of name) (codes "tick") ≡ false
-no_tick name = (proper name).no_tick
+pub no_ipi : (call : Call) → bytes_eq (text_of call) (codes "ipi") ≡ false
+no_ipi call = (proper call).no_ipi
 
-pub no_ipi : (name : CallName) → bytes_eq (text_of name) (codes "ipi") ≡ false
-no_ipi name = (proper name).no_ipi
+-- ---- what is found has the text
 
-pub length-kinds_of-le : (name : CallName) → length (kinds_of name) ≤ 4
-length-kinds_of-le name = (proper name).few
+either_found : {C : Type 0} (family : C → Call) (found : Option C) (other : Option Call) (name : Call) → option_or (option_map family found) other ≡ Some name
+    → ((call : C) × (found ≡ Some call) × (family call ≡ name)) ⊎ (other ≡ Some name)
+either_found family None other name e = inr e
+either_found family (Some call) other name e = inl (call, refl, ap (λ (o : Option Call). unwrap_or o (family call)) e)
+
+-- a family in which a call was found
+has_text : {C : Type 0} (family : C → Call) (line : C → Line C) (calls : List C) (word : List ℕ) (name : Call)
+    → ((call : C) → text_of (family call) ≡ (line call).text)
+    → ((call : C) × (find (λ c. bytes_eq (line c).text word) calls ≡ Some call) × (family call ≡ name)) → text_of name ≡ word
+has_text family line calls word name texts found =
+    sym (ap text_of found.2) ∙ texts found.0 ∙ (bytes_eq-Decides (line found.0).text word).0 (found_passes (λ c. bytes_eq (line c).text word) calls found.0 found.1)
+
+last_found : {C : Type 0} (family : C → Call) (found : Option C) (name : Call) → option_map family found ≡ Some name
+    → (call : C) × (found ≡ Some call) × (family call ≡ name)
+last_found family None name e = absurd cc
+last_found family (Some call) name e = (call, refl, ap (λ (o : Option Call). unwrap_or o (family call)) e)
+
+pub text_of-named : (word : List ℕ) (name : Call) → named word ≡ Some name → text_of name ≡ word
+text_of-named word name e = elim (either_found calls.Task (find (λ call. bytes_eq (task_table.line_of call).text word) TASK_CALLS.now) _ name e) [
+  | inl found ↦ has_text calls.Task task_table.line_of TASK_CALLS.now word name (λ c. refl) found
+  | inr other ↦ has_text calls.System system_table.line_of SYSTEM_CALLS.now word name (λ c. refl) (last_found calls.System _ name other)
+]

@@ -1,45 +1,49 @@
 -- The table of the service calls, by families.
-use Rattle.std.specs.Prelude.{ℕ, List, Option, option_map}
+use Rattle.std.specs.Prelude.{ℕ, List, [], Option, None, Some, option_map, find, if◌then◌else◌}
+use Rattle.std.specs.Option.{option_or}
+use Rattle.std.specs.Str.{bytes_eq}
 use Rattle.fmp_codes.specs.declared.calls.Call.{Call}
 use Rattle.fmp_codes.specs.declared.calls.Call.TheVariants as calls
-use Rattle.fmp_calls.specs.declared.table.CallName.{CallName}
-use Rattle.fmp_calls.specs.declared.table.CallName.TheVariants as names
+use Rattle.fmp_calls.specs.declared.table.task.TheConstants.{TASK_CALLS}
+use Rattle.fmp_calls.specs.declared.table.system.TheConstants.{SYSTEM_CALLS}
 use Rattle.fmp_calls.specs.declared.kinds.ArgumentKind.{ArgumentKind}
 use Rattle.fmp_calls.specs.declared.kinds.Value.{Value}
-use Rattle.fmp_calls.specs.Entries.{Entry, entry}
+use Rattle.fmp_calls.specs.Entries.{Line}
+use Rattle.fmp_calls.specs.Kinds.{are_of_kinds}
 use Rattle.fmp_calls.specs.Tables.SystemTable as system
 use Rattle.fmp_calls.specs.Tables.TaskTable as task
 
--- the entry of a name of a family
-abbrev pub among : {C : Type 0} → (C → Call) → Entry C → Entry Call
-among family e = entry e.text e.kinds (λ values. option_map family (e.call values))
+-- the line of a call of a family
+abbrev pub among : {C : Type 0} → (C → Call) → Line C → Line Call
+among family l = record { text = l.text; kinds = l.kinds; values = l.values; make = λ list. family (l.make list) }
 
--- a name's entry
-abbrev pub entry_of : CallName → Entry Call
-entry_of (names.Task name) = among calls.Task (task.entry_of name)
-entry_of (names.System name) = among calls.System (system.entry_of name)
+-- a call's line
+abbrev pub line_of : Call → Line Call
+line_of (calls.Task call) = among calls.Task (task.line_of call)
+line_of (calls.System call) = among calls.System (system.line_of call)
 
--- a call's name and arguments
-abbrev pub parts_of : Call → CallName × List Value
-parts_of (calls.Task call) = (names.Task (task.parts_of call).0, (task.parts_of call).1)
-parts_of (calls.System call) = (names.System (system.parts_of call).0, (system.parts_of call).1)
+-- a call's name as it is written
+abbrev pub text_of : Call → List ℕ
+text_of call = (line_of call).text
 
--- the name as it is written
-abbrev pub text_of : CallName → List ℕ
-text_of name = (entry_of name).text
-
--- the kinds of the arguments
-abbrev pub kinds_of : CallName → List ArgumentKind
-kinds_of name = (entry_of name).kinds
-
--- the call with these arguments, where they are of its kinds
-abbrev pub call_of : CallName → List Value → Option Call
-call_of name values = (entry_of name).call values
-
--- a call's name
-abbrev pub name_of : Call → CallName
-name_of call = (parts_of call).0
+-- the kinds of a call's arguments
+abbrev pub kinds_of : Call → List ArgumentKind
+kinds_of call = (line_of call).kinds
 
 -- a call's arguments
 abbrev pub values_of : Call → List Value
-values_of call = (parts_of call).1
+values_of call = (line_of call).values
+
+-- the call of the same name with these arguments, where they are of its kinds
+abbrev pub call_of : Call → List Value → Option Call
+call_of call values = if are_of_kinds (kinds_of call) values then Some ((line_of call).make values) else None
+
+-- the name of a call: the same call with blanks for its arguments
+abbrev pub name_of : Call → Call
+name_of call = (line_of call).make []
+
+-- the call that is written so, with blanks for its arguments
+abbrev pub named : List ℕ → Option Call
+named word =
+    option_or (option_map calls.Task (find (λ call. bytes_eq (task.line_of call).text word) TASK_CALLS.now))
+    (option_map calls.System (find (λ call. bytes_eq (system.line_of call).text word) SYSTEM_CALLS.now))

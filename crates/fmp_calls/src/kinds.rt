@@ -96,3 +96,48 @@ impl Default for Value {
         Value::Number(0)
     }
 }
+
+impl Value {
+    ghost use Rattle.std.specs.Prelude.{◌≡◌};
+    ghost use Rattle.fmp_calls.specs.Entries.{number_in, pattern_in, data_in, mode_in};
+
+    /// The number, or 0 where it is none.
+    pub fn number(self) -> i32
+        ensures { result ≡ number_in self }
+    {
+        match self {
+            Value::Number(number) => number,
+            _ => 0,
+        }
+    }
+
+    /// The pattern, or 0 where it is none.
+    pub fn pattern(self) -> u32
+        ensures { result ≡ pattern_in self }
+    {
+        match self {
+            Value::Pattern(bits) => bits,
+            _ => 0,
+        }
+    }
+
+    /// The data, or 0 where it is none.
+    pub fn data(self) -> i64
+        ensures { result ≡ data_in self }
+    {
+        match self {
+            Value::Data(data) => data,
+            _ => 0,
+        }
+    }
+
+    /// The mode, or that of all bits where it is none.
+    pub fn mode(self) -> Mode
+        ensures { result ≡ mode_in self }
+    {
+        match self {
+            Value::Mode(mode) => mode,
+            _ => Mode::Andw,
+        }
+    }
+}

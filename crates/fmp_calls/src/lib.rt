@@ -7,9 +7,4 @@ mod table;
 
 pub use kinds::{ArgumentKind, NameKind, ObjectKind, Value};
 pub use laws::{arguments_have_their_kinds, tables_agree};
-pub use table::system::SystemName;
-pub use table::task::TaskName;
-pub use table::{CALL_NAMES, CallName, Form, MOST_ARGUMENTS, Values, find_call, parts};
-
-#[cfg(test)]
-mod tests;
+pub use table::{CallForm, MOST_ARGUMENTS, Values, find_call, form, values, with_values};

@@ -1,16 +1,119 @@
-//! The table of the service calls. A call is one line in each table of its family, and one of `CALL_NAMES`.
-ghost use Rattle.std.specs.Prelude.{◌≡◌, ◌≤◌, length, find};
-ghost use Rattle.std.specs.Str.{bytes_eq};
-ghost use Rattle.fmp_calls.specs.Table.{text_of, kinds_of, call_of, name_of, values_of};
+//! The table of the service calls. A call is one line in the table of its family: its variant with the kinds of its arguments,
+//! and its name. The macros read the lines.
+ghost use Rattle.std.specs.Prelude.{◌≡◌, ◌≤◌, length};
+ghost use Rattle.fmp_calls.specs.Kinds as spec;
+ghost use Rattle.fmp_calls.specs.Entries.{value_at as value_of_place};
+ghost use Rattle.fmp_calls.specs.Table.{text_of, kinds_of, call_of, values_of, named};
+
+use crate::kinds::{ArgumentKind, Value};
+use arrayvec::ArrayVec;
+use fmp_codes::Call;
+
+/// The kind of an argument, as a line names it.
+macro_rules! kind {
+    (task) => { $crate::ArgumentKind::Object($crate::ObjectKind::Task) };
+    (semaphore) => { $crate::ArgumentKind::Object($crate::ObjectKind::Semaphore) };
+    (eventflag) => { $crate::ArgumentKind::Object($crate::ObjectKind::Eventflag) };
+    (data_queue) => { $crate::ArgumentKind::Object($crate::ObjectKind::DataQueue) };
+    (pool) => { $crate::ArgumentKind::Object($crate::ObjectKind::Pool) };
+    (cyclic) => { $crate::ArgumentKind::Object($crate::ObjectKind::Cyclic) };
+    (alarm) => { $crate::ArgumentKind::Object($crate::ObjectKind::Alarm) };
+    (spin_lock) => { $crate::ArgumentKind::Object($crate::ObjectKind::SpinLock) };
+    (priority) => { $crate::ArgumentKind::Priority };
+    (processor) => { $crate::ArgumentKind::Processor };
+    (time) => { $crate::ArgumentKind::Time };
+    (timeout) => { $crate::ArgumentKind::Timeout };
+    (pattern) => { $crate::ArgumentKind::Pattern };
+    (data) => { $crate::ArgumentKind::Data };
+    (mode) => { $crate::ArgumentKind::Mode };
+    (block) => { $crate::ArgumentKind::Block };
+}
+
+/// The value of an argument of a kind.
+macro_rules! value {
+    (pattern, $argument:expr) => { $crate::Value::Pattern($argument) };
+    (data, $argument:expr) => { $crate::Value::Data($argument) };
+    (mode, $argument:expr) => { $crate::Value::Mode($argument) };
+    ($kind:ident, $argument:expr) => { $crate::Value::Number($argument) };
+}
+
+/// The argument of a kind that a value is.
+macro_rules! argument {
+    (pattern, $value:expr) => { $value.pattern() };
+    (data, $value:expr) => { $value.data() };
+    (mode, $value:expr) => { $value.mode() };
+    ($kind:ident, $value:expr) => { $value.number() };
+}
+
+/// What stands in a name for an argument of a kind.
+macro_rules! blank {
+    (mode) => { fmp_codes::Mode::Andw };
+    ($kind:ident) => { 0 };
+}
+
+/// The call with the arguments that values are.
+macro_rules! made {
+    ($call:path, $values:expr) => { $call };
+    ($call:path, $values:expr, $first:ident) => { $call(argument!($first, value_at($values, 0))) };
+    ($call:path, $values:expr, $first:ident, $second:ident) => {
+        $call(
+            argument!($first, value_at($values, 0)),
+            argument!($second, value_at($values, 1)),
+        )
+    };
+    ($call:path, $values:expr, $first:ident, $second:ident, $third:ident) => {
+        $call(
+            argument!($first, value_at($values, 0)),
+            argument!($second, value_at($values, 1)),
+            argument!($third, value_at($values, 2)),
+        )
+    };
+    ($call:path, $values:expr, $first:ident, $second:ident, $third:ident, $fourth:ident) => {
+        $call(
+            argument!($first, value_at($values, 0)),
+            argument!($second, value_at($values, 1)),
+            argument!($third, value_at($values, 2)),
+            argument!($fourth, value_at($values, 3)),
+        )
+    };
+}
+
+/// All calls of a family, each with blanks for its arguments.
+macro_rules! names {
+    ($family:ident; $($variant:ident $(($($kind:ident),+))? = $text:literal,)+) => {
+        [$($family::$variant $(($(blank!($kind)),+))?),+]
+    };
+}
+
+/// How a call of a family is written.
+macro_rules! form {
+    ($family:ident, $call:expr; $($variant:ident $(($($kind:ident),+))? = $text:literal,)+) => {
+        match $call {
+            $($family::$variant { .. } => CallForm::new($text, &[$($(kind!($kind)),+)?]),)+
+        }
+    };
+}
+
+/// The values of a call's arguments.
+macro_rules! values {
+    ($family:ident, $call:expr; $($variant:ident $(($($kind:ident),+))? = $text:literal,)+) => {
+        match $call {
+            $($family::$variant $(($($kind),+))? => listed(&[$($(value!($kind, $kind)),+)?]),)+
+        }
+    };
+}
+
+/// The call of the same name with the arguments that values are.
+macro_rules! with_values {
+    ($family:ident, $call:expr, $values:expr; $($variant:ident $(($($kind:ident),+))? = $text:literal,)+) => {
+        match $call {
+            $($family::$variant { .. } => made!($family::$variant, $values $($(, $kind)+)?),)+
+        }
+    };
+}
 
 pub mod system;
 pub mod task;
-
-use crate::kinds::{ArgumentKind, Value};
-use crate::table::system::SystemName;
-use crate::table::task::TaskName;
-use arrayvec::ArrayVec;
-use fmp_codes::Call;
 
 /// The greatest number of arguments of a call.
 pub const MOST_ARGUMENTS: usize = 4;
@@ -18,44 +121,21 @@ pub const MOST_ARGUMENTS: usize = 4;
 /// The arguments of a call, from left to right.
 pub type Values = ArrayVec<Value, MOST_ARGUMENTS>;
 
-/// The name of a service call, by its family.
-#[derive(Clone, Copy, Debug, PartialEq, Eq)]
-pub enum CallName {
-    Task(TaskName),
-    System(SystemName),
-}
-
-/// All of them.
-pub const CALL_NAMES: [CallName; 12] = [
-    CallName::Task(TaskName::ActTsk),
-    CallName::Task(TaskName::ExtTsk),
-    CallName::System(SystemName::GetTid),
-    CallName::System(SystemName::GetPid),
-    CallName::System(SystemName::LocCpu),
-    CallName::System(SystemName::UnlCpu),
-    CallName::System(SystemName::DisDsp),
-    CallName::System(SystemName::EnaDsp),
-    CallName::System(SystemName::SnsCtx),
-    CallName::System(SystemName::SnsLoc),
-    CallName::System(SystemName::SnsDsp),
-    CallName::System(SystemName::SnsDpn),
-];
-
 /// How a call is written.
 #[derive(Clone, Copy, Debug, PartialEq, Eq)]
-pub struct Form {
+pub struct CallForm {
     /// Its name.
     pub text: &'static [u8],
     /// The kinds of its arguments, from left to right.
     pub kinds: &'static [ArgumentKind],
 }
 
-impl Form {
+impl CallForm {
     fn new(text: &'static [u8], kinds: &'static [ArgumentKind]) -> Self
         ensures text { result.text.now ≡ text.now }
         ensures kinds { result.kinds.now ≡ kinds.now }
     {
-        Form { text, kinds }
+        CallForm { text, kinds }
     }
 }
 
@@ -68,65 +148,82 @@ fn listed(values: &[Value]) -> Values
     list
 }
 
-impl CallName {
-    /// How the call is written.
-    pub fn form(self) -> Form
-        ensures text { result.text.now ≡ text_of self }
-        ensures kinds { result.kinds.now ≡ kinds_of self }
-        ensures few { length result.kinds.now ≤ MOST_ARGUMENTS }
-    {
-        match self {
-            CallName::Task(name) => name.form(),
-            CallName::System(name) => name.form(),
-        }
-    }
-
-    /// The name as it is written.
-    pub fn text(self) -> &'static [u8]
-        ensures { result.now ≡ text_of self }
-    {
-        self.form().text
-    }
-
-    /// The kinds of the arguments, from left to right.
-    pub fn kinds(self) -> &'static [ArgumentKind]
-        ensures kinds { result.now ≡ kinds_of self }
-        ensures few { length result.now ≤ MOST_ARGUMENTS }
-    {
-        self.form().kinds
-    }
-
-    /// The call with these arguments, where they are of its kinds.
-    pub fn call(self, values: &[Value]) -> Option<Call>
-        ensures { result ≡ call_of self values.now }
-    {
-        match self {
-            CallName::Task(name) => name.call(values).map(Call::Task),
-            CallName::System(name) => name.call(values).map(Call::System),
-        }
+/// The value at a place, or a number where there is none.
+fn value_at(values: &[Value], place: usize) -> Value
+    ensures { result ≡ value_of_place values.now place }
+{
+    match values.get(place) {
+        Some(value) => *value,
+        None => Value::Number(0),
     }
 }
 
-/// The name and the arguments of a call.
-pub fn parts(call: Call) -> (CallName, Values)
-    ensures name { result.0 ≡ name_of call }
-    ensures values { result.1.items ≡ values_of call }
+/// Whether a value may be an argument of a kind.
+fn is_of_kind(kind: ArgumentKind, value: Value) -> bool
+    ensures { result ≡ spec.is_of_kind kind value }
+{
+    match (kind, value) {
+        (ArgumentKind::Pattern, value) => matches!(value, Value::Pattern(_)),
+        (ArgumentKind::Data, value) => matches!(value, Value::Data(_)),
+        (ArgumentKind::Mode, value) => matches!(value, Value::Mode(_)),
+        (_, value) => matches!(value, Value::Number(_)),
+    }
+}
+
+/// Whether there are as many values as kinds, and each may be an argument of its kind.
+fn are_of_kinds(kinds: &[ArgumentKind], values: &[Value]) -> bool
+    ensures { result ≡ spec.are_of_kinds kinds.now values.now }
+{
+    match kinds {
+        [] => values.is_empty(),
+        [kind, kinds @ ..] => match values {
+            [] => false,
+            [value, values @ ..] => is_of_kind(*kind, *value) && are_of_kinds(kinds, values),
+        },
+    }
+}
+
+/// How the call is written, whatever its arguments are.
+pub fn form(call: Call) -> CallForm
+    ensures text { result.text.now ≡ text_of call }
+    ensures kinds { result.kinds.now ≡ kinds_of call }
+    ensures few { length result.kinds.now ≤ MOST_ARGUMENTS }
 {
     match call {
-        Call::Task(call) => {
-            let (name, values) = task::parts(call);
-            (CallName::Task(name), values)
-        }
-        Call::System(call) => {
-            let (name, values) = system::parts(call);
-            (CallName::System(name), values)
-        }
+        Call::Task(call) => task::form(call),
+        Call::System(call) => system::form(call),
     }
 }
 
-/// The call that is written so.
-pub fn find_call(word: &[u8]) -> Option<CallName>
-    ensures { result ≡ find (λ name. bytes_eq (text_of name) word.now) CALL_NAMES }
+/// The arguments of the call.
+pub fn values(call: Call) -> Values
+    ensures { result.items ≡ values_of call }
 {
-    CALL_NAMES.iter().copied().find(|name| name.text() == word)
+    match call {
+        Call::Task(call) => task::values(call),
+        Call::System(call) => system::values(call),
+    }
+}
+
+/// The call of the same name with these arguments, where they are of its kinds.
+pub fn with_values(call: Call, values: &[Value]) -> Option<Call>
+    ensures { result ≡ call_of call values.now }
+{
+    if !are_of_kinds(form(call).kinds, values) {
+        return None;
+    }
+    Some(match call {
+        Call::Task(call) => Call::Task(task::with_values(call, values)),
+        Call::System(call) => Call::System(system::with_values(call, values)),
+    })
+}
+
+/// A call that is written so, with some arguments.
+pub fn find_call(word: &[u8]) -> Option<Call>
+    ensures { result ≡ named word.now }
+{
+    if let Some(call) = task::find(word) {
+        return Some(Call::Task(call));
+    }
+    Some(Call::System(system::find(word)?))
 }

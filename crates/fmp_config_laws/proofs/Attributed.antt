@@ -8,7 +8,8 @@ use Rattle.std.proofs.lemmas.Bool.{cases_Bool, and_parts}
 use Rattle.std.proofs.lemmas.Slice.Eq.{bytes_eq-Decides}
 use Rattle.fmp_bytes.specs.Bytes.{is_of}
 use Rattle.fmp_text.specs.Names.{is_name}
-use Rattle.fmp_text.proofs.Parsed.{ok_or_parts, found_passes}
+use Rattle.fmp_calls.proofs.Found.{found_passes}
+use Rattle.fmp_text.proofs.Parsed.{ok_or_parts}
 use Rattle.fmp_tokens.specs.Lexing.{Lexeme}
 use Rattle.fmp_statements.specs.declared.fault.ConfigKind.TheVariants.{BadAttribute}
 use Rattle.fmp_statements.specs.declared.attributes.Attribute.{Attribute}

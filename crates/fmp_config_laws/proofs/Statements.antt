@@ -8,7 +8,8 @@ use Rattle.std.proofs.lemmas.Slice.Eq.{bytes_eq-Decides}
 use Rattle.std.proofs.Math.Seq.{drop-append_seam}
 use Rattle.fmp_bytes.specs.Bytes.{is_of}
 use Rattle.fmp_text.specs.Names.{is_name}
-use Rattle.fmp_text.proofs.Parsed.{ok_or_parts, found_passes}
+use Rattle.fmp_calls.proofs.Found.{found_passes}
+use Rattle.fmp_text.proofs.Parsed.{ok_or_parts}
 use Rattle.fmp_tokens.specs.Lexing.{Lexeme}
 use Rattle.fmp_tokens.specs.declared.tokens.End.{End}
 use Rattle.fmp_tokens.specs.declared.tokens.TokenKind.TheVariants.{Identifier}

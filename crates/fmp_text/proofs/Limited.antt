@@ -119,7 +119,7 @@ arguments_in_bits names [] values text valid s = subst AreInBits (sym s.1) tt
 arguments_in_bits names (kind ∷ kinds) values text valid s = pieces_in_bits names (kind ∷ kinds) values s.0 valid s.2
 
 pub call_in_bits : (names : NameLists) (text : List ℕ) (call : Call) → AreValid names → SpellsCall names text call → CallInBits call
-call_in_bits names text call valid s = arguments_in_bits names (table.kinds_of (table.name_of call)) (table.values_of call) s.inner valid s.arguments
+call_in_bits names text call valid s = arguments_in_bits names (table.kinds_of call) (table.values_of call) s.inner valid s.arguments
 
 -- ---- events
 

@@ -1,5 +1,5 @@
 -- The parts of what was read.
-use Rattle.std.proofs.Common.{◌≡◌, inl, inr, Bool, true, false, cond, List, [], ◌∷◌, Option, Some, None, Result, Ok, Err, option_and_then, refl, sym, ap, ◌∙◌, find}
+use Rattle.std.proofs.Common.{◌≡◌, Bool, true, false, cond, List, [], ◌∷◌, Option, Some, None, Result, Ok, Err, option_and_then, refl, sym, ap, ◌∙◌}
 use Rattle.std.specs.Option.{ok_or}
 use Rattle.std.proofs.lemmas.Bool.{cases_Bool}
 use Rattle.fmp_text.specs.Reading.{◌>>=◌}
@@ -25,12 +25,3 @@ tested_some false x y e = absurd cc
 pub tested_ok : {A E : Type 0} (b : Bool) (r : Result A E) (fault : E) (y : A) → cond b r (Err fault) ≡ Ok y → (b ≡ true) × (r ≡ Ok y)
 tested_ok true r fault y e = (refl, e)
 tested_ok false r fault y e = absurd cc
-
--- what is found passes the test
-pub found_passes : {X : Type 0} (p : X → Bool) (xs : List X) (x : X) → find p xs ≡ Some x → p x ≡ true
-found_passes p [] x e = absurd cc
-found_passes p (y ∷ ys) x e =
-    elim (cases_Bool (p y)) [
-      | inl t ↦ let e2 = rw t at e in let same : y ≡ x = cc in ap p (sym same) ∙ t
-      | inr f ↦ found_passes p ys x (rw f at e)
-    ]

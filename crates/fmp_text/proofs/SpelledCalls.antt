@@ -1,5 +1,5 @@
 -- A call is read exactly where it is spelled.
-use Rattle.std.proofs.Common.{◌≡◌, Option, ℕ, ◌<◌, ◌≤◌, Bool, true, false, not, ◌&&◌, ◌||◌, cond, eqb, inl, inr, List, [], ◌∷◌, ◌++◌, length, Some, None, Ok, option_and_then, refl, sym, ap, ◌∙◌, arith}
+use Rattle.std.proofs.Common.{◌≡◌, Option, ℕ, ◌<◌, ◌≤◌, Bool, true, false, not, ◌&&◌, ◌||◌, cond, eqb, inl, inr, List, [], ◌∷◌, ◌++◌, length, Some, None, Ok, option_and_then, refl, sym, ap, subst, ◌∙◌, arith}
 use Rattle.std.specs.List.{list_all, prefix_len, join_with_byte}
 use Rattle.std.specs.Option.{ok_or}
 use Rattle.std.specs.Str.{bytes_eq}
@@ -15,8 +15,6 @@ use Rattle.fmp_bytes.proofs.Spelled.{behind_is, behind-same}
 use Rattle.fmp_bytes.proofs.Cutting.{cut_at-append, cut_at-parts, pieces_of-join, join-pieces_of, some-pieces_of}
 use Rattle.fmp_calls.specs.declared.kinds.ArgumentKind.{ArgumentKind}
 use Rattle.fmp_calls.specs.declared.kinds.Value.{Value}
-use Rattle.fmp_calls.specs.declared.table.CallName.{CallName}
-use Rattle.fmp_calls.specs.declared.table.TheConstants.{CALL_NAMES}
 use Rattle.fmp_text.specs.declared.fault.TextKind.TheVariants.{BadByte, BadWord, WrongArguments}
 use Rattle.fmp_text.specs.Names.{NameLists, AreValid}
 use Rattle.fmp_calls.specs.Table.{text_of, kinds_of, name_of, values_of, call_of}
@@ -24,8 +22,9 @@ use Rattle.fmp_text.specs.Argument.{is_argument, token_in, tokens_in, arguments_
 use Rattle.fmp_text.specs.Reading.{◌>>=◌, named_call, values_at, call_with, call_after, call_at, call_in}
 use Rattle.fmp_text.specs.Grammar.{AreBlank, Padded, SpellsPieces, SpellsArguments, SpellsCall}
 use Rattle.fmp_text.proofs.Spelled.{value_at-spelled, value_is_spelled}
-use Rattle.fmp_calls.proofs.Matched.{call_of-parts, call_of-agrees, find-text_of, is_identifier-text_of, length-kinds_of-le}
-use Rattle.fmp_text.proofs.Parsed.{bind_parts, and_then_parts, ok_or_parts, tested_some, tested_ok, found_passes}
+use Rattle.fmp_calls.proofs.Matched.{call_of-parts, call_of-agrees, call_of-same, named-text_of, text_of-named, kinds_of-name_of, is_identifier-text_of, length-kinds_of-le}
+use Rattle.fmp_calls.proofs.Found.{found_passes}
+use Rattle.fmp_text.proofs.Parsed.{bind_parts, and_then_parts, ok_or_parts, tested_some, tested_ok}
 
 -- ---- an argument with blanks around
 
@@ -209,64 +208,65 @@ enclosed_read between inner rest blank no_close ended =
     rw (skipped, behind-same 40 (inner ++ (41 ∷ rest)), cut_at-append 41 inner rest no_close, ended) refl
 
 -- what follows the name
-after_read : (names : NameLists) (call : Call) (between inner rest : List ℕ) → AreValid names → AreBlank between → AreBlank rest → InnerRead names (kinds_of (name_of call)) (values_of call) inner
+after_read : (names : NameLists) (call : Call) (between inner rest : List ℕ) → AreValid names → AreBlank between → AreBlank rest → InnerRead names (kinds_of call) (values_of call) inner
     → call_after names (name_of call) (between ++ (40 ∷ (inner ++ (41 ∷ rest)))) ≡ Ok call
 unfolding call_after call_with
-after_read names call between inner rest valid blank ended read =
+after_read names call between inner rest valid blank ended found =
+    let read : InnerRead names (kinds_of (name_of call)) (values_of call) inner = subst (λ (kinds : List ArgumentKind). InnerRead names kinds (values_of call) inner) (sym (kinds_of-name_of call)) found in
     let formed = read.formed in let judged = read.judged in
     let test = eq-eqb (length read.tokens) (length (kinds_of (name_of call))) read.as_many in
     rw (enclosed_read between inner rest blank read.no_close ended, formed, test, judged, call_of-parts call) refl
 
-named_call-text_of : (name : CallName) → named_call (text_of name) ≡ Ok name
+named_call-text_of : (call : Call) → named_call (text_of call) ≡ Ok (name_of call)
 unfolding named_call
-named_call-text_of name = ap (λ (found : Option CallName). ok_or found BadWord) (find-text_of name)
+named_call-text_of call = ap (λ (found : Option Call). ok_or found BadWord) (named-text_of call)
 
 -- the name is the first word
-name_read : (call : Call) (between rest : List ℕ) → AreBlank between → (front Word (text_of (name_of call) ++ (between ++ (40 ∷ rest))) ≡ text_of (name_of call)) × (after Word (text_of (name_of call) ++ (between ++ (40 ∷ rest))) ≡ between ++ (40 ∷ rest))
+name_read : (call : Call) (between rest : List ℕ) → AreBlank between → (front Word (text_of call ++ (between ++ (40 ∷ rest))) ≡ text_of call) × (after Word (text_of call ++ (between ++ (40 ∷ rest))) ≡ between ++ (40 ∷ rest))
 unfolding is_of
 name_read call between rest blank =
-    let word = identifier_words (text_of (name_of call)) (is_identifier-text_of (name_of call)) in
+    let word = identifier_words (text_of call) (is_identifier-text_of call) in
     let stop = stops-append (is_of Word) between 40 rest (list_all-weaker (is_of Blank) (λ b. not (is_of Word b)) not-word between blank) refl in
-    let whole = front-append Word (text_of (name_of call)) (between ++ (40 ∷ rest)) word stop in
+    let whole = front-append Word (text_of call) (between ++ (40 ∷ rest)) word stop in
     (whole.0, whole.1)
 
 -- a call with no blanks before it
-at_read : (names : NameLists) (call : Call) (between inner rest : List ℕ) → AreValid names → AreBlank between → AreBlank rest → InnerRead names (kinds_of (name_of call)) (values_of call) inner
-    → call_at names (text_of (name_of call) ++ (between ++ (40 ∷ (inner ++ (41 ∷ rest))))) ≡ Ok call
+at_read : (names : NameLists) (call : Call) (between inner rest : List ℕ) → AreValid names → AreBlank between → AreBlank rest → InnerRead names (kinds_of call) (values_of call) inner
+    → call_at names (text_of call ++ (between ++ (40 ∷ (inner ++ (41 ∷ rest))))) ≡ Ok call
 unfolding call_at
 at_read names call between inner rest valid blank ended read =
     let whole = name_read call between (inner ++ (41 ∷ rest)) blank in
     let name = whole.0 in let follows = whole.1 in
-    rw (name, follows, named_call-text_of (name_of call)) (after_read names call between inner rest valid blank ended read)
+    rw (name, follows, named_call-text_of call) (after_read names call between inner rest valid blank ended read)
 
 -- the bytes of a call may stand in a line
 pub line_of_call : (names : NameLists) (text : List ℕ) (call : Call) → AreValid names → SpellsCall names text call → list_all (is_of Line) text ≡ true
 unfolding is_of
 line_of_call names text call valid s =
-    let read = inner_read names (kinds_of (name_of call)) (values_of call) s.inner valid (length-kinds_of-le (name_of call)) s.arguments in
+    let read = inner_read names (kinds_of call) (values_of call) s.inner valid (length-kinds_of-le call) s.arguments in
     let blanks : (bytes : List ℕ) → AreBlank bytes → list_all (is_of Line) bytes ≡ true = λ bytes blank. list_all-weaker (is_of Blank) (is_of Line) line-blank bytes blank in
-    let word = list_all-weaker (is_of Argument) (is_of Line) line-argument (text_of (name_of call)) (identifier_bytes (text_of (name_of call)) (is_identifier-text_of (name_of call))).1 in
+    let word = list_all-weaker (is_of Argument) (is_of Line) line-argument (text_of call) (identifier_bytes (text_of call) (is_identifier-text_of call)).1 in
     let close = and_from (is_of Line 41) (list_all (is_of Line) s.behind) refl (blanks s.behind s.behind_blank) in
     let inner = list_all-both (is_of Line) s.inner (41 ∷ s.behind) read.in_line close in
     let enclosed = and_from (is_of Line 40) (list_all (is_of Line) (s.inner ++ (41 ∷ s.behind))) refl inner in
     let between = list_all-both (is_of Line) s.between (40 ∷ (s.inner ++ (41 ∷ s.behind))) (blanks s.between s.between_blank) enclosed in
-    let named = list_all-both (is_of Line) (text_of (name_of call)) (s.between ++ (40 ∷ (s.inner ++ (41 ∷ s.behind)))) word between in
-    ap (list_all (is_of Line)) s.parts ∙ list_all-both (is_of Line) s.before (text_of (name_of call) ++ (s.between ++ (40 ∷ (s.inner ++ (41 ∷ s.behind))))) (blanks s.before s.before_blank) named
+    let named = list_all-both (is_of Line) (text_of call) (s.between ++ (40 ∷ (s.inner ++ (41 ∷ s.behind)))) word between in
+    ap (list_all (is_of Line)) s.parts ∙ list_all-both (is_of Line) s.before (text_of call ++ (s.between ++ (40 ∷ (s.inner ++ (41 ∷ s.behind))))) (blanks s.before s.before_blank) named
 
 -- what follows the blanks before it
-skipped_blanks : (names : NameLists) (text : List ℕ) (call : Call) (s : SpellsCall names text call) → after Blank text ≡ text_of (name_of call) ++ (s.between ++ (40 ∷ (s.inner ++ (41 ∷ s.behind))))
+skipped_blanks : (names : NameLists) (text : List ℕ) (call : Call) (s : SpellsCall names text call) → after Blank text ≡ text_of call ++ (s.between ++ (40 ∷ (s.inner ++ (41 ∷ s.behind))))
 skipped_blanks names text call s =
-    let bytes = identifier_bytes (text_of (name_of call)) (is_identifier-text_of (name_of call)) in
-    let start = front-append Blank s.before (text_of (name_of call) ++ (s.between ++ (40 ∷ (s.inner ++ (41 ∷ s.behind))))) s.before_blank (token_first (text_of (name_of call)) (s.between ++ (40 ∷ (s.inner ++ (41 ∷ s.behind)))) bytes) in
+    let bytes = identifier_bytes (text_of call) (is_identifier-text_of call) in
+    let start = front-append Blank s.before (text_of call ++ (s.between ++ (40 ∷ (s.inner ++ (41 ∷ s.behind))))) s.before_blank (token_first (text_of call) (s.between ++ (40 ∷ (s.inner ++ (41 ∷ s.behind)))) bytes) in
     ap (after Blank) s.parts ∙ start.1
 
-pub word_of_call : (names : NameLists) (text : List ℕ) (call : Call) → SpellsCall names text call → front Word (after Blank text) ≡ text_of (name_of call)
+pub word_of_call : (names : NameLists) (text : List ℕ) (call : Call) → SpellsCall names text call → front Word (after Blank text) ≡ text_of call
 word_of_call names text call s = ap (front Word) (skipped_blanks names text call s) ∙ (name_read call s.between (s.inner ++ (41 ∷ s.behind)) s.between_blank).0
 
 -- behind the blanks before it
 pub call_at-spelled : (names : NameLists) (text : List ℕ) (call : Call) → AreValid names → SpellsCall names text call → call_at names (after Blank text) ≡ Ok call
 call_at-spelled names text call valid s =
-    let read = inner_read names (kinds_of (name_of call)) (values_of call) s.inner valid (length-kinds_of-le (name_of call)) s.arguments in
+    let read = inner_read names (kinds_of call) (values_of call) s.inner valid (length-kinds_of-le call) s.arguments in
     ap (call_at names) (skipped_blanks names text call s) ∙ at_read names call s.between s.inner s.behind valid s.between_blank s.behind_blank read
 
 pub call_in-spelled : (names : NameLists) (text : List ℕ) (call : Call) → AreValid names → SpellsCall names text call → call_in names text ≡ Ok call
@@ -359,14 +359,15 @@ unfolding call_at call_after call_with named_call
 call_at_is_spelled names text call e =
     let t : List ℕ = after Blank text in
     let n = bind_parts (named_call (front Word (after Blank text))) (λ name. call_after names name (after Word (after Blank text))) call e in
-    let word : text_of n.0 ≡ front Word (after Blank text) = (bytes_eq-Decides (text_of n.0) (front Word (after Blank text))).0 (found_passes (λ name. bytes_eq (text_of name) (front Word (after Blank text))) CALL_NAMES n.0 (ok_or_parts _ BadWord n.0 n.1)) in
+    let word : text_of n.0 ≡ front Word (after Blank text) = text_of-named (front Word (after Blank text)) n.0 (ok_or_parts _ BadWord n.0 n.1) in
     let i = bind_parts (ok_or (enclosed_in (after Word (after Blank text))) WrongArguments) _ call n.2 in
     let enclosed = enclosed_spelled (after Word (after Blank text)) i.0 (ok_or_parts _ WrongArguments i.0 i.1) in
     let a = bind_parts (ok_or (arguments_in 4 i.0) WrongArguments) _ call i.2 in
     let w = tested_ok (eqb (length a.0) (length (kinds_of n.0))) _ WrongArguments call a.2 in
     let v = bind_parts (values_at names (kinds_of n.0) a.0) (λ values. ok_or (call_of n.0 values) WrongArguments) call w.1 in
     let agrees = call_of-agrees n.0 v.0 call (ok_or_parts _ WrongArguments call v.2) in
-    let same_name = agrees.0 in let same_values = agrees.1 in
+    let same = call_of-same n.0 v.0 call (ok_or_parts _ WrongArguments call v.2) in
+    let same_text = same.0 in let same_kinds = same.1 in let same_values = agrees.1 in
     let arguments = inner_spelled names (kinds_of n.0) v.0 i.0 a.0 (ok_or_parts _ WrongArguments a.0 a.1) (eqb-true (length a.0) (length (kinds_of n.0)) w.0) v.1 in
     let named : after Blank text ≡ text_of n.0 ++ (enclosed.between ++ (40 ∷ (i.0 ++ (41 ∷ enclosed.behind)))) =
     sym (front-after Word (after Blank text)) ∙ ap (λ (r : List ℕ). front Word (after Blank text) ++ r) enclosed.parts ∙ ap (λ (f : List ℕ). f ++ (enclosed.between ++ (40 ∷ (i.0 ++ (41 ∷ enclosed.behind))))) (sym word) in
@@ -378,8 +379,8 @@ call_at_is_spelled names text call e =
       before_blank = list_all-take_while (is_of Blank) text;
       between_blank = enclosed.between_blank;
       behind_blank = enclosed.behind_blank;
-      arguments = rw (same_name, same_values) arguments;
-      parts = rw same_name (sym (front-after Blank text) ∙ ap (λ (r : List ℕ). front Blank text ++ r) named);
+      arguments = rw (same_kinds, same_values) arguments;
+      parts = rw same_text (sym (front-after Blank text) ∙ ap (λ (r : List ℕ). front Blank text ++ r) named);
     }
 
 pub call_is_spelled : (names : NameLists) (text : List ℕ) (call : Call) → call_in names text ≡ Ok call → SpellsCall names text call

@@ -22,7 +22,7 @@ use Rattle.fmp_bytes.proofs.Spelled.{own, behind_is, behind-same, list_all-digit
 use Rattle.fmp_text.specs.declared.fault.TextKind.{TextKind}
 use Rattle.fmp_text.specs.declared.fault.TextKind.TheVariants.{BadByte, BadWord, NumberOutOfRange, WrongArguments}
 use Rattle.fmp_text.specs.Names.{NameLists, AreValid}
-use Rattle.fmp_calls.specs.Table.{text_of, name_of}
+use Rattle.fmp_calls.specs.Table.{text_of}
 use Rattle.fmp_text.specs.Reading.{call_at}
 use Rattle.fmp_text.specs.Lines.{in_processors, digits_of, processor_in, alone, event_of, event_at, event_in}
 use Rattle.fmp_text.specs.Grammar.{AreBlank, SpellsCall}
@@ -168,7 +168,7 @@ event_in-spelled names text (events.Ipi processor) valid s =
 event_in-spelled names text (events.Call processor call) valid s =
     let word = word_of_call names s.rest call s.happens in
     let read = call_at-spelled names s.rest call valid s.happens in
-    let tick = no_tick (name_of call) in let ipi = no_ipi (name_of call) in
+    let tick = no_tick call in let ipi = no_ipi call in
     on_processor_read names processor (λ rest. SpellsCall names rest call) text valid s (events.Call processor call) (line_of_call names s.rest call valid s.happens) (rw (word, tick, ipi, read) refl)
 
 -- ---- what is read is spelled
@@ -234,8 +234,8 @@ happens_spelled names text processor event read e =
                 let same : events.Call processor b.0 ≡ event = let e2 = b.2 in cc in
                 let here = after-none (after Blank (after Word (after Blank text))) (after-stops Blank (after Word (after Blank text))) in
                 let spelled = call_at_is_spelled names (after Blank (after Word (after Blank text))) b.0 (ap (call_at names) here ∙ b.1) in
-                let word : front Word (after Blank (after Word (after Blank text))) ≡ text_of (name_of b.0) = ap (front Word) (sym here) ∙ word_of_call names (after Blank (after Word (after Blank text))) b.0 spelled in
-                subst (SpellsEvent names text) same (on_processor_spelled names text processor (λ r. SpellsCall names r b.0) read spelled (omega (arith, ap length word, (identifier_bytes (text_of (name_of b.0)) (is_identifier-text_of (name_of b.0))).0)))
+                let word : front Word (after Blank (after Word (after Blank text))) ≡ text_of b.0 = ap (front Word) (sym here) ∙ word_of_call names (after Blank (after Word (after Blank text))) b.0 spelled in
+                subst (SpellsEvent names text) same (on_processor_spelled names text processor (λ r. SpellsCall names r b.0) read spelled (omega (arith, ap length word, (identifier_bytes (text_of b.0) (is_identifier-text_of b.0)).0)))
           ]
     ]
 

@@ -13,7 +13,6 @@ use Rattle.fmp_calls.specs.declared.kinds.Value.{Value}
 use Rattle.fmp_calls.specs.declared.kinds.Value.TheVariants as values
 use Rattle.fmp_text.specs.Names.{NameLists, name_of}
 use Rattle.fmp_calls.specs.Table.{text_of, kinds_of, values_of}
-use Rattle.fmp_calls.specs.Table.{name_of as call_name_of}
 use Rattle.fmp_text.specs.Argument.{ranged, constant_of}
 
 -- spaces and tabs, or nothing
@@ -67,5 +66,5 @@ pub record SpellsCall (names : NameLists) (text : List ℕ) (call : Call) : Type
   pub before_blank : AreBlank before
   pub between_blank : AreBlank between
   pub behind_blank : AreBlank behind
-  pub arguments : SpellsArguments names (kinds_of (call_name_of call)) (values_of call) inner
-  pub parts : text ≡ before ++ (text_of (call_name_of call) ++ (between ++ (40 ∷ (inner ++ (41 ∷ behind)))))
+  pub arguments : SpellsArguments names (kinds_of call) (values_of call) inner
+  pub parts : text ≡ before ++ (text_of call ++ (between ++ (40 ∷ (inner ++ (41 ∷ behind)))))

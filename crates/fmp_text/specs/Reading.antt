@@ -1,14 +1,12 @@
 -- Reading a call from left to right, with the first fault that is met.
-use Rattle.std.specs.Prelude.{◌≡◌, ℕ, List, [], ◌∷◌, length, Result, Ok, Err, find, ◌==◌, if◌then◌else◌}
+use Rattle.std.specs.Prelude.{◌≡◌, ℕ, List, [], ◌∷◌, length, Result, Ok, Err, ◌==◌, if◌then◌else◌}
 use Rattle.std.specs.List.{list_all}
 use Rattle.std.specs.Option.{ok_or}
-use Rattle.std.specs.Str.{bytes_eq}
-use Rattle.fmp_calls.specs.declared.table.TheConstants.{CALL_NAMES, MOST_ARGUMENTS}
 use Rattle.fmp_codes.specs.declared.calls.Call.{Call}
-use Rattle.fmp_calls.specs.declared.table.CallName.{CallName}
 use Rattle.fmp_calls.specs.declared.kinds.ArgumentKind.{ArgumentKind}
 use Rattle.fmp_calls.specs.declared.kinds.Value.{Value}
-use Rattle.fmp_calls.specs.Table.{text_of, kinds_of, call_of}
+use Rattle.fmp_calls.specs.Kinds.{most_arguments}
+use Rattle.fmp_calls.specs.Table.{kinds_of, call_of, named}
 use Rattle.fmp_bytes.specs.declared.classes.Class.TheVariants.{Blank, Word, Line}
 use Rattle.fmp_text.specs.declared.fault.TextKind.{TextKind}
 use Rattle.fmp_text.specs.declared.fault.TextKind.TheVariants.{BadByte, BadWord, WrongArguments}
@@ -22,9 +20,9 @@ abbrev pub ◌>>=◌ : {A B E : Type 0} → Result A E → (A → Result B E) �
 (Ok x) >>= f = f x
 (Err e) >>= f = Err e
 
--- the call that is written so
-unfoldable pub named_call : List ℕ → Result CallName TextKind
-named_call word = ok_or (find (λ name. bytes_eq (text_of name) word) CALL_NAMES) BadWord
+-- the call that is written so, with blanks for its arguments
+unfoldable pub named_call : List ℕ → Result Call TextKind
+named_call word = ok_or (named word) BadWord
 
 -- the values of the arguments, from left to right
 abbrev pub values_at : NameLists → List ArgumentKind → List (List ℕ) → Result (List Value) TextKind
@@ -36,16 +34,16 @@ values_at names (kind ∷ kinds) (token ∷ tokens) = do
   Ok (value ∷ values)
 
 -- the call with this name and these arguments
-unfoldable pub call_with : NameLists → CallName → List (List ℕ) → Result Call TextKind
+unfoldable pub call_with : NameLists → Call → List (List ℕ) → Result Call TextKind
 call_with names name tokens =
     if length tokens == length (kinds_of name) then (values_at names (kinds_of name) tokens >>= λ values. ok_or (call_of name values) WrongArguments)
     else Err WrongArguments
 
 -- the call with this name and what follows the name
-unfoldable pub call_after : NameLists → CallName → List ℕ → Result Call TextKind
+unfoldable pub call_after : NameLists → Call → List ℕ → Result Call TextKind
 call_after names name rest = do
   inner ← ok_or (enclosed_in rest) WrongArguments
-  tokens ← ok_or (arguments_in MOST_ARGUMENTS inner) WrongArguments
+  tokens ← ok_or (arguments_in most_arguments inner) WrongArguments
   call_with names name tokens
 
 -- a call with no blanks before it

@@ -8,11 +8,11 @@ use crate::fault::TextKind;
 use crate::names::Names;
 use arrayvec::ArrayVec;
 use fmp_bytes::{Class, all_of, skip, split_front};
-use fmp_calls::{ArgumentKind, CallName, MOST_ARGUMENTS, Value, find_call};
+use fmp_calls::{ArgumentKind, MOST_ARGUMENTS, Value, find_call, form, with_values};
 use fmp_codes::Call;
 
 #[tactic(auto, unfolding(crate::specs::Reading::named_call))]
-fn named_call(word: &[u8]) -> Result<CallName, TextKind>
+fn named_call(word: &[u8]) -> Result<Call, TextKind>
     ensures { result ≡ spec.named_call word.now }
 {
     find_call(word).ok_or(TextKind::BadWord)
@@ -35,19 +35,19 @@ fn values_at(
 }
 
 #[tactic(auto, unfolding(crate::specs::Reading::call_with))]
-fn call_with(names: &Names, name: CallName, tokens: &[&[u8]]) -> Result<Call, TextKind>
+fn call_with(names: &Names, name: Call, tokens: &[&[u8]]) -> Result<Call, TextKind>
     ensures { result ≡ spec.call_with names.now name (map (λ t. t.now) tokens.now) }
 {
-    let kinds = name.kinds();
+    let kinds = form(name).kinds;
     if tokens.len() != kinds.len() {
         return Err(TextKind::WrongArguments);
     }
     let values = values_at(names, kinds, tokens)?;
-    name.call(values.as_slice()).ok_or(TextKind::WrongArguments)
+    with_values(name, values.as_slice()).ok_or(TextKind::WrongArguments)
 }
 
 #[tactic(auto, unfolding(crate::specs::Reading::call_after))]
-fn call_after(names: &Names, name: CallName, rest: &[u8]) -> Result<Call, TextKind>
+fn call_after(names: &Names, name: Call, rest: &[u8]) -> Result<Call, TextKind>
     ensures { result ≡ spec.call_after names.now name rest.now }
 {
     let inner = enclosed_in(rest).ok_or(TextKind::WrongArguments)?;

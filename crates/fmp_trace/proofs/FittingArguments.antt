@@ -3,8 +3,9 @@ use Rattle.std.proofs.Common.{◌≡◌, ◌<◌, ◌^◌, true, List, [], ◌�
 use Rattle.std.proofs.lemmas.Bool.{and_parts, false≢true}
 use Rattle.fmp_codes.specs.Records.{IsWithin}
 use Rattle.fmp_codes.specs.declared.calls.Call.{Call}
-use Rattle.fmp_calls.proofs.Kinded.{arguments_of_kinds}
-use Rattle.fmp_calls.specs.Arguments.{is_of_kind, are_of_kinds, IsInBits, AreInBits, CallInBits}
+use Rattle.fmp_calls.specs.Arguments.{IsInBits, AreInBits, CallInBits}
+use Rattle.fmp_calls.specs.Kinds.{is_of_kind, are_of_kinds}
+use Rattle.fmp_calls.proofs.Matched.{are_of_kinds-values_of}
 use Rattle.fmp_calls.specs.Table as table
 use Rattle.fmp_calls.specs.declared.kinds.ArgumentKind.{ArgumentKind}
 use Rattle.fmp_calls.specs.declared.kinds.ArgumentKind.TheVariants as kinds
@@ -46,5 +47,5 @@ arguments_fit (kind ∷ kinds) (value ∷ values) e fits =
 arguments_fit [] (value ∷ values) e fits = absurd (false≢true e)
 arguments_fit (kind ∷ kinds) [] e fits = absurd (false≢true e)
 
-pub call_arguments_fit : (call : Call) → CallInBits call → ArgumentsFit (table.kinds_of (table.name_of call)) (table.values_of call)
-call_arguments_fit call fits = arguments_fit (table.kinds_of (table.name_of call)) (table.values_of call) (arguments_of_kinds call) fits
+pub call_arguments_fit : (call : Call) → CallInBits call → ArgumentsFit (table.kinds_of call) (table.values_of call)
+call_arguments_fit call fits = arguments_fit (table.kinds_of call) (table.values_of call) (are_of_kinds-values_of call) fits

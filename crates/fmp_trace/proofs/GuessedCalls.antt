@@ -184,23 +184,23 @@ arguments_bytes names (kind ∷ kinds) [] valid fits = absurd fits
 
 -- a call without its closing parenthesis
 abbrev pub unclosed : NameLists → Call → List ℕ
-unclosed names call = table.text_of (table.name_of call) ++ (40 ∷ arguments_from names 0 (table.kinds_of (table.name_of call)) (table.values_of call))
+unclosed names call = table.text_of call ++ (40 ∷ arguments_from names 0 (table.kinds_of call) (table.values_of call))
 
 pub call_text-unclosed : (names : NameLists) (call : Call) → call_text names call ≡ unclosed names call ++ (41 ∷ [])
 unfolding call_text
 call_text-unclosed names call =
-    ap (λ (r : List ℕ). r ++ (41 ∷ [])) (append_assoc (table.text_of (table.name_of call)) (40 ∷ []) (arguments_from names 0 (table.kinds_of (table.name_of call)) (table.values_of call)))
+    ap (λ (r : List ℕ). r ++ (41 ∷ [])) (append_assoc (table.text_of call) (40 ∷ []) (arguments_from names 0 (table.kinds_of call) (table.values_of call)))
 
 pub unclosed_bytes : (names : NameLists) (call : Call) → AreValid names → CallInBits call → list_all inner (unclosed names call) ≡ true
 unfolding is_of
 unclosed_bytes names call valid fits =
-    let word = (identifier_bytes (table.text_of (table.name_of call)) (is_identifier-text_of (table.name_of call))).1 in
-    list_all-both inner (table.text_of (table.name_of call)) (40 ∷ arguments_from names 0 (table.kinds_of (table.name_of call)) (table.values_of call))
-    (list_all-weaker (is_of Argument) inner inner-argument (table.text_of (table.name_of call)) word)
-    (arguments_bytes names (table.kinds_of (table.name_of call)) (table.values_of call) valid (call_arguments_fit call fits))
+    let word = (identifier_bytes (table.text_of call) (is_identifier-text_of call)).1 in
+    list_all-both inner (table.text_of call) (40 ∷ arguments_from names 0 (table.kinds_of call) (table.values_of call))
+    (list_all-weaker (is_of Argument) inner inner-argument (table.text_of call) word)
+    (arguments_bytes names (table.kinds_of call) (table.values_of call) valid (call_arguments_fit call fits))
 
 pub call_read : (names : NameLists) (call : Call) → AreValid names → CallInBits call → call_in names (call_text names call) ≡ Ok call
 unfolding is_of
 call_read names call valid fits =
     call_in-spelled names (call_text names call) call valid
-    (record { before = []; between = []; inner = arguments_from names 0 (table.kinds_of (table.name_of call)) (table.values_of call); behind = []; before_blank = refl; between_blank = refl; behind_blank = refl; arguments = arguments_spelled names (table.kinds_of (table.name_of call)) (table.values_of call) (call_arguments_fit call fits); parts = call_text-unclosed names call ∙ append_assoc (table.text_of (table.name_of call)) (40 ∷ arguments_from names 0 (table.kinds_of (table.name_of call)) (table.values_of call)) (41 ∷ []) })
+    (record { before = []; between = []; inner = arguments_from names 0 (table.kinds_of call) (table.values_of call); behind = []; before_blank = refl; between_blank = refl; behind_blank = refl; arguments = arguments_spelled names (table.kinds_of call) (table.values_of call) (call_arguments_fit call fits); parts = call_text-unclosed names call ∙ append_assoc (table.text_of call) (40 ∷ arguments_from names 0 (table.kinds_of call) (table.values_of call)) (41 ∷ []) })

@@ -70,17 +70,17 @@ module _ (names : NameLists) (r : Record) (valid : AreValid names) (fits : FitsN
   call_guessed : (p : Proc) (call : Call) → CallInBits call → r.event ≡ events.Call p call → guess_event names r.runner p (call_text names call ++ 32 ∷ rest_text) ≡ Some r
   unfolding guess_event guess_call is_of
   call_guessed p call call_fits is_event =
-      let name = table.text_of (table.name_of call) in
+      let name = table.text_of call in
       let whole : call_text names call ++ 32 ∷ rest_text ≡ unclosed names call ++ 41 ∷ (32 ∷ rest_text) = ap (λ (t : List ℕ). t ++ 32 ∷ rest_text) (call_text-unclosed names call) ∙ append_assoc (unclosed names call) (41 ∷ []) (32 ∷ rest_text) in
-      let opened : call_text names call ++ 32 ∷ rest_text ≡ table.text_of (table.name_of call) ++ 40 ∷ (arguments_from names 0 (table.kinds_of (table.name_of call)) (table.values_of call) ++ 41 ∷ (32 ∷ rest_text)) =
-      whole ∙ append_assoc (table.text_of (table.name_of call)) (40 ∷ arguments_from names 0 (table.kinds_of (table.name_of call)) (table.values_of call)) (41 ∷ (32 ∷ rest_text)) in
-      let word : front Word (call_text names call ++ 32 ∷ rest_text) ≡ table.text_of (table.name_of call) =
-      ap (front Word) opened ∙ (front-append Word (table.text_of (table.name_of call)) (40 ∷ (arguments_from names 0 (table.kinds_of (table.name_of call)) (table.values_of call) ++ 41 ∷ (32 ∷ rest_text))) (identifier_words (table.text_of (table.name_of call)) (is_identifier-text_of (table.name_of call))) (stops-cons (is_of Word) 40 (arguments_from names 0 (table.kinds_of (table.name_of call)) (table.values_of call) ++ 41 ∷ (32 ∷ rest_text)) refl)).0 in
+      let opened : call_text names call ++ 32 ∷ rest_text ≡ table.text_of call ++ 40 ∷ (arguments_from names 0 (table.kinds_of call) (table.values_of call) ++ 41 ∷ (32 ∷ rest_text)) =
+      whole ∙ append_assoc (table.text_of call) (40 ∷ arguments_from names 0 (table.kinds_of call) (table.values_of call)) (41 ∷ (32 ∷ rest_text)) in
+      let word : front Word (call_text names call ++ 32 ∷ rest_text) ≡ table.text_of call =
+      ap (front Word) opened ∙ (front-append Word (table.text_of call) (40 ∷ (arguments_from names 0 (table.kinds_of call) (table.values_of call) ++ 41 ∷ (32 ∷ rest_text))) (identifier_words (table.text_of call) (is_identifier-text_of call)) (stops-cons (is_of Word) 40 (arguments_from names 0 (table.kinds_of call) (table.values_of call) ++ 41 ∷ (32 ∷ rest_text)) refl)).0 in
       let cut : cut_at 41 (call_text names call ++ 32 ∷ rest_text) ≡ (unclosed names call, Some (32 ∷ rest_text)) =
       ap (cut_at 41) whole ∙ cut_at-append 41 (unclosed names call) (32 ∷ rest_text) (other_than inner 41 refl (unclosed names call) (unclosed_bytes names call valid call_fits)) in
       let long : length (call_text names call) ≡ length (unclosed names call) + 1 = ap length (call_text-unclosed names call) ∙ length-append (unclosed names call) (41 ∷ []) in
       let taken : take (length (unclosed names call) + 1) (call_text names call ++ 32 ∷ rest_text) ≡ call_text names call = take_at (call_text names call) (32 ∷ rest_text) (length (unclosed names call) + 1) long in
-      let tick = no_tick (table.name_of call) in let ipi = no_ipi (table.name_of call) in
+      let tick = no_tick call in let ipi = no_ipi call in
       rw (word, tick, ipi, cut, taken, call_read names call valid call_fits, ← is_event) rest_guessed
 
   event_guessed : (e : Event) → EventInBits e → r.event ≡ e → guess_event names r.runner (processor_of e) (event_text names e ++ 32 ∷ rest_text) ≡ Some r

@@ -141,8 +141,8 @@ module _ (names : NameLists) (valid : AreValid names) where
   call_is : (call : Call) → IsUnended (call_text names call)
   unfolding call_text
   call_is call =
-      let word = of_argument (table.text_of (table.name_of call)) (identifier_bytes (table.text_of (table.name_of call)) (is_identifier-text_of (table.name_of call))).1 in
-      (join (join (join (has (table.text_of (table.name_of call)) word) (has (codes "(") refl)) (has (arguments_from names 0 (table.kinds_of (table.name_of call)) (table.values_of call)) (arguments_are 0 (table.kinds_of (table.name_of call)) (table.values_of call)))) (has (codes ")") refl)).none
+      let word = of_argument (table.text_of call) (identifier_bytes (table.text_of call) (is_identifier-text_of call)).1 in
+      (join (join (join (has (table.text_of call) word) (has (codes "(") refl)) (has (arguments_from names 0 (table.kinds_of call) (table.values_of call)) (arguments_are 0 (table.kinds_of call) (table.values_of call)))) (has (codes ")") refl)).none
 
   -- ---- the parts of a line
 

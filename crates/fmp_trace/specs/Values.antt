@@ -50,4 +50,4 @@ arguments_from lists i (kind ∷ kinds) (value ∷ values) = separator i ++ valu
 -- a call with its arguments
 unfoldable pub call_text : NameLists → Call → List ℕ
 call_text lists call =
-    table.text_of (table.name_of call) ++ codes "(" ++ arguments_from lists 0 (table.kinds_of (table.name_of call)) (table.values_of call) ++ codes ")"
+    table.text_of call ++ codes "(" ++ arguments_from lists 0 (table.kinds_of call) (table.values_of call) ++ codes ")"

@@ -3,7 +3,7 @@ ghost use Rattle.std.specs.Prelude.{◌≡◌, ◌++◌, length, decimal, OnOk};
 ghost use Rattle.std.specs.Fmt.{signed_decimal};
 ghost use Rattle.fmp_trace.specs.Values as spec;
 
-use fmp_calls::{ArgumentKind, NameKind, ObjectKind, Value, parts};
+use fmp_calls::{ArgumentKind, NameKind, ObjectKind, Value, form, values};
 use fmp_codes::{Call, Mode};
 use fmp_text::Names;
 use itoa::Buffer;
@@ -113,10 +113,10 @@ fn put_arguments(
 pub fn put_call(out: &mut Vec<u8>, names: &Names, call: Call) -> Result<(), AllocError>
     ensures { OnOk result (out.new.items ≡ out.old.items ++ spec.call_text names.now call) }
 {
-    let (name, values) = parts(call);
-    out.extend_from_slice(name.text())?;
+    let form = form(call);
+    out.extend_from_slice(form.text)?;
     out.push(b'(')?;
-    put_arguments(out, names, name.kinds(), values.as_slice())?;
+    put_arguments(out, names, form.kinds, values(call).as_slice())?;
     out.push(b')')?;
     Ok(())
 }

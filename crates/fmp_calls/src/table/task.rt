@@ -1,52 +1,53 @@
 //! The calls on tasks.
-ghost use Rattle.std.specs.Prelude.{◌≡◌, ◌≤◌, length};
-ghost use Rattle.fmp_calls.specs.Tables.TaskTable as spec;
+ghost use Rattle.std.specs.Prelude.{◌≡◌, ◌≤◌, length, find};
+ghost use Rattle.std.specs.Str.{bytes_eq};
+ghost use Rattle.fmp_calls.specs.Tables.TaskTable.{line_of};
 
-use crate::kinds::ArgumentKind::Object;
-use crate::kinds::ObjectKind::Task;
-use crate::kinds::Value::{self, Number};
-use crate::table::{Form, MOST_ARGUMENTS, Values, listed};
+use crate::kinds::Value;
+use crate::table::{CallForm, MOST_ARGUMENTS, Values, listed, value_at};
 use fmp_codes::TaskCall;
 
-/// The names of the calls on tasks.
-#[derive(Clone, Copy, Debug, PartialEq, Eq)]
-pub enum TaskName {
-    ActTsk,
-    ExtTsk,
+macro_rules! task_calls {
+    ($reading:ident $(, $given:expr)*) => {
+        $reading!(TaskCall $(, $given)*;
+            ActTsk(task) = b"act_tsk",
+            ExtTsk = b"ext_tsk",
+        )
+    };
 }
 
-impl TaskName {
-    /// How the call is written.
-    pub fn form(self) -> Form
-        ensures text { result.text.now ≡ (spec.entry_of self).text }
-        ensures kinds { result.kinds.now ≡ (spec.entry_of self).kinds }
-        ensures few { length result.kinds.now ≤ MOST_ARGUMENTS }
-    {
-        match self {
-            TaskName::ActTsk => Form::new(b"act_tsk", &[Object(Task)]),
-            TaskName::ExtTsk => Form::new(b"ext_tsk", &[]),
-        }
-    }
+/// The calls on tasks, each with blanks for its arguments.
+pub const TASK_CALLS: &[TaskCall] = &task_calls!(names);
 
-    /// The call with these arguments, where they are of its kinds.
-    pub fn call(self, values: &[Value]) -> Option<TaskCall>
-        ensures { result ≡ (spec.entry_of self).call values.now }
-    {
-        match (self, values) {
-            (TaskName::ActTsk, [Number(task)]) => Some(TaskCall::ActTsk(*task)),
-            (TaskName::ExtTsk, []) => Some(TaskCall::ExtTsk),
-            _ => None,
-        }
-    }
-}
-
-/// The name and the arguments of a call.
-pub fn parts(call: TaskCall) -> (TaskName, Values)
-    ensures name { result.0 ≡ (spec.parts_of call).0 }
-    ensures values { result.1.items ≡ (spec.parts_of call).1 }
+/// How the call is written.
+pub fn form(call: TaskCall) -> CallForm
+    ensures text { result.text.now ≡ (line_of call).text }
+    ensures kinds { result.kinds.now ≡ (line_of call).kinds }
+    ensures few { length result.kinds.now ≤ MOST_ARGUMENTS }
 {
-    match call {
-        TaskCall::ActTsk(task) => (TaskName::ActTsk, listed(&[Number(task)])),
-        TaskCall::ExtTsk => (TaskName::ExtTsk, listed(&[])),
-    }
+    task_calls!(form, call)
+}
+
+/// The arguments of the call.
+pub fn values(call: TaskCall) -> Values
+    ensures { result.items ≡ (line_of call).values }
+{
+    task_calls!(values, call)
+}
+
+/// The call of the same name with the arguments that the values are.
+pub fn with_values(call: TaskCall, values: &[Value]) -> TaskCall
+    ensures { result ≡ (line_of call).make values.now }
+{
+    task_calls!(with_values, call, values)
+}
+
+/// A call that is written so.
+pub fn find(word: &[u8]) -> Option<TaskCall>
+    ensures { result ≡ find (λ call. bytes_eq (line_of call).text word.now) TASK_CALLS.now }
+{
+    TASK_CALLS
+        .iter()
+        .copied()
+        .find(|call| form(*call).text == word)
 }

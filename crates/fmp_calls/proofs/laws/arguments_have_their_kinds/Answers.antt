@@ -1,5 +1,5 @@
-use Rattle.fmp_calls.proofs.Kinded.{arguments_of_kinds}
+use Rattle.fmp_calls.proofs.Matched.{are_of_kinds-values_of}
 use Rattle.fmp_calls.proofs.laws.arguments_have_their_kinds.Goals as goal
 
 pub returns : goal.returns
-returns c = arguments_of_kinds
+returns c = are_of_kinds-values_of
