@@ -1,4 +1,4 @@
-pub mod Faults
 pub mod Reading
 pub mod Statements
+pub mod Faults
 pub mod Draft
