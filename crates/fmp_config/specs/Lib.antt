@@ -1,4 +1,5 @@
-pub mod Faults
+pub mod Limits
 pub mod Reading
 pub mod Statements
+pub mod Faults
 pub mod Draft

@@ -13,7 +13,7 @@ use Rattle.fmp_statements.specs.Numbers.{number_in}
 use Rattle.fmp_statements.specs.Table.{form_in, statement_name}
 use Rattle.fmp_statements.specs.Walk.{◌>>=◌, walk}
 use Rattle.fmp_config.specs.declared.draft.OpenClass.{OpenClass}
-use Rattle.fmp_config.specs.declared.reading.TheConstants.{MOST_BYTES}
+use Rattle.fmp_config.specs.Limits.{most_bytes}
 use Rattle.fmp_machine.specs.declared.setup.Class.{Class as ClassSetup}
 use Rattle.fmp_machine.specs.Building.{of_processors, with_class, with_task}
 use Rattle.fmp_config.specs.Reading.{State, part, left_behind, defined, opened, created}
@@ -110,5 +110,5 @@ setup_in tokens end = do
 -- the configuration of a text, or its first fault
 unfoldable pub config_in : List ℕ → Result Setup Fault
 config_in text =
-    if nat_lt MOST_BYTES (length text) then Err (record { kind = TooMany; line = 0; left = 0 })
+    if nat_lt most_bytes (length text) then Err (record { kind = TooMany; line = 0; left = 0 })
     else setup_in (lexed_text text).lexemes (lexed_text text).end

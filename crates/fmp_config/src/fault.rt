@@ -105,14 +105,12 @@ impl ReadError {
     ghost use Rattle.std.specs.Prelude.{◌≡◌};
     ghost use Rattle.fmp_config.specs.declared.fault.ReadError.TheVariants as errors;
     ghost use Rattle.fmp_statements.specs.declared.fault.Fault.{Fault};
-    ghost use Rattle.fmp_config.specs.Faults.{word_at};
-    ghost use Rattle.fmp_statements.specs.declared.fault.ConfigKind.TheVariants.{Memory};
+    ghost use Rattle.fmp_config.specs.Faults.{IsMemory, word_at};
 
     /// The fault with its word, where these are the tokens.
     pub fn with_word(self, tokens: &[Token<'_>]) -> ConfigFault
-        ensures memory { self ≡ errors.Memory → (result.kind ≡ Memory) × (result.line ≡ 0) }
-        ensures fault { (f : Fault) → self ≡ errors.Fault f → (result.kind ≡ f.kind) × (result.line ≡ f.line) }
-        ensures word { (f : Fault) → self ≡ errors.Fault f → result.word.bytes ≡ word_at tokens.now f.left }
+        ensures memory { self ≡ errors.Memory → IsMemory result }
+        ensures fault { (f : Fault) → self ≡ errors.Fault f → (result.kind ≡ f.kind) × (result.line ≡ f.line) × (result.word.bytes ≡ word_at tokens.now f.left) }
     {
         match self {
             ReadError::Memory => ConfigFault {

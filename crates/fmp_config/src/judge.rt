@@ -131,7 +131,7 @@ fn class_of(
 pub fn defined(parts: &Parts, statement: &[Token<'_>], form: &Form) -> Result<Class, Fault>
     ensures value { result ≡ spec.defined (setup_of parts.now) statement.now form.now }
     ensures new { OnOk result (is_refused (setup_of parts.now) (first_text (spec.part statement.now form.now NAME)) ≡ false) }
-    ensures room { OnOk result (length (setup_of parts.now).classes < MOST_CLASSES) }
+    ensures room { OnOk result (length (setup_of parts.now).classes < 32) }
     ensures sound { IfOk result (λ c. is_class_of (setup_of parts.now).processors c ≡ true) }
 {
     let room = parts.classes.len() < MOST_CLASSES;

@@ -1,6 +1,7 @@
 //! Reading a configuration text.
 ghost use Rattle.std.specs.Prelude.{◌≡◌, ◌≤◌, length, IfOk, Ok, Err, OnOk};
 ghost use Rattle.fmp_config.specs.Faults.{Gives, GivesOrFails};
+ghost use Rattle.fmp_tokens.specs.Lexing.{lexed_text};
 ghost use Rattle.fmp_config.specs.Draft.{IsSound, state_of};
 ghost use Rattle.fmp_machine.specs.Parts.{setup_of};
 ghost use Rattle.fmp_machine.specs.Valid.{IsValid};
@@ -98,20 +99,21 @@ fn config_of(alloc: Global, tokens: &[Token<'_>], end: End) -> Result<Config, Re
 }
 
 fn config_of_tokens(alloc: Global, tokens: &Tokens<'_>) -> Result<Config, ConfigFault>
-    ensures { GivesOrFails result (spec.setup_in tokens.now.list.items tokens.now.end) }
+    ensures { GivesOrFails result tokens.now.list.items (spec.setup_in tokens.now.list.items tokens.now.end) }
 {
-    match config_of(alloc, tokens.list.as_slice(), tokens.end) {
+    let list = tokens.list.as_slice();
+    match config_of(alloc, list, tokens.end) {
         Ok(config) => Ok(config),
-        Err(error) => Err(error.with_word(tokens.list.as_slice())),
+        Err(error) => Err(error.with_word(list)),
     }
 }
 
 /// Reads a configuration text. Blanks are spaces, tabs, carriage returns and line feeds; lines end with a line feed.
 ///
-/// The error is the first fault of the text in reading order, or want of memory. A text of more than `MOST_BYTES` bytes is not read.
+/// The error is the first fault of the text in reading order, with its word, or want of memory. A text of more than `MOST_BYTES` bytes is not read.
 #[tactic(auto, unfolding(crate::specs::Statements::config_in))]
 pub fn read_config(alloc: Global, text: &[u8]) -> Result<Config, ConfigFault>
-    ensures exact { GivesOrFails result (spec.config_in text.now) }
+    ensures exact { GivesOrFails result (lexed_text text.now).lexemes (spec.config_in text.now) }
 {
     if text.len() > MOST_BYTES {
         return Err(ReadError::Fault(TOO_LONG).with_word(&[]));

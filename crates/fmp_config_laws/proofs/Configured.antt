@@ -6,7 +6,7 @@ use Rattle.std.proofs.lemmas.List.{take-append-drop}
 use Rattle.fmp_tokens.specs.Lexing.{Lexeme, lexed_text}
 use Rattle.fmp_tokens.specs.declared.tokens.End.TheVariants.{Done}
 use Rattle.fmp_statements.specs.declared.table.StatementName.TheVariants.{Processors}
-use Rattle.fmp_config.specs.declared.reading.TheConstants.{MOST_BYTES}
+use Rattle.fmp_config.specs.Limits.{most_bytes}
 use Rattle.fmp_machine.specs.Building.{of_processors}
 use Rattle.fmp_machine.specs.Setup.{Setup}
 use Rattle.fmp_config.specs.Statements.{all_statements, processors_in, setup_in, config_in}
@@ -54,9 +54,9 @@ tokens_read text c s =
     let are = subst (Are (lexed_text text).lexemes) read.same (lexed_text-kinded text) in
     rw done (setup_read (lexed_text text).lexemes s.tokens s.processors s.items c are s.stated s.least s.most s.says)
 
-pub config_read : (text : List ℕ) (c : Setup) → Configures text c → length text ≤ MOST_BYTES → config_in text ≡ Ok c
+pub config_read : (text : List ℕ) (c : Setup) → Configures text c → length text ≤ most_bytes → config_in text ≡ Ok c
 unfolding config_in
-config_read text c s short = let long = le-ltb MOST_BYTES (length text) short in rw long (tokens_read text c s)
+config_read text c s short = let long = le-ltb most_bytes (length text) short in rw long (tokens_read text c s)
 
 pub one_machine : (text : List ℕ) (a b : Setup) → Configures text a → Configures text b → a ≡ b
 one_machine text a b first second = ok_is a b (sym (tokens_read text a first) ∙ tokens_read text b second)

@@ -9,7 +9,7 @@ use Rattle.fmp_statements.specs.declared.table.StatementName.{StatementName}
 use Rattle.fmp_statements.specs.declared.table.StatementName.TheVariants.{Processors, DefClass, Class, CreTsk}
 use Rattle.fmp_statements.specs.Table.{text_of, statement_name}
 use Rattle.fmp_config.specs.declared.draft.OpenClass.{OpenClass}
-use Rattle.fmp_config.specs.declared.reading.TheConstants.{MOST_BYTES}
+use Rattle.fmp_config.specs.Limits.{most_bytes}
 use Rattle.fmp_machine.specs.Building.{of_processors}
 use Rattle.fmp_machine.specs.Setup.{Setup}
 use Rattle.fmp_config.specs.Statements.{all_statements, counted, closed, processors_in, setup_in, config_in}
@@ -96,7 +96,7 @@ setup_was ls end tokens c are e =
 pub config_was : (text : List ℕ) (c : Setup) → config_in text ≡ Ok c → Configures text c
 unfolding config_in
 config_was text c e =
-    let p = refused (ltb MOST_BYTES (length text)) (setup_in (lexed_text text).lexemes (lexed_text text).end) _ c e in
+    let p = refused (ltb most_bytes (length text)) (setup_in (lexed_text text).lexemes (lexed_text text).end) _ c e in
     let w = setup_was (lexed_text text).lexemes (lexed_text text).end (texts (lexed_text text).lexemes) c (lexed_text-kinded text) p.1 in
     let first = w.first in
     let items = w.items in

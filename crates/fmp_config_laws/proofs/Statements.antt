@@ -23,6 +23,7 @@ use Rattle.fmp_statements.specs.Faults.{fault_at, fault_in}
 use Rattle.fmp_statements.specs.Forms.{Form, form_of, field, rest_of}
 use Rattle.fmp_statements.specs.Scan.{is_item}
 use Rattle.fmp_statements.specs.Table.{text_of, shapes_of, statement_name, form_in}
+use Rattle.fmp_statements.proofs.Found.{find-text_of}
 use Rattle.fmp_machine.specs.Building.{is_refused}
 use Rattle.fmp_config.specs.Reading.{part, left_behind, new_name}
 use Rattle.fmp_machine.specs.Setup.{Setup}
@@ -57,18 +58,12 @@ word_kind DefClass = refl
 word_kind Class = refl
 word_kind CreTsk = refl
 
-found_word : (name : StatementName) → find (λ n. bytes_eq (text_of n) (text_of name)) STATEMENT_NAMES ≡ Some name
-found_word Processors = refl
-found_word DefClass = refl
-found_word Class = refl
-found_word CreTsk = refl
-
 pub statement_named : (name : StatementName) (ls : List Lexeme) (tokens : List (List ℕ)) → Are ls (text_of name ∷ tokens) → statement_name ls ≡ Ok name
 unfolding statement_name
 statement_named name ls tokens are =
     let f = first_of ls (text_of name) tokens are in
     let word : is_word_next (f.first ∷ f.others) ≡ true = ap is_word (f.kind ∙ word_kind name) in
-    let found : find (λ n. bytes_eq (text_of n) f.first.text) STATEMENT_NAMES ≡ Some name = ap (λ (t : List ℕ). find (λ n. bytes_eq (text_of n) t) STATEMENT_NAMES) f.text ∙ found_word name in
+    let found : find (λ n. bytes_eq (text_of n) f.first.text) STATEMENT_NAMES ≡ Some name = ap (λ (t : List ℕ). find (λ n. bytes_eq (text_of n) t) STATEMENT_NAMES) f.text ∙ find-text_of name in
     ap statement_name f.parts ∙ rw (word, found) refl
 
 pub name_stands : (name : StatementName) (ls : List Lexeme) (token : List ℕ) (tokens : List (List ℕ)) → Are ls (token ∷ tokens) → statement_name ls ≡ Ok name → token ≡ text_of name

@@ -2,7 +2,7 @@
 ghost use Rattle.std.specs.Prelude.{◌≡◌, ◌≤◌, ℕ, List, length, map, Ok};
 ghost use Rattle.fmp_tokens.specs.declared.tokens.End.TheVariants.{Done};
 ghost use Rattle.fmp_tokens.specs.Lexing.{lexed_text};
-ghost use Rattle.fmp_config.specs.declared.reading.TheConstants.{MOST_BYTES};
+ghost use Rattle.fmp_config.specs.Limits.{most_bytes};
 ghost use Rattle.fmp_machine.specs.Setup.{Setup};
 ghost use Rattle.fmp_config.specs.Statements.{config_in};
 ghost use Rattle.fmp_config_laws.specs.Tokens.{SpellsTokens};
@@ -21,7 +21,7 @@ pub fn read_tokens_are_spelled()
 
 /// A text that says a configuration, within the limit, is read as that configuration.
 pub fn configured_texts_are_read()
-    ensures { (text : List ℕ) (c : Setup) → Configures text c → length text ≤ MOST_BYTES → config_in text ≡ Ok c }
+    ensures { (text : List ℕ) (c : Setup) → Configures text c → length text ≤ most_bytes → config_in text ≡ Ok c }
 {}
 
 /// A text says the configuration that is read of it.

@@ -34,7 +34,7 @@ impl Machine {
         ensures row { (self.new, effect_of result) ≡ called self.old p (get_tid self.old p) }
         ensures next { self.new.order.next ≡ self.old.order.next }
     {
-        self.check_rule(p, Rule::IN_TASK)?;
+        self.check_rule(p, Rule::in_task())?;
         let t = self.caller(p)?;
         Ok(Effect::value(i64::from(t.number)))
     }
@@ -44,7 +44,7 @@ impl Machine {
         ensures row { (self.new, effect_of result) ≡ called self.old p (get_pid self.old p) }
         ensures next { self.new.order.next ≡ self.old.order.next }
     {
-        self.check_rule(p, Rule::IN_TASK)?;
+        self.check_rule(p, Rule::in_task())?;
         Ok(Effect::value(i64::from(p.number)))
     }
 
@@ -53,7 +53,7 @@ impl Machine {
         ensures row { (self.new, effect_of result) ≡ called self.old p (loc_cpu self.old p) }
         ensures next { self.new.order.next ≡ self.old.order.next }
     {
-        self.check_rule(p, Rule::IN_TASK.when_locked())?;
+        self.check_rule(p, Rule::in_task().when_locked())?;
         self.lock(p);
         Ok(Effect::done())
     }
@@ -63,7 +63,7 @@ impl Machine {
         ensures row { (self.new, effect_of result) ≡ called self.old p (unl_cpu self.old p) }
         ensures next { self.new.order.next ≡ self.old.order.next }
     {
-        self.check_rule(p, Rule::IN_TASK.when_locked())?;
+        self.check_rule(p, Rule::in_task().when_locked())?;
         self.unlock(p);
         Ok(Effect::done())
     }
@@ -73,7 +73,7 @@ impl Machine {
         ensures row { (self.new, effect_of result) ≡ called self.old p (dis_dsp self.old p) }
         ensures next { self.new.order.next ≡ self.old.order.next }
     {
-        self.check_rule(p, Rule::IN_TASK)?;
+        self.check_rule(p, Rule::in_task())?;
         self.set_dispatching_disabled(p, true);
         Ok(Effect::done())
     }
@@ -83,7 +83,7 @@ impl Machine {
         ensures row { (self.new, effect_of result) ≡ called self.old p (ena_dsp self.old p) }
         ensures next { self.new.order.next ≡ self.old.order.next }
     {
-        self.check_rule(p, Rule::IN_TASK)?;
+        self.check_rule(p, Rule::in_task())?;
         self.set_dispatching_disabled(p, false);
         Ok(Effect::done())
     }
@@ -93,7 +93,7 @@ impl Machine {
         ensures row { (self.new, effect_of result) ≡ called self.old p (sense self.old is_so) }
         ensures next { self.new.order.next ≡ self.old.order.next }
     {
-        self.check_rule(p, Rule::ANYWHERE)?;
+        self.check_rule(p, Rule::anywhere())?;
         Ok(Effect::value(i64::from(is_so)))
     }
 }

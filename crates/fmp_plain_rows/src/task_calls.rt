@@ -31,7 +31,7 @@ impl Machine {
         ensures row { (self.new, effect_of result) ≡ called self.old p (act numbered self.old (task_or_caller self.old p id)) }
         ensures next { self.new.order.next ≤ self.old.order.next + 1 }
     {
-        self.check_rule(p, Rule::IN_TASK)?;
+        self.check_rule(p, Rule::in_task())?;
         let t = self.task_or_caller(p, id)?;
         let task = self.task(t);
         refuse_if(task.active && task.activations == 1, Code::QueueOverflow)?;
@@ -46,7 +46,7 @@ impl Machine {
         ensures row { (self.new, effect_of result) ≡ called self.old p (ext_tsk numbered self.old p) }
         ensures next { self.new.order.next ≤ self.old.order.next + 1 }
     {
-        self.check_rule(p, Rule::IN_TASK.when_locked())?;
+        self.check_rule(p, Rule::in_task().when_locked())?;
         let t = self.caller(p)?;
         self.open(p);
         self.finish(t);

@@ -6,6 +6,7 @@ mod cursor;
 mod fault;
 mod fields;
 mod forms;
+mod laws;
 mod numbers;
 mod scan;
 mod table;
@@ -17,6 +18,7 @@ pub use cursor::{
 pub use fault::{ConfigKind, Fault, fault_at, fault_in, misfit, run_out};
 pub use fields::{FieldKind, Value, fields_in};
 pub use forms::{Form, form_of};
+pub use laws::statements_are_found;
 pub use numbers::{Listed, list_in, number_in, numeral_in, processor_of};
 pub use scan::{Item, Reach, Scan, Shape, reach_of};
 pub use table::{

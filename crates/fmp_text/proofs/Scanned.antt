@@ -6,7 +6,7 @@ use Rattle.std.proofs.lemmas.Grind.{common_steps}
 use Rattle.std.proofs.lemmas.Bool.{eqb-true, le-ltb, lt-ltb, ne_eqb}
 use Rattle.memchr.specs.Find.{IsFirstByte, is_byte}
 use Rattle.fmp_codes.specs.declared.records.Event.{Event}
-use Rattle.fmp_text.specs.declared.events.TheConstants.{MOST_EVENTS}
+use Rattle.fmp_text.specs.Limits.{most_events}
 use Rattle.fmp_text.specs.declared.fault.TextKind.{TextKind}
 use Rattle.fmp_text.specs.declared.fault.TextKind.TheVariants.{TooMany}
 use Rattle.fmp_text.specs.declared.scan.Scan.{Scan}
@@ -83,19 +83,19 @@ module _ (names : NameLists) (whole : Reading) (events : List Event) (cut : Bool
       s.is ∙ ap (with_events events) step
 
   -- an event that was found is the next one
-  pub scan_event : (event : Event) → IsScanned names whole events cut count lines at text tail scan → scan.said ≡ Ok (Some event) → count < MOST_EVENTS
+  pub scan_event : (event : Event) → IsScanned names whole events cut count lines at text tail scan → scan.said ≡ Ok (Some event) → count < most_events
       → whole ≡ with_events (events ++ event ∷ []) (reading_from names cut scan.lines (count + 1) [] (drop (at + scan.used) text))
   scan_event event s seen room =
-      let small : nat_lt count MOST_EVENTS ≡ true = lt-ltb count MOST_EVENTS room in
+      let small : nat_lt count most_events ≡ true = lt-ltb count most_events room in
       let rest = reading_from names cut scan.lines (count + 1) [] (drop (at + scan.used) text) in
       let step = rw (seen, small) at (scanned s) in
       step ∙ ap (λ (xs : List Event). record { events = xs; fault = rest.fault }) (sym (append_assoc events (event ∷ []) rest.events))
 
   -- an event past the limit is a fault
-  pub scan_past : (event : Event) → IsScanned names whole events cut count lines at text tail scan → scan.said ≡ Ok (Some event) → MOST_EVENTS ≤ count
+  pub scan_past : (event : Event) → IsScanned names whole events cut count lines at text tail scan → scan.said ≡ Ok (Some event) → most_events ≤ count
       → whole ≡ with_events events (fault_at TooMany scan.lines)
   scan_past event s seen full =
-      let large : nat_lt count MOST_EVENTS ≡ false = le-ltb count MOST_EVENTS full in
+      let large : nat_lt count most_events ≡ false = le-ltb count most_events full in
       rw (seen, large) at (scanned s)
 
   -- a fault that was found is the first one

@@ -12,7 +12,7 @@ use Rattle.fmp_bytes.proofs.Fronts.{front-append, front-after, list_all-take_whi
 use Rattle.fmp_bytes.proofs.Included.{line-blank}
 use Rattle.fmp_bytes.proofs.Spelled.{behind_is, behind-same}
 use Rattle.fmp_bytes.proofs.Cutting.{join-pieces_of, some-pieces_of, apart-pieces_of}
-use Rattle.fmp_text.specs.declared.events.TheConstants.{MOST_BYTES, MOST_EVENTS}
+use Rattle.fmp_text.specs.Limits.{most_bytes, most_events}
 use Rattle.fmp_text.specs.declared.fault.TextFault.{TextFault}
 use Rattle.fmp_text.specs.declared.fault.TextKind.{TextKind}
 use Rattle.fmp_text.specs.declared.fault.TextKind.TheVariants.{CutShort, TooMany}
@@ -211,13 +211,13 @@ module _ (names : NameLists) (n count : ℕ) (line : List ℕ) (without behind :
   without_event : SpellsNothing line → (events : List Event) → without ≡ faultless events → after_line (n + 1) count (line_event names line) without behind ≡ faultless events
   without_event s events rest = rw (line_read names line s) rest
 
-  one_event : (event : Event) → AreValid names → SpellsOne names line event → count < MOST_EVENTS → (others : List Event) → behind ≡ faultless others
+  one_event : (event : Event) → AreValid names → SpellsOne names line event → count < most_events → (others : List Event) → behind ≡ faultless others
       → after_line (n + 1) count (line_event names line) without behind ≡ faultless (event ∷ others)
   one_event event valid s few others rest =
-      let room = lt-ltb count MOST_EVENTS few in
+      let room = lt-ltb count most_events few in
       rw (one_read names line event valid s, room, rest) refl
 
-lines_read : (names : NameLists) (n count : ℕ) (lines : List (List ℕ)) (events : List Event) → AreValid names → list_all (list_all (λ b. not (eqb b 10))) lines ≡ true → SpellsLines names lines events → count + length events ≤ MOST_EVENTS
+lines_read : (names : NameLists) (n count : ℕ) (lines : List (List ℕ)) (events : List Event) → AreValid names → list_all (list_all (λ b. not (eqb b 10))) lines ≡ true → SpellsLines names lines events → count + length events ≤ most_events
     → reading_from names false n count [] (join_with_byte 10 lines) ≡ faultless events
 lines_read names n count [] events valid apart s few = absurd s
 lines_read names n count (last ∷ []) events valid apart s few =
@@ -240,17 +240,17 @@ lines_read names n count (line ∷ next ∷ lines) events valid apart (inr s) fe
 
 -- one event, where there was room for it
 pub record IsTaken (count : ℕ) (event : Event) (behind : Reading) (events : List Event) : Type 0 where
-  pub room : count < MOST_EVENTS
+  pub room : count < most_events
   pub rest : behind ≡ faultless behind.events
   pub parts : events ≡ event ∷ behind.events
 
 event_parts : (line count : ℕ) (event : Event) (behind : Reading) (events : List Event) → with_event line count event behind ≡ faultless events → IsTaken count event behind events
 event_parts line count event behind events e =
-    elim (cases_Bool (ltb count MOST_EVENTS)) [
+    elim (cases_Bool (ltb count most_events)) [
       | inl t ↦
           let e2 = rw t at e in
           let none : behind.fault ≡ None = ap (λ (r : Reading). r.fault) e2 in
-          record { room = ltb-true count MOST_EVENTS t; rest = ap (λ (f : Option TextFault). record { events = behind.events; fault = f }) none; parts = sym (ap (λ (r : Reading). r.events) e2) }
+          record { room = ltb-true count most_events t; rest = ap (λ (f : Option TextFault). record { events = behind.events; fault = f }) none; parts = sym (ap (λ (r : Reading). r.events) e2) }
       | inr f ↦ let e2 = rw f at e in let bad = ap (λ (r : Reading). r.fault) e2 in absurd cc
     ]
 
@@ -262,13 +262,13 @@ line_parts line count (Ok (Some event)) without behind events e = inr (event, re
 line_parts line count (Err kind) without behind events e = let bad = ap (λ (r : Reading). r.fault) e in absurd cc
 
 abbrev pub AllSpelled : NameLists → ℕ → List (List ℕ) → List Event → Type 0
-AllSpelled names count lines events = SpellsLines names lines events × (count + length events ≤ MOST_EVENTS)
+AllSpelled names count lines events = SpellsLines names lines events × (count + length events ≤ most_events)
 
 last_parts : (skipped : Bool) (n : ℕ) (events : List Event) → cond skipped (faultless []) (fault_at CutShort n) ≡ faultless events → (skipped ≡ true) × (events ≡ [])
 last_parts true n events e = (refl, sym (ap (λ (r : Reading). r.events) e))
 last_parts false n events e = let bad = ap (λ (r : Reading). r.fault) e in absurd cc
 
-lines_spelled : (names : NameLists) (n count : ℕ) (lines : List (List ℕ)) (events : List Event) → count ≤ MOST_EVENTS → 0 < length lines → list_all (list_all (λ b. not (eqb b 10))) lines ≡ true
+lines_spelled : (names : NameLists) (n count : ℕ) (lines : List (List ℕ)) (events : List Event) → count ≤ most_events → 0 < length lines → list_all (list_all (λ b. not (eqb b 10))) lines ≡ true
     → reading_from names false n count [] (join_with_byte 10 lines) ≡ faultless events → AllSpelled names count lines events
 lines_spelled names n count [] events few some apart e = absurd (omega (arith, some))
 lines_spelled names n count (last ∷ []) events few some apart e =
@@ -298,7 +298,7 @@ some_lines names (line ∷ lines) events s = omega arith
 pub reading_of-spelled : (names : NameLists) (text : List ℕ) (events : List Event) → AreValid names → SpellsText names text events → reading_of names text ≡ faultless events
 unfolding reading_of
 reading_of-spelled names text events valid s =
-    let short = le-ltb MOST_BYTES (length text) s.short in
+    let short = le-ltb most_bytes (length text) s.short in
     rw short (ap (reading_from names false 0 0 []) s.parts ∙ lines_read names 0 0 s.lines events valid s.cut s.spelled (omega (arith, s.few)))
 
 too_long : (long : Bool) (reading : Reading) (events : List Event) → cond long (fault_at TooMany 0) reading ≡ faultless events → (long ≡ false) × (reading ≡ faultless events)
@@ -308,10 +308,10 @@ too_long false reading events e = (refl, e)
 pub text_is_spelled : (names : NameLists) (text : List ℕ) (events : List Event) → reading_of names text ≡ faultless events → SpellsText names text events
 unfolding reading_of
 text_is_spelled names text events e =
-    let p = too_long (ltb MOST_BYTES (length text)) (reading_from names false 0 0 [] text) events e in
+    let p = too_long (ltb most_bytes (length text)) (reading_from names false 0 0 [] text) events e in
     let joined = join-pieces_of 10 text in
     let all = lines_spelled names 0 0 (pieces_of 10 text) events (omega arith) (some-pieces_of 10 text) (apart-pieces_of 10 text) (ap (reading_from names false 0 0 []) joined ∙ p.1) in
-    record { lines = pieces_of 10 text; parts = sym joined; cut = apart-pieces_of 10 text; spelled = all.0; few = omega (arith, all.1); short = ltb-false MOST_BYTES (length text) p.0 }
+    record { lines = pieces_of 10 text; parts = sym joined; cut = apart-pieces_of 10 text; spelled = all.0; few = omega (arith, all.1); short = ltb-false most_bytes (length text) p.0 }
 
 -- a text spells at most one list of events
 pub one_list : (names : NameLists) (text : List ℕ) (a b : List Event) → AreValid names → SpellsText names text a → SpellsText names text b → a ≡ b

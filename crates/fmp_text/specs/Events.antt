@@ -1,7 +1,7 @@
 -- Reading the lines of an event text, up to the first fault.
 use Rattle.std.specs.Prelude.{◌≡◌, ◌≢◌, ◌<◌, ℕ, ◌+◌, ◌⊎◌, ◌==◌, nat_lt, Bool, false, List, [], ◌∷◌, ◌++◌, length, drop, slice_index, Option, Some, None, Result, Ok, Err, if◌then◌else◌}
 use Rattle.fmp_codes.specs.declared.records.Event.{Event}
-use Rattle.fmp_text.specs.declared.events.TheConstants.{MOST_BYTES, MOST_EVENTS}
+use Rattle.fmp_text.specs.Limits.{most_bytes, most_events}
 use Rattle.fmp_text.specs.declared.fault.TextFault.{TextFault}
 use Rattle.fmp_text.specs.declared.fault.TextKind.{TextKind}
 use Rattle.fmp_text.specs.declared.fault.TextKind.TheVariants.{CutShort, TooMany, Memory}
@@ -36,7 +36,7 @@ with_events events reading = record { events = events ++ reading.events; fault =
 
 -- an event of this line, where there is room for it behind so many others, and then the rest
 abbrev pub with_event : ℕ → ℕ → Event → Reading → Reading
-with_event line count event rest = if nat_lt count MOST_EVENTS then with_events (event ∷ []) rest else fault_at TooMany line
+with_event line count event rest = if nat_lt count most_events then with_events (event ∷ []) rest else fault_at TooMany line
 
 -- a whole line behind so many events, and what follows: where the line has no event, and where it has one
 abbrev pub after_line : ℕ → ℕ → Result (Option Event) TextKind → Reading → Reading → Reading
@@ -58,7 +58,7 @@ reading_from names cut lines count begun (byte ∷ bytes) =
 
 -- what a whole text gives. One that is too long has that fault before all others
 unfoldable pub reading_of : NameLists → List ℕ → Reading
-reading_of names text = if nat_lt MOST_BYTES (length text) then fault_at TooMany 0 else reading_from names false 0 0 [] text
+reading_of names text = if nat_lt most_bytes (length text) then fault_at TooMany 0 else reading_from names false 0 0 [] text
 
 -- there is no line feed among the bytes
 abbrev pub HasNoFeed : List ℕ → Type 0

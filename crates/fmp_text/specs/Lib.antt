@@ -2,6 +2,7 @@ pub mod Argument
 pub mod Events
 pub mod Faults
 pub mod Grammar
+pub mod Limits
 pub mod Lines
 pub mod Names
 pub mod Reading

@@ -5,7 +5,7 @@ use Rattle.fmp_codes.specs.Numbers.{as_proc}
 use Rattle.fmp_codes.specs.declared.numbers.Proc.{Proc}
 use Rattle.fmp_codes.specs.declared.records.Event.{Event}
 use Rattle.fmp_codes.specs.declared.records.Event.TheVariants as events
-use Rattle.fmp_text.specs.declared.events.TheConstants.{MOST_BYTES, MOST_EVENTS}
+use Rattle.fmp_text.specs.Limits.{most_bytes, most_events}
 use Rattle.fmp_text.specs.Names.{NameLists}
 use Rattle.fmp_text.specs.Grammar.{AreBlank, SpellsCall}
 
@@ -73,5 +73,5 @@ pub record SpellsText (names : NameLists) (text : List ℕ) (events : List Event
   pub parts : text ≡ join_with_byte 10 lines
   pub cut : list_all (list_all (λ b. not (b == 10))) lines ≡ true
   pub spelled : SpellsLines names lines events
-  pub few : length events ≤ MOST_EVENTS
-  pub short : length text ≤ MOST_BYTES
+  pub few : length events ≤ most_events
+  pub short : length text ≤ most_bytes

@@ -3,6 +3,7 @@ ghost use Rattle.std.specs.Prelude.{◌≡◌, ◌≤◌, vec_len, All, IfOk, If
 ghost use Rattle.fmp_calls.specs.Arguments.{EventInBits};
 ghost use Rattle.fmp_codes.specs.Records.{AreOn};
 ghost use Rattle.fmp_text.specs.Events.{IsFirst, reading_of, faultless};
+ghost use Rattle.fmp_text.specs.Limits.{most_events};
 
 use crate::fault::{TextFault, TextKind};
 use crate::line::is_skipped;
@@ -22,7 +23,7 @@ pub const MOST_EVENTS: usize = 1_000_000;
 /// The error is the first fault of the text, or want of memory.
 pub fn read_events(alloc: Global, text: &[u8], names: &Names) -> Result<Vec<Event>, TextFault>
     ensures ok { IfOk result (λ events. reading_of names.now text.now ≡ faultless events.items) }
-    ensures few { IfOk result (λ events. vec_len events ≤ MOST_EVENTS) }
+    ensures few { IfOk result (λ events. vec_len events ≤ most_events) }
     // The events are on the processors of the names, and their arguments are within the bits of their kinds.
     ensures on { IfOk result (λ events. AreOn names.now.processors events.items) }
     ensures in_bits { IfOk result (λ events. All EventInBits events.items) }

@@ -12,7 +12,6 @@ ghost use Rattle.fmp_text.specs.Lines.{line_event};
 ghost use Rattle.fmp_text.specs.Events.{HasNoFeed, after_line, reading_of, reading_from, faultless};
 ghost use Rattle.fmp_text.specs.Grammar.{SpellsValue, SpellsCall};
 ghost use Rattle.fmp_text.specs.TextGrammar.{SpellsText};
-ghost use Rattle.fmp_text.specs.declared.events.TheConstants.{MOST_BYTES, MOST_EVENTS};
 
 /// A name and its number give each other back.
 pub fn names_and_numbers_agree()
@@ -71,10 +70,4 @@ pub fn texts_are_read_line_by_line()
         (reading_from names cut (lines + 1) count [] rest) (reading_from names cut (lines + 1) (count + 1) [] rest) }
     ensures begun { (names : NameLists) (cut : Bool) (lines count : ℕ) (begun bytes more : List ℕ) → HasNoFeed bytes
         → reading_from names cut lines count begun (bytes ++ more) ≡ reading_from names cut lines count (begun ++ bytes) more }
-{}
-
-/// The limits of texts, which the definitions take from the code.
-pub fn limits_are_these()
-    ensures bytes { MOST_BYTES ≡ 1073741824 }
-    ensures events { MOST_EVENTS ≡ 1000000 }
 {}

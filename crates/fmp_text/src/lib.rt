@@ -14,7 +14,7 @@ pub use call::read_call;
 pub use events::{MOST_BYTES, MOST_EVENTS, read_events};
 pub use fault::{TextFault, TextKind};
 pub use laws::{
-    limits_are_these, names_and_numbers_agree, read_calls_are_spelled, read_texts_are_spelled,
+    names_and_numbers_agree, read_calls_are_spelled, read_texts_are_spelled,
     read_values_are_spelled, spelled_calls_are_read, spelled_texts_are_read,
     spelled_values_are_read, texts_are_read_line_by_line, texts_spell_one_list,
 };

@@ -12,7 +12,7 @@ use Rattle.fmp_machine.specs.Numbers.{State, numbered}
 use Rattle.fmp_machine.specs.Setup.{Setup}
 use Rattle.fmp_machine.specs.Step.{step, answers}
 use Rattle.fmp_machine.specs.Valid.{IsValid}
-use Rattle.fmp_text.specs.declared.events.TheConstants.{MOST_EVENTS}
+use Rattle.fmp_text.specs.Limits.{most_events}
 use Rattle.fmp_text.specs.declared.fault.TextFault.{TextFault}
 use Rattle.fmp_text.specs.Events.{IsMemory}
 use Rattle.fmp_trace.specs.Reading.{GivesOrFails}
@@ -196,7 +196,7 @@ module _ (c : Setup) (text : List ℕ) (valid : AreValid c.names) where
   pub is_answered : (result : Result Verdict TextFault) → GivesOrFails (λ v. v) result (checked c text) → IsValid c → (events : List Event) → PrintsAnswers c text events → GivesOrFails (λ v. v) result (Ok Yes)
   is_answered result e valid_config events p =
       let records : List Record = answers numbered (booted c) events in
-      let few : length records ≤ MOST_EVENTS = rw (length-answers (booted c) events) p.few in
+      let few : length records ≤ most_events = rw (length-answers (booted c) events) p.few in
       let fit : AllFit c.names records = answers-fit c events valid_config p.on p.in_bits in
       let prints : PrintsWithin c.names text records = record { prints = record { lines = p.prints; fit = fit }; few = few; short = p.short } in
       let own : text ≡ own_text c records = p.prints ∙ ap (λ (es : List Event). lines_from c.names 1 (answers numbered (booted c) es)) (sym (answers_events (booted c) events)) in

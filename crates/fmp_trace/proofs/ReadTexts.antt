@@ -8,7 +8,7 @@ use Rattle.fmp_codes.specs.declared.records.Record.{Record}
 use Rattle.fmp_bytes.specs.declared.classes.Class.TheVariants.{Printed}
 use Rattle.fmp_bytes.specs.Bytes.{is_of, cut_at, pieces_of}
 use Rattle.fmp_bytes.proofs.Cutting.{cut_at-append, join-pieces_of, some-pieces_of, apart-pieces_of}
-use Rattle.fmp_text.specs.declared.events.TheConstants.{MOST_BYTES, MOST_EVENTS}
+use Rattle.fmp_text.specs.Limits.{most_bytes, most_events}
 use Rattle.fmp_text.specs.declared.fault.TextFault.{TextFault}
 use Rattle.fmp_text.specs.declared.fault.TextKind.{TextKind}
 use Rattle.fmp_text.specs.declared.fault.TextKind.TheVariants.{BadByte, BadWord, UnknownName, WrongArguments, NumberOutOfRange, CutShort, TooMany, Memory}
@@ -37,21 +37,21 @@ line_read names n line r valid small prints =
     let same = (bytes_eq-Decides (core_text names n r) (core_text names n r)).1 refl in
     rw (is_line, printed, found, same) refl
 
-limited_ok : (n : ℕ) (r : Record) → n ≤ MOST_EVENTS → limited n r ≡ Ok r
+limited_ok : (n : ℕ) (r : Record) → n ≤ most_events → limited n r ≡ Ok r
 unfolding limited
-limited_ok n r few = let test = le-ltb MOST_EVENTS n few in rw test refl
+limited_ok n r few = let test = le-ltb most_events n few in rw test refl
 
 -- what is known of how a line was read
 abbrev pub LineTold : NameLists → ℕ → List ℕ → Result Record TextKind → Type 0
-LineTold names n line (Ok r) = PrintsLine names n line r × (n ≤ MOST_EVENTS)
+LineTold names n line (Ok r) = PrintsLine names n line r × (n ≤ most_events)
 LineTold names n line (Err kind) = (kind ≢ CutShort) × LineFault names n line kind
 
 limited_told : (names : NameLists) (n : ℕ) (line : List ℕ) (r : Record) → PrintsLine names n line r → LineTold names n line (limited n r)
 unfolding limited
 limited_told names n line r prints =
-    elim (cases_Bool (ltb MOST_EVENTS n)) [
-      | inl t ↦ rw t ((λ e. absurd cc), (ltb-true MOST_EVENTS n t, (r, prints)))
-      | inr f ↦ rw f (prints, ltb-false MOST_EVENTS n f)
+    elim (cases_Bool (ltb most_events n)) [
+      | inl t ↦ rw t ((λ e. absurd cc), (ltb-true most_events n t, (r, prints)))
+      | inr f ↦ rw f (prints, ltb-false most_events n f)
     ]
 
 -- a line of printed bytes that is no right guess prints nothing
@@ -91,7 +91,7 @@ lines_pieces names n r rs valid =
     ap (pieces_of 10) (lines-cons names n r (lines_from names (n + 1) rs))
     ∙ first_piece (core_text names n r ++ 10 ∷ lines_from names (n + 1) rs) (core_text names n r) (lines_from names (n + 1) rs) (ap (λ (p : List ℕ × Option (List ℕ)). p.0) cut) (ap (λ (p : List ℕ × Option (List ℕ)). p.1) cut)
 
-records_read : (names : NameLists) (n : ℕ) (rs : List Record) → AreValid names → AllFit names rs → n + length rs ≤ MOST_EVENTS + 1 → records_from names n (pieces_of 10 (lines_from names n rs)) ≡ Ok rs
+records_read : (names : NameLists) (n : ℕ) (rs : List Record) → AreValid names → AllFit names rs → n + length rs ≤ most_events + 1 → records_from names n (pieces_of 10 (lines_from names n rs)) ≡ Ok rs
 unfolding records_from pieces_of
 records_read names n [] valid fit few = refl
 records_read names n (r ∷ rs) valid fit few =
@@ -110,19 +110,19 @@ pub record FaultFrom (names : NameLists) (n : ℕ) (text : List ℕ) (fault : Te
   pub parts : text ≡ lines_from names n before ++ rest
   pub fit : AllFit names before
   pub is_at : at ≡ n + length before
-  pub few : at ≤ MOST_EVENTS + 1
+  pub few : at ≤ most_events + 1
   pub line : fault.line ≡ at
   pub here : FaultAt names at rest fault.kind
 
 abbrev pub Told : NameLists → ℕ → List ℕ → Result (List Record) TextFault → Type 0
-Told names n text (Ok rs) = (text ≡ lines_from names n rs) × AllFit names rs × (n + length rs ≤ MOST_EVENTS + 1)
+Told names n text (Ok rs) = (text ≡ lines_from names n rs) × AllFit names rs × (n + length rs ≤ most_events + 1)
 Told names n text (Err fault) = FaultFrom names n text fault
 
 no_bytes : (text : List ℕ) → length text ≡ 0 → text ≡ []
 no_bytes [] e = refl
 no_bytes (b ∷ bytes) e = absurd (omega (arith, e))
 
-last_told : (names : NameLists) (n : ℕ) (last : List ℕ) → n ≤ MOST_EVENTS + 1 → IsUnended last → Told names n last (cond (eqb (length last) 0) (Ok []) (Err (record { kind = CutShort; line = n })))
+last_told : (names : NameLists) (n : ℕ) (last : List ℕ) → n ≤ most_events + 1 → IsUnended last → Told names n last (cond (eqb (length last) 0) (Ok []) (Err (record { kind = CutShort; line = n })))
 last_told names n last few unended =
     elim (cases_Bool (eqb (length last) 0)) [
       | inl t ↦ rw t (no_bytes last (eqb-true (length last) 0 t), tt, omega (arith, few))
@@ -140,8 +140,8 @@ fault_at names n line rest NumberOutOfRange unended other fault = absurd fault
 fault_at names n line rest Memory unended other fault = absurd fault
 
 -- one line more in front
-module _ (names : NameLists) (n : ℕ) (line rest : List ℕ) (few : n ≤ MOST_EVENTS + 1) (unended : IsUnended line) where
-  step_told : (read : Result Record TextKind) (others : Result (List Record) TextFault) → LineTold names n line read → (n ≤ MOST_EVENTS → Told names (n + 1) rest others)
+module _ (names : NameLists) (n : ℕ) (line rest : List ℕ) (few : n ≤ most_events + 1) (unended : IsUnended line) where
+  step_told : (read : Result Record TextKind) (others : Result (List Record) TextFault) → LineTold names n line read → (n ≤ most_events → Told names (n + 1) rest others)
       → Told names n (line ++ 10 ∷ rest) (at_line n read >>= λ r. others >>= λ list. Ok (r ∷ list))
   step_told (Err kind) others told more =
       record { before = []; rest = line ++ 10 ∷ rest; at = n; parts = refl; fit = tt; is_at = omega arith; few = few; line = refl; here = fault_at names n line rest kind unended told.0 told.1 }
@@ -164,7 +164,7 @@ module _ (names : NameLists) (n : ℕ) (line rest : List ℕ) (few : n ≤ MOST_
         here = next.here;
       }
 
-lines_told : (names : NameLists) (n : ℕ) (lines : List (List ℕ)) → AreValid names → n ≤ MOST_EVENTS + 1 → 0 < length lines → list_all (list_all (λ b. not (eqb b 10))) lines ≡ true → Told names n (join_with_byte 10 lines) (records_from names n lines)
+lines_told : (names : NameLists) (n : ℕ) (lines : List (List ℕ)) → AreValid names → n ≤ most_events + 1 → 0 < length lines → list_all (list_all (λ b. not (eqb b 10))) lines ≡ true → Told names n (join_with_byte 10 lines) (records_from names n lines)
 unfolding records_from
 lines_told names n [] valid few some apart = absurd (omega (arith, some))
 lines_told names n (last ∷ []) valid few some apart = last_told names n last few (and_parts (list_all (λ b. not (eqb b 10)) last) true apart).0
@@ -186,14 +186,14 @@ too_long false read fault a e = (refl, e)
 pub read_prints : (names : NameLists) (text : List ℕ) (rs : List Record) → AreValid names → records_in names text ≡ Ok rs → PrintsWithin names text rs
 unfolding records_in
 read_prints names text rs valid e =
-    let p = too_long (ltb MOST_BYTES (length text)) (records_from names 1 (pieces_of 10 text)) _ rs e in
+    let p = too_long (ltb most_bytes (length text)) (records_from names 1 (pieces_of 10 text)) _ rs e in
     let told = subst (Told names 1 text) p.1 (text_told names text valid) in
-    record { prints = record { lines = told.0; fit = told.1 }; few = omega (arith, told.2); short = ltb-false MOST_BYTES (length text) p.0 }
+    record { prints = record { lines = told.0; fit = told.1 }; few = omega (arith, told.2); short = ltb-false most_bytes (length text) p.0 }
 
 pub prints_read : (names : NameLists) (text : List ℕ) (rs : List Record) → AreValid names → PrintsWithin names text rs → records_in names text ≡ Ok rs
 unfolding records_in
 prints_read names text rs valid p =
-    let short = le-ltb MOST_BYTES (length text) p.short in
+    let short = le-ltb most_bytes (length text) p.short in
     let lines = p.prints.lines in
     rw short (ap (λ (t : List ℕ). records_from names 1 (pieces_of 10 t)) lines ∙ records_read names 1 rs valid p.prints.fit (omega (arith, p.few)))
 
@@ -201,7 +201,7 @@ err_parts : (long : Bool) (read : Result (List Record) TextFault) (first fault :
 err_parts true read first fault e = let same : first ≡ fault = cc in inl (refl, sym same)
 err_parts false read first fault e = inr (refl, e)
 
-from_first : (names : NameLists) (text : List ℕ) (fault : TextFault) → length text ≤ MOST_BYTES → FaultFrom names 1 text fault → FaultBehind names text fault
+from_first : (names : NameLists) (text : List ℕ) (fault : TextFault) → length text ≤ most_bytes → FaultFrom names 1 text fault → FaultBehind names text fault
 from_first names text fault short f =
     let at : f.at ≡ length f.before + 1 = omega (arith, f.is_at) in
     let few = f.few in let here = f.here in
@@ -210,9 +210,9 @@ from_first names text fault short f =
 pub fault_is_first : (names : NameLists) (text : List ℕ) (fault : TextFault) → AreValid names → records_in names text ≡ Err fault → FirstFault names text fault
 unfolding records_in
 fault_is_first names text fault valid e =
-    elim (err_parts (ltb MOST_BYTES (length text)) (records_from names 1 (pieces_of 10 text)) (record { kind = TooMany; line = 0 }) fault e) [
-      | inl p ↦ inl (ltb-true MOST_BYTES (length text) p.0, p.1)
-      | inr p ↦ inr (from_first names text fault (ltb-false MOST_BYTES (length text) p.0) (subst (Told names 1 text) p.1 (text_told names text valid)))
+    elim (err_parts (ltb most_bytes (length text)) (records_from names 1 (pieces_of 10 text)) (record { kind = TooMany; line = 0 }) fault e) [
+      | inl p ↦ inl (ltb-true most_bytes (length text) p.0, p.1)
+      | inr p ↦ inr (from_first names text fault (ltb-false most_bytes (length text) p.0) (subst (Told names 1 text) p.1 (text_told names text valid)))
     ]
 
 -- ---- a text prints one list

@@ -11,7 +11,7 @@ use Rattle.fmp_machine.specs.Boot.{booted}
 use Rattle.fmp_machine.specs.Numbers.{State, numbered}
 use Rattle.fmp_machine.specs.Setup.{Setup}
 use Rattle.fmp_machine.specs.Step.{step, answers}
-use Rattle.fmp_text.specs.declared.events.TheConstants.{MOST_BYTES, MOST_EVENTS}
+use Rattle.fmp_text.specs.Limits.{most_bytes, most_events}
 use Rattle.fmp_text.specs.declared.fault.TextFault.{TextFault}
 use Rattle.fmp_text.specs.declared.fault.TextKind.TheVariants.{BadWord}
 use Rattle.fmp_text.specs.Names.{NameLists}
@@ -58,8 +58,8 @@ pub record Judges (c : Setup) (text : List ℕ) (verdict : Verdict) : Type 0 whe
 pub record PrintsAnswers (c : Setup) (text : List ℕ) (events : List Event) : Type 0 where
   pub on : AreOn c.processors events
   pub in_bits : All EventInBits events
-  pub few : length events ≤ MOST_EVENTS
-  pub short : length text ≤ MOST_BYTES
+  pub few : length events ≤ most_events
+  pub short : length text ≤ most_bytes
   pub prints : text ≡ lines_from c.names 1 (answers numbered (booted c) events)
 
 -- a text was judged: it reads as some records, or has the fault, unless memory ran out

@@ -4,7 +4,7 @@ use Rattle.std.specs.List.{list_all}
 use Rattle.fmp_bytes.specs.declared.classes.Class.TheVariants.{Printed}
 use Rattle.fmp_bytes.specs.Bytes.{is_of}
 use Rattle.fmp_codes.specs.declared.records.Record.{Record}
-use Rattle.fmp_text.specs.declared.events.TheConstants.{MOST_BYTES, MOST_EVENTS}
+use Rattle.fmp_text.specs.Limits.{most_bytes, most_events}
 use Rattle.fmp_text.specs.declared.fault.TextFault.{TextFault}
 use Rattle.fmp_text.specs.declared.fault.TextKind.{TextKind}
 use Rattle.fmp_text.specs.declared.fault.TextKind.TheVariants.{BadByte, BadWord, CutShort, TooMany}
@@ -24,8 +24,8 @@ pub record Prints (names : NameLists) (text : List ℕ) (records : List Record) 
 -- the same, within the limits of texts
 pub record PrintsWithin (names : NameLists) (text : List ℕ) (records : List Record) : Type 0 where
   pub prints : Prints names text records
-  pub few : length records ≤ MOST_EVENTS
-  pub short : length text ≤ MOST_BYTES
+  pub few : length records ≤ most_events
+  pub short : length text ≤ most_bytes
 
 -- the text has no line feed
 abbrev pub IsUnended : List ℕ → Type 0
@@ -35,7 +35,7 @@ IsUnended text = list_all (λ b. not (b == 10)) text ≡ true
 abbrev pub LineFault : NameLists → ℕ → List ℕ → TextKind → Type 0
 LineFault names n line BadByte = list_all (is_of Printed) line ≡ false
 LineFault names n line BadWord = (list_all (is_of Printed) line ≡ true) × ((r : Record) → PrintsLine names n line r → ⊥)
-LineFault names n line TooMany = (MOST_EVENTS < n) × ((r : Record) × PrintsLine names n line r)
+LineFault names n line TooMany = (most_events < n) × ((r : Record) × PrintsLine names n line r)
 LineFault names n line _ = ⊥
 
 -- what is wrong with the first line of a text, which is line n
@@ -47,13 +47,13 @@ FaultAt names n text kind = (line : List ℕ) × (rest : List ℕ) × (text ≡ 
 pub record FaultBehind (names : NameLists) (text : List ℕ) (fault : TextFault) : Type 0 where
   pub before : List Record
   pub rest : List ℕ
-  pub short : length text ≤ MOST_BYTES
+  pub short : length text ≤ most_bytes
   pub parts : text ≡ lines_from names 1 before ++ rest
   pub fit : AllFit names before
-  pub few : length before ≤ MOST_EVENTS
+  pub few : length before ≤ most_events
   pub line : fault.line ≡ length before + 1
   pub here : FaultAt names (length before + 1) rest fault.kind
 
 -- the text is too long, or else the first line at fault has this fault
 abbrev pub FirstFault : NameLists → List ℕ → TextFault → Type 0
-FirstFault names text fault = ((MOST_BYTES < length text) × (fault ≡ record { kind = TooMany; line = 0 })) ⊎ FaultBehind names text fault
+FirstFault names text fault = ((most_bytes < length text) × (fault ≡ record { kind = TooMany; line = 0 })) ⊎ FaultBehind names text fault

@@ -5,7 +5,7 @@ use Rattle.std.specs.Str.{bytes_eq}
 use Rattle.fmp_codes.specs.declared.records.Record.{Record}
 use Rattle.fmp_bytes.specs.declared.classes.Class.TheVariants.{Printed}
 use Rattle.fmp_bytes.specs.Bytes.{is_of, pieces_of}
-use Rattle.fmp_text.specs.declared.events.TheConstants.{MOST_BYTES, MOST_EVENTS}
+use Rattle.fmp_text.specs.Limits.{most_bytes, most_events}
 use Rattle.fmp_text.specs.declared.fault.TextFault.{TextFault}
 use Rattle.fmp_text.specs.declared.fault.TextKind.{TextKind}
 use Rattle.fmp_text.specs.declared.fault.TextKind.TheVariants.{BadByte, BadWord, CutShort, TooMany}
@@ -31,7 +31,7 @@ GivesOrFails view (Err e) read = Fails e read
 
 -- a record, where there is room for a line of this number
 unfoldable pub limited : ℕ → Record → Result Record TextKind
-limited n r = if nat_lt MOST_EVENTS n then Err TooMany else Ok r
+limited n r = if nat_lt most_events n then Err TooMany else Ok r
 
 -- a guess that prints the line
 unfoldable pub confirmed : NameLists → ℕ → List ℕ → Record → Result Record TextKind
@@ -57,4 +57,4 @@ records_from names n (line ∷ next ∷ lines) = do
 -- all of a text
 unfoldable pub records_in : NameLists → List ℕ → Result (List Record) TextFault
 records_in names text =
-    if nat_lt MOST_BYTES (length text) then Err (record { kind = TooMany; line = 0 }) else records_from names 1 (pieces_of 10 text)
+    if nat_lt most_bytes (length text) then Err (record { kind = TooMany; line = 0 }) else records_from names 1 (pieces_of 10 text)

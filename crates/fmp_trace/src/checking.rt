@@ -6,6 +6,7 @@ ghost use Rattle.fmp_machine.specs.Boot.{booted};
 ghost use Rattle.fmp_codes.specs.declared.records.Event.{Event as AnyEvent};
 ghost use Rattle.fmp_codes.specs.declared.records.Record.{Record as AnyRecord};
 ghost use Rattle.fmp_text.specs.Events.{IsMemory};
+ghost use Rattle.fmp_text.specs.Limits.{most_bytes};
 ghost use Rattle.fmp_trace.specs.Checking.{Judges, PrintsAnswers, own_text};
 ghost use Rattle.fmp_trace.specs.Prints.{PrintsWithin, FirstFault};
 ghost use Rattle.fmp_trace.specs.Guess.{guess as guess_of};
@@ -31,7 +32,7 @@ pub enum Verdict {
 
 /// Goes over the lines as reading does, and keeps no record.
 fn judge(alloc: Global, text: &[u8], names: &Names) -> Result<(), TextFault>
-    requires { length text.now ≤ MOST_BYTES }
+    requires { length text.now ≤ most_bytes }
     ensures { spec.Passes result (records_from names.now 1 (pieces_of 10 text.now)) }
 {
     let mut scratch = Vec::new(alloc);
@@ -75,7 +76,7 @@ fn is_answer(
 
 /// The verdict on a text that reads as records.
 fn compare(alloc: Global, config: &Config, text: &[u8]) -> Result<Verdict, TextFault>
-    requires { length text.now ≤ MOST_BYTES }
+    requires { length text.now ≤ most_bytes }
     ensures { GivesOrFails (λ v. v) result (spec.verdict_from config.now.names (booted config.now) 1 (pieces_of 10 text.now)) }
 {
     let names = config.names();

@@ -4,6 +4,7 @@ ghost use Rattle.std.specs.Str.{bytes_eq};
 ghost use Rattle.fmp_codes.specs.declared.records.Record.{Record as AnyRecord};
 ghost use Rattle.fmp_bytes.specs.Bytes.{cut_at, pieces_of};
 ghost use Rattle.fmp_text.specs.Events.{IsMemory};
+ghost use Rattle.fmp_text.specs.Limits.{most_bytes};
 ghost use Rattle.fmp_trace.specs.Reading.{GivesOrFails, at_line};
 ghost use Rattle.fmp_trace.specs.Lines.{core_text};
 ghost use Rattle.fmp_trace.specs.Prints.{PrintsWithin, FirstFault};
@@ -95,7 +96,7 @@ pub fn next_line(text: &[u8]) -> Option<(&[u8], &[u8])>
 }
 
 fn records_in(alloc: Global, text: &[u8], names: &Names) -> Result<Vec<Record>, TextFault>
-    requires { length text.now ≤ MOST_BYTES }
+    requires { length text.now ≤ most_bytes }
     ensures { GivesOrFails (λ v. v.items) result (spec.records_from names.now 1 (pieces_of 10 text.now)) }
 {
     let mut records = Vec::new(alloc);

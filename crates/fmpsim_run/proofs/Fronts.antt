@@ -4,12 +4,12 @@ use Rattle.std.specs.Prelude.{nat_lt, Ok, Err}
 use Rattle.std.proofs.lemmas.Bool.{lt-ltb, ltb-true, ltb-false}
 use Rattle.std.proofs.lemmas.List.{append-nil}
 use Rattle.fmp_codes.specs.declared.records.Event.{Event}
-use Rattle.fmp_text.specs.declared.events.TheConstants.{MOST_BYTES as MOST_EVENT_BYTES}
+use Rattle.fmp_text.specs.Limits.{most_bytes as MOST_EVENT_BYTES}
 use Rattle.fmp_text.specs.declared.fault.TextKind.TheVariants as text_kind
 use Rattle.fmp_text.specs.Names.{NameLists}
 use Rattle.fmp_text.specs.Events.{reading_of, faultless, fault_at}
 use Rattle.fmp_statements.specs.declared.fault.ConfigKind.TheVariants as config_kind
-use Rattle.fmp_config.specs.declared.reading.TheConstants.{MOST_BYTES as MOST_CONFIG_BYTES}
+use Rattle.fmp_config.specs.Limits.{most_bytes as MOST_CONFIG_BYTES}
 use Rattle.fmp_machine.specs.Setup.{Setup}
 use Rattle.fmp_config.specs.Statements.{config_in}
 

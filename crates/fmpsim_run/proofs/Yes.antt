@@ -10,7 +10,7 @@ use Rattle.fmp_text.proofs.Limited.{reading_on, reading_in_bits}
 use Rattle.fmp_text.proofs.SpelledTexts.{text_is_spelled}
 use Rattle.fmp_text.specs.Events.{reading_of, faultless}
 use Rattle.fmp_text.specs.Names.{AreValid}
-use Rattle.fmp_text.specs.declared.events.TheConstants.{MOST_BYTES}
+use Rattle.fmp_text.specs.Limits.{most_bytes as MOST_BYTES}
 use Rattle.fmp_trace.specs.Checking.{PrintsAnswers}
 use Rattle.fmp_trace.specs.Lines.{lines_from}
 use Rattle.fmpsim_run.specs.Runs.{Answered}

@@ -1,7 +1,7 @@
 //! The run that checks a trace.
 ghost use Rattle.std.specs.Prelude.{◌≡◌, ◌≢◌, ℕ, ◌+◌, ◌-◌, ◌^◌, ◌<◌, ◌≤◌, List, ◌++◌, [], length, IsTrue, OnOk, IfOk, IfErr, Err, Ok, false, if◌then◌else◌};
 ghost use Rattle.fmp_codes.specs.declared.records.Event.{Event as AnyEvent};
-ghost use Rattle.fmp_text.specs.declared.events.TheConstants.{MOST_BYTES};
+ghost use Rattle.fmp_text.specs.Limits.{most_bytes as MOST_BYTES};
 ghost use Rattle.fmp_trace.specs.Checking.{Judges, PrintsAnswers};
 ghost use Rattle.fmpsim_run.specs.Faults.{failed_read, failed_write, is_config, is_write};
 ghost use Rattle.fmpsim_run.specs.Runs.{Answered, CountsReads, FirstConfigFault};

@@ -2,7 +2,7 @@ use Rattle.std.proofs.Common.{◌≡◌, ◌∙◌, ◌+◌, ◌-◌, ℕ, ◌<�
 use Rattle.std.proofs.lemmas.Grind.{common_steps}
 use Rattle.std.proofs.lemmas.Bool.{le-ltb, lt-ltb}
 use Rattle.std.proofs.lemmas.List.{append-nil}
-use Rattle.fmp_text.specs.declared.events.TheConstants.{MOST_BYTES, MOST_EVENTS}
+use Rattle.fmp_text.specs.Limits.{most_bytes, most_events}
 use Rattle.fmp_text.specs.Names.{NameLists}
 use Rattle.fmp_text.specs.Lines.{is_skipped}
 use Rattle.fmp_text.specs.Events.{Reading, at_end, reading_of, reading_from, with_events}
@@ -15,9 +15,9 @@ use Rattle.fmp_text.proofs.events.read_events.Goals.{After-first_said-next, Afte
 scan : (c : After-first_said-next) → IsScanned c.args.names.now (reading_from c.args.names.now false 0 0 [] c.args.text.now) c.loop-found.events.items false (vec_len c.loop-found.events) c.loop-found.lines c.loop-found.used c.args.text.now (take (length c.args.text.now - c.loop-found.used) (drop c.loop-found.used c.args.text.now)) c.first_said-next.result
 scan c = record { is = c.loop-found.invariant.reading; is_tail = take-to_end c.args.text.now c.loop-found.used; scans = c.first_said-next.ensures.gives }
 
-judged : (names : NameLists) (text : List ℕ) → length text ≤ MOST_BYTES → reading_of names text ≡ reading_from names false 0 0 [] text
+judged : (names : NameLists) (text : List ℕ) → length text ≤ most_bytes → reading_of names text ≡ reading_from names false 0 0 [] text
 unfolding reading_of
-judged names text fits = rw (le-ltb MOST_BYTES (length text) fits) refl
+judged names text fits = rw (le-ltb most_bytes (length text) fits) refl
 
 pub returns-then-text-gt-MOST_BYTES-clause-err : goal.returns-then-text-gt-MOST_BYTES-clause-err
 unfolding reading_of
@@ -30,14 +30,14 @@ returns-in-Err-clause-err c =
 pub returns-then-len-eq-MOST_EVENTS-clause-err : goal.returns-then-len-eq-MOST_EVENTS-clause-err
 returns-then-len-eq-MOST_EVENTS-clause-err c =
     let said = said_as _ _ (Some c.in-Some.event) c.in-Ok.is c.in-Some.is in
-    let full : MOST_EVENTS ≤ vec_len c.loop-found.events = grind (arith, common_steps) in
+    let full : most_events ≤ vec_len c.loop-found.events = grind (arith, common_steps) in
     inl (ap (λ (r : Reading). r.fault) (judged c.args.names.now c.args.text.now (omega arith)
     ∙ scan_past _ _ _ _ _ _ _ _ _ _ c.in-Some.event (scan (goal.at.returns-then-len-eq-MOST_EVENTS-clause-err c).After-first_said-next) said full))
 
 pub loop-found-preserved : goal.loop-found-preserved
 loop-found-preserved c =
     let said = said_as _ _ (Some c.in-Some.event) c.in-Ok.is c.in-Some.is in
-    let room : vec_len c.loop-found.events < MOST_EVENTS = grind (arith, common_steps, c.loop-found.invariant.few) in
+    let room : vec_len c.loop-found.events < most_events = grind (arith, common_steps, c.loop-found.invariant.few) in
     let next = scan_event _ _ _ _ _ _ _ _ _ _ c.in-Some.event (scan (goal.at.loop-found-preserved c).After-first_said-next) said room in
     record {
       within = grind (arith, common_steps);

@@ -1,5 +1,5 @@
 use Rattle.std.proofs.Common.{◌≡◌, ◌-◌, ◌≤◌, [], drop, length, vec_len, false}
-use Rattle.fmp_text.specs.declared.events.TheConstants.{MOST_EVENTS}
+use Rattle.fmp_text.specs.Limits.{most_events}
 use Rattle.fmp_text.specs.Events.{reading_from, with_events}
 use Rattle.fmp_text.proofs.events.read_events.Given as goal
 
@@ -7,7 +7,7 @@ abbrev pub invariant-loop-found : goal.invariant-loop-found
 invariant-loop-found l = record {
   within : l.used ≤ length l.text;
   lines : l.lines ≤ l.used;
-  few : vec_len l.events ≤ MOST_EVENTS;
+  few : vec_len l.events ≤ most_events;
   reading : reading_from l.names false 0 0 [] l.text ≡ with_events l.events.items (reading_from l.names false l.lines (vec_len l.events) [] (drop l.used l.text));
 }
 
