@@ -36,7 +36,8 @@ pub fn read_events(alloc: Global, text: &[u8], names: &Names) -> Result<Vec<Even
             line: 0,
         });
     }
-    let mut events = Vec::new(alloc);
+    // Each event ends with a line feed, so there is room for all of them.
+    let mut events = Vec::with_capacity(alloc, text.len().min(MOST_EVENTS))?;
     let mut used = 0;
     let mut lines = 0;
     loop {
@@ -56,7 +57,7 @@ pub fn read_events(alloc: Global, text: &[u8], names: &Names) -> Result<Vec<Even
                 line: lines,
             });
         }
-        events.push(event)?;
+        events.push_reserved(event);
     }
     if is_skipped(&text[used..]) {
         Ok(events)

@@ -43,6 +43,8 @@ loop-found-preserved c =
       within = grind (arith, common_steps);
       lines = grind (arith, common_steps);
       few = grind (arith, common_steps);
+      counted = grind (arith, common_steps);
+      room = grind (arith, common_steps);
       reading = grind (arith, common_steps, next);
     }
 
