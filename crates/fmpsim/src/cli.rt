@@ -1,6 +1,7 @@
 //! The command line.
 use clap::error::ErrorKind;
 use clap::{Arg, ArgAction, Command, Error};
+use fmpsim_run::Status;
 use std::alloc::{AllocError, Global};
 
 const ABOUT: &str = "Simulates a multiprocessor real-time kernel in the manner of TOPPERS/FMP";
@@ -72,12 +73,12 @@ pub enum Request<'a> {
     Check(Paths<'a>),
 }
 
-/// The status that a refused command line ends the program with; help ends it with 0.
-pub fn status_of(error: &Error) -> u8 {
+/// How a refused command line ends the program. Help is asked for, so nothing is wrong there.
+pub fn status_of(error: &Error) -> Status {
     match error.kind() {
-        ErrorKind::OutOfMemory => 4,
-        ErrorKind::DisplayHelp | ErrorKind::DisplayVersion => 0,
-        _ => 2,
+        ErrorKind::OutOfMemory => Status::Memory,
+        ErrorKind::DisplayHelp | ErrorKind::DisplayVersion => Status::Done,
+        _ => Status::Usage,
     }
 }
 

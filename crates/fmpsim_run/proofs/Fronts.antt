@@ -1,5 +1,5 @@
 -- A text past its limit is judged the same from any front that is past it too.
-use Rattle.std.proofs.Common.{◌≡◌, ◌∙◌, ℕ, ◌<◌, ◌≤◌, Bool, true, false, List, [], ◌++◌, length, refl, ap, sym, arith, length-append}
+use Rattle.std.proofs.Common.{◌≡◌, ◌∙◌, ℕ, ◌<◌, ◌≤◌, Bool, true, false, List, [], ◌++◌, length, refl, ap, subst, sym, arith, length-append}
 use Rattle.std.specs.Prelude.{nat_lt, Ok, Err}
 use Rattle.std.proofs.lemmas.Bool.{lt-ltb, ltb-true, ltb-false}
 use Rattle.std.proofs.lemmas.List.{append-nil}
@@ -12,6 +12,9 @@ use Rattle.fmp_statements.specs.declared.fault.ConfigKind.TheVariants as config_
 use Rattle.fmp_config.specs.Limits.{most_bytes as MOST_CONFIG_BYTES}
 use Rattle.fmp_machine.specs.Setup.{Setup}
 use Rattle.fmp_config.specs.Statements.{config_in}
+use Rattle.fmp_config.specs.declared.fault.ConfigFault.{ConfigFault}
+use Rattle.fmp_config.specs.Faults.{GivesOrFails}
+use Rattle.fmpsim_run.specs.Runs.{IsFirstFault}
 
 -- any function of a text that answers one thing past the limit
 same : {A : Type 0} (limit : ℕ) (f : List ℕ → A) (past : A) → ((text : List ℕ) → limit < length text → f text ≡ past)
@@ -29,6 +32,10 @@ pub config_in-front : (all text rest : List ℕ) → all ≡ text ++ rest → (l
 unfolding config_in
 config_in-front all text rest split whole =
     same MOST_CONFIG_BYTES config_in (Err (record { kind = config_kind.TooMany; line = 0; left = 0 })) (λ t long. rw (lt-ltb MOST_CONFIG_BYTES (length t) long) refl) all text rest split whole
+
+pub first_fault-front : (all text rest : List ℕ) (fault : ConfigFault) → all ≡ text ++ rest → (length text ≤ MOST_CONFIG_BYTES → rest ≡ []) →
+    IsFirstFault text fault → IsFirstFault all fault
+first_fault-front all text rest fault split whole = subst (GivesOrFails {Y = Setup} (Err fault)) (sym (config_in-front all text rest split whole))
 
 pub reading_of-front : (names : NameLists) (all text rest : List ℕ) → all ≡ text ++ rest → (length text ≤ MOST_EVENT_BYTES → rest ≡ []) →
     reading_of names all ≡ reading_of names text

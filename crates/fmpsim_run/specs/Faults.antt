@@ -1,9 +1,7 @@
 -- The faults of a run.
-use Rattle.std.specs.Prelude.{ℕ, Bool, true, false, Result, Ok, Err}
-use Rattle.fmp_statements.specs.declared.fault.ConfigKind.{ConfigKind}
-use Rattle.fmp_statements.specs.declared.fault.ConfigKind.TheVariants as config_kind
-use Rattle.fmp_text.specs.declared.fault.TextKind.{TextKind}
-use Rattle.fmp_text.specs.declared.fault.TextKind.TheVariants as text_kind
+use Rattle.std.specs.Prelude.{ℕ, Bool, true, false, List, ◌++◌, Result, Ok, Err, codes}
+use Rattle.fmp_config.specs.Faults.{text_of as config_text_of}
+use Rattle.fmp_text.specs.Faults.{text_of as text_text_of}
 use Rattle.fmpsim_run.specs.declared.whole.ReadFault.{ReadFault}
 use Rattle.fmpsim_run.specs.declared.whole.ReadFault.TheVariants as read
 use Rattle.fmpsim_run.specs.declared.fault.RunFault.{RunFault}
@@ -15,32 +13,20 @@ read_fault_of read.Failed = run.Read
 read_fault_of read.Memory = run.Memory
 
 abbrev pub is_read : RunFault → Bool
-is_read (run.Config fault) = false
-is_read (run.Text fault) = false
 is_read run.Read = true
-is_read run.Write = false
-is_read run.Memory = false
+is_read other = false
 
 abbrev pub is_write : RunFault → Bool
-is_write (run.Config fault) = false
-is_write (run.Text fault) = false
-is_write run.Read = false
 is_write run.Write = true
-is_write run.Memory = false
+is_write other = false
 
 abbrev pub is_config : RunFault → Bool
 is_config (run.Config fault) = true
-is_config (run.Text fault) = false
-is_config run.Read = false
-is_config run.Write = false
-is_config run.Memory = false
+is_config other = false
 
 abbrev pub is_text : RunFault → Bool
-is_text (run.Config fault) = false
 is_text (run.Text fault) = true
-is_text run.Read = false
-is_text run.Write = false
-is_text run.Memory = false
+is_text other = false
 
 -- the run ended with a failed read, or with a failed write
 abbrev pub failed_read : {T : Type 0} → Result T RunFault → Bool
@@ -51,18 +37,16 @@ abbrev pub failed_write : {T : Type 0} → Result T RunFault → Bool
 failed_write (Ok value) = false
 failed_write (Err fault) = is_write fault
 
--- what the program ends with: 1 for a fault of a text, 3 for a device, 4 for want of memory
-abbrev pub config_status : ConfigKind → ℕ
-config_status config_kind.Memory = 4
-config_status other = 1
+-- a fault without its path
+abbrev pub text_of : RunFault → List ℕ
+text_of (run.Config fault) = config_text_of fault
+text_of (run.Text fault) = text_text_of fault
+text_of run.Read = codes "read failed"
+text_of run.Write = codes "write failed"
+text_of run.Memory = codes "want of memory"
 
-abbrev pub text_status : TextKind → ℕ
-text_status text_kind.Memory = 4
-text_status other = 1
-
-abbrev pub status : RunFault → ℕ
-status (run.Config fault) = config_status fault.kind
-status (run.Text fault) = text_status fault.kind
-status run.Read = 3
-status run.Write = 3
-status run.Memory = 4
+-- the line that tells a fault, with the path of the configuration or of the other text where that has it
+abbrev pub fault_line : List ℕ → List ℕ → RunFault → List ℕ
+fault_line config text (run.Config fault) = codes "fmpsim: " ++ config ++ codes ": " ++ config_text_of fault
+fault_line config text (run.Text fault) = codes "fmpsim: " ++ text ++ codes ": " ++ text_text_of fault
+fault_line config text other = codes "fmpsim: " ++ text_of other

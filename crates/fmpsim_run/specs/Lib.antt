@@ -1,4 +1,5 @@
 pub mod Devices
 pub mod Faults
+pub mod Statuses
 pub mod Runs
 pub mod Checks

@@ -5,7 +5,7 @@ ghost use Rattle.fmpsim_run.specs.Runs.{Answered, CountsReads, IsAnswered, IsBeg
 
 use crate::fault::RunFault;
 use crate::simulate::simulate;
-use crate::sink::{Sink, write_all};
+use crate::sink::{Sink, write_out};
 use crate::source::Source;
 use crate::texts::{config_from, events_from};
 use fmp_trace::trace_text;
@@ -46,8 +46,10 @@ pub fn run_calls<R: Source, S: Source, W: Sink>(
     requires event_calls { S.failures events.old < 2 ^ 64 - 1 }
     requires trace_calls { W.failures trace.old < 2 ^ 64 - 1 }
 
-    // Both texts were read to their ends, and what is written is the trace of the answers to the events.
+    // Both texts were read to their ends, and what is written is the trace of the answers to the events. None of it is held
+    // back.
     ensures answered { IsTrue R.tells → IsTrue S.tells → IsTrue W.tells → OnOk result (IsAnswered (R.left config.old) (S.left events.old) (W.written trace.old) (W.written trace.new)) }
+    ensures passed { OnOk result (W.buffered trace.new ≡ []) }
     ensures config_read { IsTrue R.tells → OnOk result (R.left config.new ≡ []) }
     ensures events_read { IsTrue S.tells → OnOk result (S.left events.new ≡ []) }
 
@@ -55,7 +57,7 @@ pub fn run_calls<R: Source, S: Source, W: Sink>(
     ensures config_fault { IsTrue R.tells → IfErr result (FirstConfigFault (R.left config.old)) }
     ensures text_fault { IsTrue R.tells → IsTrue S.tells → IfErr result (FirstTextFault (R.left config.old) (S.left events.old)) }
 
-    // After a failed write a beginning of the trace is out, and after any other fault nothing is.
+    // After a failed write or flush a beginning of the trace is out, and after any other fault nothing is.
     ensures write { IsTrue R.tells → IsTrue S.tells → IsTrue W.tells → (result ≡ Err RunFault.Write)
         → IsBegun (R.left config.old) (S.left events.old) (W.written trace.old) (W.written trace.new) }
     ensures unwritten { IsTrue W.tells → IfErr result (λ fault. fault ≢ RunFault.Write → W.written trace.new ≡ W.written trace.old) }
@@ -65,5 +67,5 @@ pub fn run_calls<R: Source, S: Source, W: Sink>(
     ensures writes { W.failures trace.new ≡ W.failures trace.old + (if failed_write result then 1 else 0) }
 {
     let text = calls_text(alloc, config, events)?;
-    Ok(write_all(trace, text.as_slice())?)
+    Ok(write_out(trace, text.as_slice())?)
 }

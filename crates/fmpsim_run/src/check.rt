@@ -8,14 +8,18 @@ ghost use Rattle.fmpsim_run.specs.Runs.{Answered, CountsReads, FirstConfigFault}
 ghost use Rattle.fmpsim_run.specs.Checks.{Checked, IsCheckBegun, IsFirstOfTrace, IsYes, FirstTraceFault, verdict_text};
 
 use crate::fault::RunFault;
-use crate::sink::{Sink, write_all};
+use crate::sink::{Sink, write_out};
 use crate::source::Source;
 use crate::texts::config_from;
 use crate::whole::read_up_to;
+use arrayvec::ArrayString;
 use fmp_machine::Config;
 use fmp_trace::{Verdict, check};
 use itoa::Buffer;
-use std::alloc::{AllocError, Global};
+use std::alloc::Global;
+
+/// How many bytes the longest verdict has, `no 4294967295` and a line feed.
+const MOST_TEXT: usize = 14;
 
 /// Reads a trace to its end, and judges it.
 fn verdict_from<S: Source>(
@@ -64,19 +68,19 @@ fn checked<R: Source, S: Source>(
 }
 
 /// A verdict as it is written: `yes`, or `no` and the number of the line.
-fn text_of(alloc: Global, verdict: Verdict) -> Result<Vec<u8>, AllocError>
-    ensures { IfOk result (λ text. text.items ≡ verdict_text verdict) }
+fn text_of(verdict: Verdict) -> ArrayString<MOST_TEXT>
+    ensures { result.bytes ≡ verdict_text verdict }
 {
-    let mut text = Vec::new(alloc);
+    let mut text = ArrayString::new();
     match verdict {
-        Verdict::Yes => text.extend_from_slice(b"yes\n")?,
+        Verdict::Yes => text.push_str("yes\n"),
         Verdict::No(line) => {
-            text.extend_from_slice(b"no ")?;
-            text.extend_from_slice(Buffer::new().format(line).as_bytes())?;
-            text.extend_from_slice(b"\n")?;
+            text.push_str("no ");
+            text.push_str(Buffer::new().format(line));
+            text.push_str("\n");
         }
     }
-    Ok(text)
+    text
 }
 
 /// Reads a configuration and a trace, and writes whether the trace is what the machine answers to its events: `yes`, or
@@ -91,9 +95,10 @@ pub fn run_check<R: Source, S: Source, W: Sink>(
     requires trace_calls { S.failures trace.old < 2 ^ 64 - 1 }
     requires answer_calls { W.failures answer.old < 2 ^ 64 - 1 }
 
-    // Both texts were read to their ends, the verdict is right, and what is written is the verdict.
+    // Both texts were read to their ends, the verdict is right, and what is written is the verdict. None of it is held back.
     ensures checked { IsTrue R.tells → IsTrue S.tells → IfOk result (Checked (R.left config.old) (S.left trace.old)) }
     ensures written { IsTrue W.tells → IfOk result (λ verdict. W.written answer.new ≡ W.written answer.old ++ verdict_text verdict) }
+    ensures passed { OnOk result (W.buffered answer.new ≡ []) }
     ensures config_read { IsTrue R.tells → OnOk result (R.left config.new ≡ []) }
     ensures trace_read { IsTrue S.tells → OnOk result (S.left trace.new ≡ []) }
 
@@ -105,7 +110,7 @@ pub fn run_check<R: Source, S: Source, W: Sink>(
     ensures config_fault { IsTrue R.tells → IfErr result (FirstConfigFault (R.left config.old)) }
     ensures text_fault { IsTrue R.tells → IsTrue S.tells → IfErr result (FirstTraceFault (R.left config.old) (S.left trace.old)) }
 
-    // After a failed write a beginning of the verdict is out, and after any other fault nothing is.
+    // After a failed write or flush a beginning of the verdict is out, and after any other fault nothing is.
     ensures write { IsTrue R.tells → IsTrue S.tells → IsTrue W.tells → (result ≡ Err RunFault.Write)
         → IsCheckBegun (R.left config.old) (S.left trace.old) (W.written answer.old) (W.written answer.new) }
     ensures unwritten { IsTrue W.tells → IfErr result (λ fault. fault ≢ RunFault.Write → W.written answer.new ≡ W.written answer.old) }
@@ -115,7 +120,7 @@ pub fn run_check<R: Source, S: Source, W: Sink>(
     ensures writes { W.failures answer.new ≡ W.failures answer.old + (if failed_write result then 1 else 0) }
 {
     let verdict = checked(alloc, config, trace)?;
-    let text = text_of(alloc, verdict)?;
-    write_all(answer, text.as_slice())?;
+    let text = text_of(verdict);
+    write_out(answer, text.as_str().as_bytes())?;
     Ok(verdict)
 }

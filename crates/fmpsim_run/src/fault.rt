@@ -1,32 +1,105 @@
 //! Why a run did not go to its end.
 ghost use Rattle.std.specs.Prelude.{◌≡◌};
 ghost use Rattle.fmpsim_run.specs.declared.fault.RunFault.TheVariants.{Memory, Write};
-ghost use Rattle.fmpsim_run.specs.Faults.{read_fault_of, config_status, text_status, status};
+ghost use Rattle.fmpsim_run.specs.Faults.{read_fault_of};
 
 use crate::source::Failed;
+use crate::status::Status;
 use crate::whole::ReadFault;
 use fmp_config::{ConfigFault, ConfigKind};
 use fmp_text::{TextFault, TextKind};
 use std::alloc::AllocError;
-use thiserror::Error;
+use std::error::Error;
+use std::fmt;
 
 /// Why a run did not go to its end.
-#[derive(Debug, Drop, Error)]
+#[derive(Debug, Drop)]
 pub enum RunFault {
     /// The first fault of the configuration.
-    #[error("{0}")]
     Config(ConfigFault),
     /// The first fault of the other text.
-    #[error("{0}")]
     Text(TextFault),
     /// A read failed.
-    #[error("read failed")]
     Read,
-    /// A write failed.
-    #[error("write failed")]
+    /// A write or a flush failed.
     Write,
-    #[error("want of memory")]
+    /// Memory ran out.
     Memory,
+}
+
+impl RunFault {
+    ghost use Rattle.std.specs.Prelude.{◌≡◌};
+    ghost use Rattle.fmpsim_run.specs.Statuses.{status_of};
+
+    /// How the program ends after it.
+    pub fn status(&self) -> Status
+        ensures { result ≡ status_of self.now }
+    {
+        match self {
+            RunFault::Config(
+                ConfigFault {
+                    kind: ConfigKind::Memory,
+                    ..
+                },
+            )
+            | RunFault::Text(
+                TextFault {
+                    kind: TextKind::Memory,
+                    ..
+                },
+            )
+            | RunFault::Memory => Status::Memory,
+            RunFault::Config(_) | RunFault::Text(_) => Status::Faulty,
+            RunFault::Read | RunFault::Write => Status::Device,
+        }
+    }
+}
+
+/// The fault of a text without its path, or what failed: `read failed`.
+impl fmt::Display for RunFault {
+    ghost use Rattle.std.specs.Prelude.{Some};
+    ghost use Rattle.fmpsim_run.specs.Faults.{text_of};
+
+    ghost output = { λ fault. Some (text_of fault) };
+
+    fn fmt<W: fmt::Write>(&self, f: &mut fmt::Formatter<W>) -> fmt::Result {
+        match self {
+            RunFault::Config(fault) => write!(f, "{fault}"),
+            RunFault::Text(fault) => write!(f, "{fault}"),
+            RunFault::Read => write!(f, "read failed"),
+            RunFault::Write => write!(f, "write failed"),
+            RunFault::Memory => write!(f, "want of memory"),
+        }
+    }
+}
+
+impl Error for RunFault {}
+
+/// The line that tells a fault to a user: `fmpsim: machine.cfg: line 4: F3 unsupported API CRE_MTX`, with the path of the
+/// text that has it, or `fmpsim: read failed`.
+#[derive(Clone, Copy, Debug)]
+pub struct FaultLine<'a> {
+    /// The path of the configuration.
+    pub config: &'a str,
+    /// The path of the other text.
+    pub text: &'a str,
+    pub fault: &'a RunFault,
+}
+
+impl fmt::Display for FaultLine<'_> {
+    ghost use Rattle.std.specs.Prelude.{Some};
+    ghost use Rattle.fmpsim_run.specs.Faults.{fault_line};
+
+    ghost output = { λ line. Some (fault_line line.config.now line.text.now line.fault.now) };
+
+    fn fmt<W: fmt::Write>(&self, f: &mut fmt::Formatter<W>) -> fmt::Result {
+        let (config, text, fault) = (self.config, self.text, self.fault);
+        match fault {
+            RunFault::Config(_) => write!(f, "fmpsim: {config}: {fault}"),
+            RunFault::Text(_) => write!(f, "fmpsim: {text}: {fault}"),
+            RunFault::Read | RunFault::Write | RunFault::Memory => write!(f, "fmpsim: {fault}"),
+        }
+    }
 }
 
 impl From<AllocError> for RunFault {
@@ -53,35 +126,5 @@ impl From<Failed> for RunFault {
 
     fn from(_error: Failed) -> RunFault {
         RunFault::Write
-    }
-}
-
-fn status_of_config(kind: ConfigKind) -> u8
-    ensures { result ≡ config_status kind }
-{
-    match kind {
-        ConfigKind::Memory => 4,
-        _ => 1,
-    }
-}
-
-fn status_of_text(kind: TextKind) -> u8
-    ensures { result ≡ text_status kind }
-{
-    match kind {
-        TextKind::Memory => 4,
-        _ => 1,
-    }
-}
-
-/// What a run that did not go to its end ends the program with.
-pub fn status_of(fault: &RunFault) -> u8
-    ensures { result ≡ status fault.now }
-{
-    match fault {
-        RunFault::Config(fault) => status_of_config(fault.kind),
-        RunFault::Text(fault) => status_of_text(fault.kind),
-        RunFault::Read | RunFault::Write => 3,
-        RunFault::Memory => 4,
     }
 }

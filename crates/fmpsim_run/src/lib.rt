@@ -8,6 +8,7 @@ mod memory;
 mod simulate;
 mod sink;
 mod source;
+mod status;
 mod std_io;
 #[cfg(test)]
 mod tests;
@@ -16,9 +17,10 @@ mod whole;
 
 pub use calls::run_calls;
 pub use check::run_check;
-pub use fault::{RunFault, status_of};
+pub use fault::{FaultLine, RunFault};
 pub use memory::{MemSink, MemSource};
-pub use sink::{Sink, write_all};
+pub use sink::{Sink, write_all, write_out};
 pub use source::{Failed, Source};
+pub use status::Status;
 pub use std_io::{ReadSource, WriteSink};
 pub use whole::{ReadFault, read_up_to};

@@ -116,11 +116,11 @@ impl MemSink {
         })
     }
 
-    /// The same room, where the write after `writes` others fails.
-    pub fn failing_after(mut self, writes: u64) -> MemSink
-        ensures { (result.bytes.items ≡ self.bytes.items) × (result.room ≡ self.room) × (result.until_failure ≡ Some writes) × (result.failures ≡ self.failures) }
+    /// The same room, where the call after `calls` others fails. Calls are writes and flushes.
+    pub fn failing_after(mut self, calls: u64) -> MemSink
+        ensures { (result.bytes.items ≡ self.bytes.items) × (result.room ≡ self.room) × (result.until_failure ≡ Some calls) × (result.failures ≡ self.failures) }
     {
-        self.until_failure = Some(writes);
+        self.until_failure = Some(calls);
         self
     }
 
@@ -136,6 +136,8 @@ impl Sink for MemSink {
     ghost tells = { true };
 
     ghost written = { λ s. s.bytes.items };
+
+    ghost buffered = { λ _. [] };
 
     ghost failures = { λ s. s.failures };
 
@@ -167,5 +169,22 @@ impl Sink for MemSink {
         }
         self.bytes.extend_from_slice(&piece[..count]).unwrap();
         Ok(count)
+    }
+
+    fn flush(&mut self) -> Result<(), Failed>
+        requires { self.old.failures < 2 ^ 64 - 1 }
+        ensures count { self.new.failures ≡ self.old.failures + (if is_err result then 1 else 0) }
+        ensures bytes { IsTrue true → self.new.bytes.items ≡ self.old.bytes.items }
+
+        // It has nothing to do, and fails at the chosen call.
+        ensures turn { is_err result ≡ is_turn self.old.until_failure }
+        ensures next { self.new.until_failure ≡ next_turn self.old.until_failure }
+        ensures room { self.new.room ≡ self.old.room }
+    {
+        if takes_turn(&mut self.until_failure) {
+            self.failures += 1;
+            return Err(Failed);
+        }
+        Ok(())
     }
 }

@@ -1,5 +1,5 @@
 //! Devices that bytes are written to.
-ghost use Rattle.std.specs.Prelude.{◌≡◌, ◌+◌, ◌-◌, ◌^◌, ◌<◌, ◌≤◌, ◌++◌, ℕ, Bool, List, length, take, IsTrue, IfOk, OnOk, OnErr, is_err, if◌then◌else◌};
+ghost use Rattle.std.specs.Prelude.{◌≡◌, ◌+◌, ◌-◌, ◌^◌, ◌<◌, ◌≤◌, ◌++◌, [], ℕ, Bool, List, length, take, IsTrue, IfOk, OnOk, OnErr, is_err, if◌then◌else◌};
 ghost use Rattle.fmpsim_run.specs.Devices.{is_failed_write, BeginsWith};
 
 use crate::source::Failed;
@@ -11,6 +11,9 @@ pub trait Sink {
 
     // The bytes that were written, where the device tells them.
     ghost written: { Self → List ℕ };
+
+    // The bytes that were written to the device and are held back in it, to be passed on together.
+    ghost buffered: { Self → List ℕ };
 
     ghost failures: { Self → ℕ };
 
@@ -26,6 +29,13 @@ pub trait Sink {
         ensures count { failures self.new ≡ failures self.old + (if is_failed_write result piece.now then 1 else 0) }
         ensures bytes { IsTrue tells → IfOk result (λ n. written self.new ≡ written self.old ++ take n piece.now) }
         ensures err { IsTrue tells → OnErr result (written self.new ≡ written self.old) };
+
+    /// Passes on what is held back. After a failed call some of it may still be.
+    fn flush(&mut self) -> Result<(), Failed>
+        requires { failures self.old < 2 ^ 64 - 1 }
+        ensures count { failures self.new ≡ failures self.old + (if is_err result then 1 else 0) }
+        ensures passed { OnOk result (buffered self.new ≡ []) }
+        ensures bytes { IsTrue tells → written self.new ≡ written self.old };
 }
 
 /// Writes all of the bytes. After a failed call a front of them is out.
@@ -44,4 +54,16 @@ pub fn write_all<W: Sink>(sink: &mut W, bytes: &[u8]) -> Result<(), Failed>
         }
     }
     Ok(())
+}
+
+/// Writes all of the bytes, and holds none back. After a failed call a front of them is written.
+pub fn write_out<W: Sink>(sink: &mut W, bytes: &[u8]) -> Result<(), Failed>
+    requires { W.failures sink.old < 2 ^ 64 - 1 }
+    ensures count { W.failures sink.new ≡ W.failures sink.old + (if is_err result then 1 else 0) }
+    ensures passed { OnOk result (W.buffered sink.new ≡ []) }
+    ensures ok { IsTrue W.tells → OnOk result (W.written sink.new ≡ W.written sink.old ++ bytes.now) }
+    ensures err { IsTrue W.tells → OnErr result (BeginsWith (W.written sink.old) bytes.now (W.written sink.new)) }
+{
+    write_all(sink, bytes)?;
+    sink.flush()
 }

@@ -1,12 +1,14 @@
 //! Readers and writers of std as devices.
-ghost use Rattle.std.specs.Prelude.{◌≡◌, ◌+◌, ◌-◌, ◌^◌, ◌<◌, ◌≤◌, false, [], length, IfOk, is_err, if◌then◌else◌};
-ghost use Rattle.std.specs.Io.KnownBytes.{ReadConsumes, WriteAppends};
+ghost use Rattle.std.specs.Prelude.{◌≡◌, ◌+◌, ◌-◌, ◌^◌, ◌<◌, ◌≤◌, false, [], length, IfOk, OnOk, is_err, if◌then◌else◌};
+ghost use Rattle.std.specs.Io.Buffered.{writer_buffer, writer_contents, writer_inner};
+ghost use Rattle.std.specs.Io.KnownBytes.{Keeps, ReadConsumes, WriteAppends};
 ghost use Rattle.fmpsim_run.specs.Devices.{is_failed_write};
 
 use crate::sink::Sink;
 use crate::source::{Failed, Source};
+use std::alloc::{AllocError, Global};
 use std::io;
-use std::io::{Read, Write};
+use std::io::{BufWriter, Read, Write};
 
 /// A reader of std as a source, which does not tell its bytes.
 #[derive(Drop)]
@@ -56,36 +58,34 @@ impl<R: Read> Source for ReadSource<R> {
     }
 }
 
-/// A writer of std as a sink, which does not tell its bytes.
+/// A writer of std behind a buffer as a sink, which does not tell its bytes.
 #[derive(Drop)]
-pub struct WriteSink<W> {
-    writer: W,
+pub struct WriteSink<W: Write + Drop> {
+    writer: BufWriter<W>,
     failures: u64,
 }
 
-impl<W> WriteSink<W> {
+impl<W: Write + Drop> WriteSink<W> {
     /// A sink over a writer, of which no call has failed.
-    pub fn new(writer: W) -> WriteSink<W>
-        ensures { result.failures ≡ 0 }
+    pub fn new(alloc: Global, writer: W) -> Result<WriteSink<W>, AllocError>
+        ensures failures { IfOk result (λ sink. sink.failures ≡ 0) }
+        ensures writer { IfOk result (λ sink. writer_inner sink.writer ≡ writer) }
+        ensures buffer { IfOk result (λ sink. writer_buffer sink.writer ≡ []) }
     {
-        WriteSink {
+        let writer = BufWriter::new(alloc, writer).map_err(|_| AllocError)?;
+        Ok(WriteSink {
             writer,
             failures: 0,
-        }
+        })
     }
 }
 
-impl<W: Write> WriteSink<W> {
-    /// Writes out what the writer holds back.
-    pub fn flush(&mut self) -> io::Result<()> {
-        self.writer.flush()
-    }
-}
-
-impl<W: Write> Sink for WriteSink<W> {
+impl<W: Write + Drop> Sink for WriteSink<W> {
     ghost tells = { false };
 
     ghost written = { λ _. [] };
+
+    ghost buffered = { λ s. writer_buffer s.writer };
 
     ghost failures = { λ s. s.failures };
 
@@ -99,7 +99,7 @@ impl<W: Write> Sink for WriteSink<W> {
         ensures count { self.new.failures ≡ self.old.failures + (if is_failed_write result piece.now then 1 else 0) }
 
         // What it answers is what the writer did.
-        ensures writer { WriteAppends (W.contents self.old.writer) (W.contents self.new.writer) result piece.now }
+        ensures writer { WriteAppends (writer_contents W.contents self.old.writer) (writer_contents W.contents self.new.writer) result piece.now }
     {
         match self.writer.write(piece) {
             Ok(count) => {
@@ -108,6 +108,23 @@ impl<W: Write> Sink for WriteSink<W> {
                 }
                 Ok(count)
             }
+            Err(_) => {
+                self.failures += 1;
+                Err(Failed)
+            }
+        }
+    }
+
+    fn flush(&mut self) -> Result<(), Failed>
+        requires { self.old.failures < 2 ^ 64 - 1 }
+        ensures count { self.new.failures ≡ self.old.failures + (if is_err result then 1 else 0) }
+
+        // After a flush that goes well the writer has all bytes, and after any flush they are the same ones.
+        ensures passed { OnOk result (writer_buffer self.new.writer ≡ []) }
+        ensures writer { Keeps (writer_contents W.contents self.old.writer) (writer_contents W.contents self.new.writer) }
+    {
+        match self.writer.flush() {
+            Ok(()) => Ok(()),
             Err(_) => {
                 self.failures += 1;
                 Err(Failed)

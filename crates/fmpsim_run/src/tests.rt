@@ -346,6 +346,8 @@ impl<W: Sink> Sink for OneByte<W> {
 
     ghost written = { λ _. [] };
 
+    ghost buffered = { λ s. W.buffered s.device };
+
     ghost failures = { λ s. W.failures s.device };
 
     fn failures(&self) -> u64 {
@@ -355,6 +357,10 @@ impl<W: Sink> Sink for OneByte<W> {
     fn write(&mut self, piece: &[u8]) -> Result<usize, Failed> {
         let count = piece.len().min(1);
         self.device.write(&piece[..count])
+    }
+
+    fn flush(&mut self) -> Result<(), Failed> {
+        self.device.flush()
     }
 }
 

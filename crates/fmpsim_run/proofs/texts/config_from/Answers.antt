@@ -1,7 +1,7 @@
-use Rattle.std.proofs.Common.{◌∙◌, ap, sym, subst, inl, inr}
+use Rattle.std.proofs.Common.{◌∙◌, ap, sym, subst}
 use Rattle.fmp_config.specs.Statements.{config_in}
-use Rattle.fmp_config.specs.Faults.{FaultIs}
-use Rattle.fmpsim_run.proofs.Fronts.{config_in-front, config_in-ok}
+use Rattle.fmpsim_run.specs.Runs.{IsFirstFault}
+use Rattle.fmpsim_run.proofs.Fronts.{config_in-front, config_in-ok, first_fault-front}
 use Rattle.fmpsim_run.proofs.texts.config_from.Goals as goal
 
 pub returns-in-Ok-clause-ok : goal.returns-in-Ok-clause-ok
@@ -16,5 +16,4 @@ returns-in-Ok-clause-read g c = λ tells.
 pub returns-clause-fault : goal.returns-clause-fault
 returns-clause-fault g c = λ tells.
     let read = c.in_ok-text.ensures.ok tells in
-    let same = config_in-front _ _ _ read.front read.whole ∙ ap config_in (sym c.as_slice.ensures.value) in
-    elim c.in-Err.ensures.exact [ inl e ↦ inl (subst (FaultIs c.in-Err.fault.kind c.in-Err.fault.line) (sym same) e) | inr memory ↦ inr memory ]
+    first_fault-front _ _ _ c.in-Err.fault read.front read.whole (subst (λ text. IsFirstFault text c.in-Err.fault) c.as_slice.ensures.value c.in-Err.ensures.exact)

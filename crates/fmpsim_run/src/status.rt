@@ -1,0 +1,41 @@
+//! What the program ends with.
+ghost use Rattle.std.specs.Prelude.{◌≡◌};
+ghost use Rattle.fmpsim_run.specs.Statuses as spec;
+
+use fmp_trace::Verdict;
+
+/// How the program ends. The number of each is its exit status.
+#[derive(Clone, Copy, Debug, PartialEq, Eq)]
+pub enum Status {
+    /// All is done, the verdict is yes, or help was asked for.
+    Done = 0,
+    /// A text has a fault.
+    Faulty = 1,
+    /// The command line is wrong.
+    Usage = 2,
+    /// A file could not be read, or the output not be written.
+    Device = 3,
+    /// Memory ran out.
+    Memory = 4,
+    /// The verdict is no.
+    Different = 5,
+}
+
+impl Status {
+    /// The exit status, from 0 to 5.
+    pub const fn code(self) -> u8
+        ensures { result ≡ spec.code_of self }
+    {
+        self as u8
+    }
+
+    /// How a run ends that came to a verdict.
+    pub const fn of_verdict(verdict: Verdict) -> Status
+        ensures { result ≡ spec.status_of_verdict verdict }
+    {
+        match verdict {
+            Verdict::Yes => Status::Done,
+            Verdict::No(_) => Status::Different,
+        }
+    }
+}
