@@ -12,9 +12,6 @@ use Rattle.fmp_statements.specs.declared.fault.ConfigKind.TheVariants as config_
 use Rattle.fmp_config.specs.Limits.{most_bytes as MOST_CONFIG_BYTES}
 use Rattle.fmp_machine.specs.Setup.{Setup}
 use Rattle.fmp_config.specs.Statements.{config_in}
-use Rattle.fmp_config.specs.declared.fault.ConfigFault.{ConfigFault}
-use Rattle.fmp_config.specs.Faults.{GivesOrFails}
-use Rattle.fmpsim_run.specs.Runs.{IsFirstFault}
 
 -- any function of a text that answers one thing past the limit
 same : {A : Type 0} (limit : ℕ) (f : List ℕ → A) (past : A) → ((text : List ℕ) → limit < length text → f text ≡ past)
@@ -32,10 +29,6 @@ pub config_in-front : (all text rest : List ℕ) → all ≡ text ++ rest → (l
 unfolding config_in
 config_in-front all text rest split whole =
     same MOST_CONFIG_BYTES config_in (Err (record { kind = config_kind.TooMany; line = 0; left = 0 })) (λ t long. rw (lt-ltb MOST_CONFIG_BYTES (length t) long) refl) all text rest split whole
-
-pub first_fault-front : (all text rest : List ℕ) (fault : ConfigFault) → all ≡ text ++ rest → (length text ≤ MOST_CONFIG_BYTES → rest ≡ []) →
-    IsFirstFault text fault → IsFirstFault all fault
-first_fault-front all text rest fault split whole = subst (GivesOrFails {Y = Setup} (Err fault)) (sym (config_in-front all text rest split whole))
 
 pub reading_of-front : (names : NameLists) (all text rest : List ℕ) → all ≡ text ++ rest → (length text ≤ MOST_EVENT_BYTES → rest ≡ []) →
     reading_of names all ≡ reading_of names text

@@ -1,11 +1,10 @@
 -- What a run over a configuration and events does.
-use Rattle.std.specs.Prelude.{◌≡◌, ℕ, ◌+◌, ◌≤◌, List, ◌++◌, Result, Ok, Err, if◌then◌else◌}
+use Rattle.std.specs.Prelude.{◌≡◌, ℕ, ◌+◌, ◌≤◌, List, ◌++◌, Result, Ok, if◌then◌else◌}
 use Rattle.fmp_codes.specs.declared.records.Event.{Event}
 use Rattle.fmp_text.specs.Events.{IsFirst, reading_of, faultless}
 use Rattle.fmp_text.specs.Names.{NameLists}
 use Rattle.fmp_config.specs.Statements.{config_in}
-use Rattle.fmp_config.specs.declared.fault.ConfigFault.{ConfigFault}
-use Rattle.fmp_config.specs.Faults.{GivesOrFails}
+use Rattle.fmp_config.specs.Faults.{IsFirstFault}
 use Rattle.fmp_machine.specs.Setup.{Setup}
 use Rattle.fmp_machine.specs.Boot.{booted}
 use Rattle.fmp_machine.specs.Numbers.{numbered}
@@ -34,11 +33,7 @@ IsAnswered config_text event_text old new = (output : List ℕ) × Answered conf
 abbrev pub IsBegun : List ℕ → List ℕ → List ℕ → List ℕ → Type 0
 IsBegun config_text event_text old new = (output : List ℕ) × Answered config_text event_text output × BeginsWith old output new
 
--- the text's first fault, or want of memory
-abbrev pub IsFirstFault : List ℕ → ConfigFault → Type 0
-IsFirstFault text fault = GivesOrFails {Y = Setup} (Err fault) (config_in text)
-
--- a fault of the configuration is the first one of its text
+-- a fault of the configuration is the first one of its text, or want of memory
 abbrev pub FirstConfigFault : List ℕ → RunFault → Type 0
 FirstConfigFault text (run.Config fault) = IsFirstFault text fault
 FirstConfigFault text other = Unit {0}

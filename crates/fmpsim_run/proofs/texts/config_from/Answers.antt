@@ -1,7 +1,8 @@
 use Rattle.std.proofs.Common.{◌∙◌, ap, sym, subst}
 use Rattle.fmp_config.specs.Statements.{config_in}
-use Rattle.fmpsim_run.specs.Runs.{IsFirstFault}
-use Rattle.fmpsim_run.proofs.Fronts.{config_in-front, config_in-ok, first_fault-front}
+use Rattle.fmp_config.specs.Faults.{IsFirstFault}
+use Rattle.fmp_config.proofs.Fronts.{IsFirstFault-front}
+use Rattle.fmpsim_run.proofs.Fronts.{config_in-front, config_in-ok}
 use Rattle.fmpsim_run.proofs.texts.config_from.Goals as goal
 
 pub returns-in-Ok-clause-ok : goal.returns-in-Ok-clause-ok
@@ -16,4 +17,4 @@ returns-in-Ok-clause-read g c = λ tells.
 pub returns-clause-fault : goal.returns-clause-fault
 returns-clause-fault g c = λ tells.
     let read = c.in_ok-text.ensures.ok tells in
-    first_fault-front _ _ _ c.in-Err.fault read.front read.whole (subst (λ text. IsFirstFault text c.in-Err.fault) c.as_slice.ensures.value c.in-Err.ensures.exact)
+    IsFirstFault-front _ _ _ read.front read.whole c.in-Err.fault (subst (λ text. IsFirstFault text c.in-Err.fault) c.as_slice.ensures.value c.in-Err.ensures.exact)
