@@ -9,9 +9,9 @@ mod release_list;
 mod request_list;
 
 pub use calls::{Call, Mode, SystemCall, TaskCall};
-pub use codes::Code;
+pub use codes::{Code, codes_are_listed};
 pub use numbers::{Block, Object, Pri, Proc, Task};
-pub use records::{Answer, Event, Record, Release, Runner};
+pub use records::{Answer, Event, Record, Release, Runner, worded_answers_are_listed};
 pub use release_list::Releases;
 pub use request_list::Requests;
 

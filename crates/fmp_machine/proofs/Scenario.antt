@@ -1,6 +1,7 @@
 -- Words for scenarios: small configurations, and the records of a run.
-use Rattle.std.proofs.Common.{◌≡◌, ℕ, ℤ, Bool, true, false, Option, None, Some, List, [], ◌∷◌, map, replicate}
+use Rattle.std.proofs.Common.{◌≡◌, ℕ, ℤ, Bool, true, false, Option, None, Some, List, ◌∷◌, map, replicate}
 use Rattle.fmp_codes.specs.Numbers.{as_proc, as_task, as_pri}
+use Rattle.fmp_codes.specs.Records.{answer_record}
 use Rattle.fmp_codes.specs.declared.calls.Call.{Call}
 use Rattle.fmp_codes.specs.declared.codes.Code.{Code}
 use Rattle.fmp_codes.specs.declared.codes.Code.TheVariants as code
@@ -41,7 +42,7 @@ error c = answer.Done c None
 
 -- an event with this answer on a processor with neither a handler nor a task
 abbrev pub nobody : Event → Answer → Record
-nobody e a = record { event = e; runner = None; answer = a; releases = []; lost = None; run_change = None; requests = [] }
+nobody e a = answer_record e None a
 
 -- the same, where the runner is the task of this number
 abbrev pub by_task : ℕ → Event → Answer → Record

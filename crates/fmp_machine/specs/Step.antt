@@ -1,5 +1,6 @@
 -- One step of the machine, and runs.
 use Rattle.std.specs.Prelude.{Bool, true, false, not, ◌&&◌, ◌||◌, Option, None, Some, List, [], ◌∷◌, ◌==◌, if◌then◌else◌, filter, map, is_some}
+use Rattle.fmp_codes.specs.Records.{answer_record}
 use Rattle.fmp_codes.specs.declared.numbers.Proc.{Proc}
 use Rattle.fmp_codes.specs.declared.numbers.Task.{Task}
 use Rattle.fmp_codes.specs.declared.calls.Call.{Call}
@@ -87,7 +88,7 @@ settled k front did =
 
 -- the state and the record after an event that changes nothing
 unfoldable pub unchanged : {Q : Type 0} → World Q → Event → Proc → Answer → World Q × Record
-unchanged w e q a = (w, record { event = e; runner = runner_of w q; answer = a; releases = []; lost = None; run_change = None; requests = [] })
+unchanged w e q a = (w, answer_record e (runner_of w q) a)
 
 abbrev pub step : {Q : Type 0} → Keeping Q → World Q → Event → World Q × Record
 step k w (event.Call p c) =

@@ -8,7 +8,7 @@ ghost use Rattle.fmp_plain.specs.Fronts.{seen};
 
 use crate::dispatch::{changed_run, settle, tops};
 use arrayvec::ArrayVec;
-use fmp_codes::{Answer, Call, Event, Proc, Record, Releases, Requests, Runner, Task};
+use fmp_codes::{Answer, Call, Event, Proc, Record, Runner, Task};
 use fmp_machine::Effect;
 use fmp_plain_rows::Machine;
 
@@ -64,15 +64,7 @@ fn settled(machine: &mut Machine, front: Front, effect: Effect) -> Record
 fn unchanged(machine: &Machine, event: Event, q: Proc, answer: Answer) -> Record
     ensures { (machine.now, result) ≡ unchanged machine.now event q answer }
 {
-    Record {
-        event,
-        runner: machine.runner(q),
-        answer,
-        releases: Releases::new(),
-        lost: None,
-        run_change: None,
-        requests: Requests::new(),
-    }
+    Record::answer(event, machine.runner(q), answer)
 }
 
 /// One event.

@@ -2,11 +2,11 @@
 use Rattle.std.specs.Prelude.{ℕ, ◌+◌, List, [], ◌∷◌, ◌++◌, length, take, Option, None, Some, Result, Ok, Err, ◌==◌, if◌then◌else◌, codes}
 use Rattle.std.specs.Option.{option_map_or}
 use Rattle.std.specs.Str.{bytes_eq}
+use Rattle.fmp_codes.specs.Records.{answer_record}
 use Rattle.fmp_codes.specs.declared.numbers.Proc.{Proc}
 use Rattle.fmp_codes.specs.declared.records.Event.{Event}
 use Rattle.fmp_codes.specs.declared.records.Event.TheVariants as events
 use Rattle.fmp_codes.specs.declared.records.Runner.{Runner}
-use Rattle.fmp_codes.specs.declared.records.Answer.{Answer}
 use Rattle.fmp_codes.specs.declared.records.Record.{Record}
 use Rattle.fmp_bytes.specs.declared.classes.Class.TheVariants.{Word}
 use Rattle.fmp_bytes.specs.Bytes.{front, after, behind, cut_at, pieces_of}
@@ -64,15 +64,11 @@ with_words names r (word ∷ words) = do
 abbrev pub words_left : Option (List ℕ) → List (List ℕ)
 words_left text = option_map_or (pieces_of 32) text []
 
--- a record of which nothing is told behind the answer
-abbrev pub plain : Event → Option Runner → Answer → Record
-plain event runner answer = record { event = event; runner = runner; answer = answer; releases = []; lost = None; run_change = None; requests = [] }
-
 unfoldable pub guess_answer : NameLists → Option Runner → Event → List ℕ → Option Record
 guess_answer names runner event text = do
   rest ← behind 32 text
   answer ← answer_in (cut_at 32 rest).0
-  with_words names (plain event runner answer) (words_left (cut_at 32 rest).1)
+  with_words names (answer_record event runner answer) (words_left (cut_at 32 rest).1)
 
 -- what was read without a fault
 abbrev pub read : {A E : Type 0} → Result A E → Option A

@@ -1,9 +1,10 @@
 -- What the parts of a line are guessed to say: numbers, names, codes, answers, runners, releases and requests.
-use Rattle.std.specs.Prelude.{ℕ, ◌^◌, ℤ, ◌&&◌, List, [], ◌∷◌, ◌++◌, Option, None, Some, option_map, find, nat_le, nat_lt, if◌then◌else◌, codes}
-use Rattle.std.specs.Option.{option_or}
+use Rattle.std.specs.Prelude.{ℕ, ◌^◌, ℤ, Bool, false, ◌&&◌, List, [], ◌∷◌, ◌++◌, Option, None, Some, option_map, find, nat_le, nat_lt, if◌then◌else◌, codes}
+use Rattle.std.specs.Option.{option_map_or, option_or}
 use Rattle.std.specs.Str.{bytes_eq}
 use Rattle.fmp_codes.specs.Codes as code
 use Rattle.fmp_codes.specs.Numbers.{as_proc, as_task, as_object}
+use Rattle.fmp_codes.specs.Records.{word_of, worded}
 use Rattle.fmp_codes.specs.declared.codes.Code.{Code}
 use Rattle.fmp_codes.specs.declared.numbers.Proc.{Proc}
 use Rattle.fmp_codes.specs.declared.numbers.Task.{Task}
@@ -21,7 +22,6 @@ use Rattle.fmp_calls.specs.declared.kinds.NameKind.TheVariants as kinds
 use Rattle.fmp_text.specs.Argument.{◌>>=◌}
 use Rattle.fmp_text.specs.Names.{NameLists}
 use Rattle.fmp_text.specs.Names.{number_of as number_of_name}
-use Rattle.fmp_trace.specs.declared.guess.TheConstants.{CODES}
 
 -- ---- numbers and names
 
@@ -48,7 +48,7 @@ object_in names kind word = option_map as_object (number_of_name names (kinds.Ob
 -- ---- answers
 
 unfoldable pub code_in : List ℕ → Option Code
-code_in word = find (λ c. bytes_eq (code.name_of c) word) CODES
+code_in word = find (λ c. bytes_eq (code.name_of c) word) code.all_codes
 
 -- a value, where one follows
 abbrev pub value_in : Option (List ℕ) → Option (Option ℤ)
@@ -67,17 +67,13 @@ done_in text = do
   coded ← coded_in text
   Some (answers.Done coded.0 coded.1)
 
+-- the answer has this word
+abbrev pub has_word : Answer → List ℕ → Bool
+has_word answer text = option_map_or (λ word. bytes_eq word text) (word_of answer) false
+
 -- the answers with a word of their own
 unfoldable pub word_answer : List ℕ → Option Answer
-word_answer text =
-    if bytes_eq text (codes "wait") then Some answers.Wait
-    else (if bytes_eq text (codes "spin") then Some answers.Spin
-    else (if bytes_eq text (codes "gone") then Some answers.Gone
-    else (if bytes_eq text (codes "idle") then Some answers.Idle
-    else (if bytes_eq text (codes "held") then Some answers.Held
-    else (if bytes_eq text (codes "taken") then Some answers.Taken
-    else (if bytes_eq text (codes "none") then Some answers.Nothing
-    else None))))))
+word_answer text = find (λ answer. has_word answer text) worded
 
 unfoldable pub answer_in : List ℕ → Option Answer
 answer_in text = option_or (word_answer text) (done_in text)

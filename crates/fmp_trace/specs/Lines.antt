@@ -1,8 +1,8 @@
 -- The text of a trace as a function of its records.
-use Rattle.std.specs.Prelude.{ℕ, zero, suc, ◌+◌, ℤ, List, [], ◌∷◌, ◌++◌, Option, Some, None, codes, decimal}
+use Rattle.std.specs.Prelude.{ℕ, zero, suc, ◌+◌, ℤ, List, [], ◌∷◌, ◌++◌, Option, Some, None, unwrap_or, codes, decimal}
 use Rattle.std.specs.Fmt.{signed_decimal}
 use Rattle.fmp_codes.specs.Codes as code
-use Rattle.fmp_codes.specs.Records.{processor_of}
+use Rattle.fmp_codes.specs.Records.{processor_of, word_of}
 use Rattle.fmp_codes.specs.declared.codes.Code.{Code}
 use Rattle.fmp_codes.specs.declared.numbers.Proc.{Proc}
 use Rattle.fmp_codes.specs.declared.numbers.Task.{Task}
@@ -41,15 +41,14 @@ behind_code (Some v) = codes ":" ++ signed_decimal v
 unfoldable pub code_text : Code → Option ℤ → List ℕ
 code_text c v = code.name_of c ++ behind_code v
 
+-- what a call returned
+abbrev pub returned_text : Answer → List ℕ
+returned_text (answers.Done c v) = code_text c v
+returned_text _ = []
+
+-- the answer's word, or what the call returned
 abbrev pub answer_text : Answer → List ℕ
-answer_text (answers.Done c v) = code_text c v
-answer_text answers.Wait = codes "wait"
-answer_text answers.Spin = codes "spin"
-answer_text answers.Gone = codes "gone"
-answer_text answers.Idle = codes "idle"
-answer_text answers.Held = codes "held"
-answer_text answers.Taken = codes "taken"
-answer_text answers.Nothing = codes "none"
+answer_text answer = unwrap_or (word_of answer) (returned_text answer)
 
 -- the end of a wait
 unfoldable pub release_text : NameLists → Release → List ℕ

@@ -11,23 +11,8 @@ ghost use Rattle.fmp_trace.specs.GuessParts as parts;
 
 use fmp_bytes::{Class, behind, cut, magnitude, signed64, spelled_number, split_front};
 use fmp_calls::{NameKind, ObjectKind};
-use fmp_codes::{
-    Answer, Code, Event, Object, Proc, Record, Release, Releases, Requests, Runner, Task,
-};
+use fmp_codes::{Answer, Code, Event, Object, Proc, Record, Release, Requests, Runner, Task};
 use fmp_text::{Names, read_call};
-
-/// The codes that an answer or a release may have.
-const CODES: [Code; 9] = [
-    Code::Accepted,
-    Code::Parameter,
-    Code::Identifier,
-    Code::Context,
-    Code::IllegalUse,
-    Code::ObjectState,
-    Code::QueueOverflow,
-    Code::WaitReleased,
-    Code::TimedOut,
-];
 
 #[tactic(auto, unfolding(crate::specs::GuessParts::in_processors))]
 fn in_processors(most: u8, number: Option<u64>) -> Option<Proc>
@@ -85,7 +70,7 @@ fn object_in(names: &Names, kind: ObjectKind, word: &[u8]) -> Option<Object>
 fn code_in(word: &[u8]) -> Option<Code>
     ensures { result ≡ parts.code_in word.now }
 {
-    CODES
+    Code::ALL
         .iter()
         .copied()
         .find(|code| code.name().as_bytes() == word)
@@ -119,27 +104,24 @@ fn done_in(text: &[u8]) -> Option<Answer>
     Some(Answer::Done(code, value))
 }
 
+/// Whether the answer has this word.
+fn has_word(answer: Answer, text: &[u8]) -> bool
+    ensures { result ≡ parts.has_word answer text.now }
+{
+    match answer.word() {
+        Some(word) => word.as_bytes() == text,
+        None => false,
+    }
+}
+
 #[tactic(auto, unfolding(crate::specs::GuessParts::word_answer))]
 fn word_answer(text: &[u8]) -> Option<Answer>
     ensures { result ≡ parts.word_answer text.now }
 {
-    if text == b"wait".as_slice() {
-        Some(Answer::Wait)
-    } else if text == b"spin".as_slice() {
-        Some(Answer::Spin)
-    } else if text == b"gone".as_slice() {
-        Some(Answer::Gone)
-    } else if text == b"idle".as_slice() {
-        Some(Answer::Idle)
-    } else if text == b"held".as_slice() {
-        Some(Answer::Held)
-    } else if text == b"taken".as_slice() {
-        Some(Answer::Taken)
-    } else if text == b"none".as_slice() {
-        Some(Answer::Nothing)
-    } else {
-        None
-    }
+    Answer::WORDED
+        .iter()
+        .copied()
+        .find(|answer| has_word(*answer, text))
 }
 
 #[tactic(auto, unfolding(crate::specs::GuessParts::answer_in))]
@@ -305,27 +287,13 @@ fn with_words(names: &Names, entry: Record, words: Option<&[u8]>) -> Option<Reco
     Some(entry)
 }
 
-fn plain(event: Event, runner: Option<Runner>, answer: Answer) -> Record
-    ensures { result ≡ spec.plain event runner answer }
-{
-    Record {
-        event,
-        runner,
-        answer,
-        releases: Releases::new(),
-        lost: None,
-        run_change: None,
-        requests: Requests::new(),
-    }
-}
-
 #[tactic(auto, unfolding(crate::specs::Guess::guess_answer))]
 fn guess_answer(names: &Names, runner: Option<Runner>, event: Event, text: &[u8]) -> Option<Record>
     ensures { result ≡ spec.guess_answer names.now runner event text.now }
 {
     let (word, words) = cut(b' ', behind(b' ', text)?);
     let answer = answer_in(word)?;
-    with_words(names, plain(event, runner, answer), words)
+    with_words(names, Record::answer(event, runner, answer), words)
 }
 
 #[tactic(auto, unfolding(crate::specs::Guess::guess_call))]

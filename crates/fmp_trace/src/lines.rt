@@ -63,18 +63,22 @@ fn put_code(out: &mut Vec<u8>, code: Code, value: Option<i64>) -> Result<(), All
     Ok(())
 }
 
-fn put_answer(out: &mut Vec<u8>, answer: Answer) -> Result<(), AllocError>
-    ensures { OnOk result (out.new.items ≡ out.old.items ++ spec.answer_text answer) }
+/// Adds what a call returned, where the answer is that.
+fn put_returned(out: &mut Vec<u8>, answer: Answer) -> Result<(), AllocError>
+    ensures { OnOk result (out.new.items ≡ out.old.items ++ spec.returned_text answer) }
 {
     match answer {
         Answer::Done(code, value) => put_code(out, code, value),
-        Answer::Wait => out.extend_from_slice(b"wait"),
-        Answer::Spin => out.extend_from_slice(b"spin"),
-        Answer::Gone => out.extend_from_slice(b"gone"),
-        Answer::Idle => out.extend_from_slice(b"idle"),
-        Answer::Held => out.extend_from_slice(b"held"),
-        Answer::Taken => out.extend_from_slice(b"taken"),
-        Answer::Nothing => out.extend_from_slice(b"none"),
+        _ => Ok(()),
+    }
+}
+
+fn put_answer(out: &mut Vec<u8>, answer: Answer) -> Result<(), AllocError>
+    ensures { OnOk result (out.new.items ≡ out.old.items ++ spec.answer_text answer) }
+{
+    match answer.word() {
+        Some(word) => out.extend_from_slice(word.as_bytes()),
+        None => put_returned(out, answer),
     }
 }
 

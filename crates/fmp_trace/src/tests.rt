@@ -31,19 +31,6 @@ fn machine(rt: &HostRuntime) -> Result<Names, Fail> {
     Ok(names)
 }
 
-/// A record of this event, runner and answer, and nothing else.
-fn plain(event: Event, runner: Option<Runner>, answer: Answer) -> Record {
-    Record {
-        event,
-        runner,
-        answer,
-        releases: Releases::new(),
-        lost: None,
-        run_change: None,
-        requests: Requests::new(),
-    }
-}
-
 /// A record with everything that a line can tell.
 fn full(t2: Task, t3: Task) -> Record {
     let (p1, p2, p3) = (Proc::new(1), Proc::new(2), Proc::new(3));
@@ -103,15 +90,15 @@ fn calls_are_printed(rt: HostRuntime) -> Result<(), Fail> {
     let pid = Event::Call(Proc::new(2), Call::System(SystemCall::GetPid));
     let ended = Record {
         run_change: Some(None),
-        ..plain(end, t1, Answer::Gone)
+        ..Record::answer(end, t1, Answer::Gone)
     };
     let records = [
         full(Task::new(2), Task::new(3)),
         ended,
-        plain(call(0), t1, refused),
-        plain(call(9), t1, refused),
-        plain(call(-2147483648), alarm, refused),
-        plain(pid, None, Answer::Idle),
+        Record::answer(call(0), t1, refused),
+        Record::answer(call(9), t1, refused),
+        Record::answer(call(-2147483648), alarm, refused),
+        Record::answer(pid, None, Answer::Idle),
     ];
     let text = trace_text(rt.alloc(), &records, &names)?;
     assert_eq!(rt; text.as_slice(), CALLS);
@@ -124,11 +111,11 @@ fn other_events_are_printed(rt: HostRuntime) -> Result<(), Fail> {
     let (p1, p2) = (Proc::new(1), Proc::new(2));
     let t1 = Some(Runner::Task(Task::new(1)));
     let records = [
-        plain(Event::Tick(p1), t1, Answer::Held),
-        plain(Event::Ipi(p2), None, Answer::Taken),
-        plain(Event::Ipi(p2), t1, Answer::Nothing),
-        plain(Event::Tick(p2), t1, Answer::Wait),
-        plain(Event::Tick(p2), t1, Answer::Spin),
+        Record::answer(Event::Tick(p1), t1, Answer::Held),
+        Record::answer(Event::Ipi(p2), None, Answer::Taken),
+        Record::answer(Event::Ipi(p2), t1, Answer::Nothing),
+        Record::answer(Event::Tick(p2), t1, Answer::Wait),
+        Record::answer(Event::Tick(p2), t1, Answer::Spin),
     ];
     let text = trace_text(rt.alloc(), &records, &names)?;
     assert_eq!(rt; text.as_slice(), OTHERS);
