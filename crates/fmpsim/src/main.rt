@@ -12,6 +12,12 @@ use std::process::ExitCode;
 use std::rt::{Env, Files};
 use std::{env, fs, io};
 
+/// The paths where no text is at fault.
+const NO_PATHS: Paths<'static> = Paths {
+    config: "",
+    text: "",
+};
+
 /// Opens both files before it reads either, and writes the trace of the machine's answers.
 fn calls<R: Files + Print + AllocGlobal>(rt: &R, paths: &Paths<'_>) -> Result<Status, RunFault> {
     let config = fs::open(rt, paths.config).map_err(|_| RunFault::Read)?;
@@ -38,19 +44,33 @@ fn check<R: Files + Print + AllocGlobal>(rt: &R, paths: &Paths<'_>) -> Result<St
     Ok(Status::of_verdict(verdict))
 }
 
-/// How a run ends. A fault is told on standard error.
+/// Tells a fault on standard error, and how it ends the program.
+fn failed<R: Eprint>(rt: &R, paths: &Paths<'_>, fault: &RunFault) -> Status {
+    let line = FaultLine {
+        config: paths.config,
+        text: paths.text,
+        fault,
+    };
+    let _ = eprintln!(rt; "{line}");
+    fault.status()
+}
+
+/// How a run ends the program. A fault is told.
 fn ended<R: Eprint>(rt: &R, paths: &Paths<'_>, run: Result<Status, RunFault>) -> Status {
     match run {
         Ok(status) => status,
-        Err(fault) => {
-            let line = FaultLine {
-                config: paths.config,
-                text: paths.text,
-                fault: &fault,
-            };
-            let _ = eprintln!(rt; "{line}");
-            fault.status()
-        }
+        Err(fault) => failed(rt, paths, &fault),
+    }
+}
+
+/// Tells help, or what is wrong with the command line, and how that ends the program.
+fn refused<R: Print + Eprint>(rt: &R, error: &clap::Error) -> Status {
+    match cli::status_of(error) {
+        Status::Memory => failed(rt, &NO_PATHS, &RunFault::Memory),
+        status => match error.print(rt) {
+            Ok(()) => status,
+            Err(_) => failed(rt, &NO_PATHS, &RunFault::Write),
+        },
     }
 }
 
@@ -58,40 +78,26 @@ fn words_of<R: Env + AllocGlobal>(rt: &R) -> io::Result<Vec<String>> {
     Ok(env::args(rt)?.collect(rt.alloc())?)
 }
 
-/// Does what the words ask for, or tells what is wrong with them.
-fn execute<R: Files + Print + Eprint + AllocGlobal>(
-    rt: &R,
-    words: &[String],
-) -> io::Result<Status> {
+/// Does what the words ask for.
+fn execute<R: Files + Print + Eprint + AllocGlobal>(rt: &R, words: &[String]) -> Status {
     match cli::parse(rt.alloc(), words) {
-        Ok(Request::Calls(paths)) => Ok(ended(rt, &paths, calls(rt, &paths))),
-        Ok(Request::Check(paths)) => Ok(ended(rt, &paths, check(rt, &paths))),
-        Err(error) => {
-            let status = cli::status_of(&error);
-            match status {
-                Status::Memory => eprintln!(rt; "fmpsim: {}", RunFault::Memory)?,
-                _ => error.print(rt)?,
-            }
-            Ok(status)
-        }
+        Ok(Request::Calls(paths)) => ended(rt, &paths, calls(rt, &paths)),
+        Ok(Request::Check(paths)) => ended(rt, &paths, check(rt, &paths)),
+        Err(error) => refused(rt, &error),
     }
 }
 
-fn run<R: Env + Files + Print + Eprint + AllocGlobal>(rt: &R) -> io::Result<Status> {
+fn run<R: Env + Files + Print + Eprint + AllocGlobal>(rt: &R) -> Status {
     match words_of(rt) {
         Ok(words) => execute(rt, words.as_slice()),
         Err(error) if error.kind() == io::ErrorKind::InvalidData => {
-            eprintln!(rt; "fmpsim: a word of the command line is not UTF-8")?;
-            Ok(Status::Usage)
+            let _ = eprintln!(rt; "fmpsim: a word of the command line is not UTF-8");
+            Status::Usage
         }
-        Err(_) => {
-            eprintln!(rt; "fmpsim: {}", RunFault::Memory)?;
-            Ok(Status::Memory)
-        }
+        Err(_) => failed(rt, &NO_PATHS, &RunFault::Memory),
     }
 }
 
 fn main(rt: HostRuntime) -> ExitCode {
-    let status = run(&rt).unwrap_or(Status::Device);
-    ExitCode::from(status.code())
+    ExitCode::from(run(&rt).code())
 }
