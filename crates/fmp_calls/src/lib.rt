@@ -10,6 +10,3 @@ pub use laws::{arguments_have_their_kinds, tables_agree};
 pub use table::system::SystemName;
 pub use table::task::TaskName;
 pub use table::{CALL_NAMES, CallName, Form, MOST_ARGUMENTS, Values, find_call, parts};
-
-#[cfg(test)]
-mod tests;

@@ -9,8 +9,6 @@ mod simulate;
 mod sink;
 mod source;
 mod std_io;
-#[cfg(test)]
-mod tests;
 mod texts;
 mod whole;
 

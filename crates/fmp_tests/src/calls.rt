@@ -1,6 +1,6 @@
-use super::*;
+use fmp_calls::{ArgumentKind, CALL_NAMES, ObjectKind, Value, find_call, parts};
 use fmp_codes::{Call, SystemCall, TaskCall};
-use std::test::*;
+use std::test::Fail;
 
 #[test]
 fn act_tsk(rt: HostRuntime) -> Result<(), Fail> {
