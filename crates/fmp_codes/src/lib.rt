@@ -14,6 +14,3 @@ pub use numbers::{Block, Object, Pri, Proc, Task};
 pub use records::{Answer, Event, Record, Release, Runner, worded_answers_are_listed};
 pub use release_list::Releases;
 pub use request_list::Requests;
-
-#[cfg(test)]
-mod tests;

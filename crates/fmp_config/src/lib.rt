@@ -5,8 +5,6 @@ mod draft;
 mod fault;
 mod judge;
 mod reading;
-#[cfg(test)]
-mod tests;
 
 pub use fault::ConfigFault;
 pub use fmp_machine::Config;

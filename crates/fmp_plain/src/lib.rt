@@ -5,7 +5,5 @@ mod boot;
 mod dispatch;
 mod plain;
 mod step;
-#[cfg(test)]
-mod tests;
 
 pub use plain::Plain;

@@ -19,6 +19,3 @@ pub use laws::{
     spelled_values_are_read, texts_are_read_line_by_line, texts_spell_one_list,
 };
 pub use names::{MOST_NAME_BYTES, Names, is_constant, is_name, is_reserved};
-
-#[cfg(test)]
-mod tests;

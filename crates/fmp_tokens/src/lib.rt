@@ -6,6 +6,3 @@ mod tokens;
 
 pub use modes::{Mode, Step, step_of};
 pub use tokens::{End, Token, TokenKind, Tokens, read_tokens};
-
-#[cfg(test)]
-mod tests;

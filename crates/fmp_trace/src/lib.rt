@@ -6,8 +6,6 @@ mod guess;
 mod laws;
 mod lines;
 mod reading;
-#[cfg(test)]
-mod tests;
 mod values;
 
 pub use checking::{Verdict, check};

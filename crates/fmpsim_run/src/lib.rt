@@ -10,8 +10,6 @@ mod sink;
 mod source;
 mod status;
 mod std_io;
-#[cfg(test)]
-mod tests;
 mod texts;
 mod whole;
 

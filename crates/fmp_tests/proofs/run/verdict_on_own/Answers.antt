@@ -5,7 +5,7 @@ use Rattle.fmp_trace.specs.declared.checking.Verdict.TheVariants.{Yes}
 use Rattle.fmpsim_run.specs.Checks.{IsYes}
 use Rattle.fmpsim_run.specs.Runs.{Answered}
 use Rattle.fmpsim_run.specs.declared.fault.RunFault.{RunFault}
-use Rattle.fmpsim_run.proofs.tests.verdict_on_own.Goals as goal
+use Rattle.fmp_tests.proofs.run.verdict_on_own.Goals as goal
 
 yes_if_ok : (r : Result Verdict RunFault) → IsYes r → IfOk r (λ v. v ≡ Yes)
 yes_if_ok (Ok v) e = e

@@ -1,57 +1,10 @@
-use super::*;
-use crate::argument::value_at;
-use crate::fault::TextKind::*;
-use fmp_calls::{ArgumentKind, NameKind, ObjectKind, Value};
-use fmp_codes::{Call, Event, Mode, SystemCall, TaskCall};
+use crate::machines::{add, names_of};
+use fmp_calls::{NameKind, ObjectKind};
+use fmp_codes::{Call, Event, SystemCall, TaskCall};
+use fmp_text::TextKind::*;
+use fmp_text::{Names, TextKind, read_call, read_events};
 use std::alloc::Global;
-use std::test::*;
-
-const KINDS: [ArgumentKind; 16] = [
-    ArgumentKind::Object(ObjectKind::Task),
-    ArgumentKind::Object(ObjectKind::Semaphore),
-    ArgumentKind::Object(ObjectKind::Eventflag),
-    ArgumentKind::Object(ObjectKind::DataQueue),
-    ArgumentKind::Object(ObjectKind::Pool),
-    ArgumentKind::Object(ObjectKind::Cyclic),
-    ArgumentKind::Object(ObjectKind::Alarm),
-    ArgumentKind::Object(ObjectKind::SpinLock),
-    ArgumentKind::Priority,
-    ArgumentKind::Processor,
-    ArgumentKind::Time,
-    ArgumentKind::Timeout,
-    ArgumentKind::Pattern,
-    ArgumentKind::Data,
-    ArgumentKind::Mode,
-    ArgumentKind::Block,
-];
-
-/// Each constant, the kind that it stands in, and its value there.
-const CONSTANTS: [(&[u8], ArgumentKind, Value); 8] = [
-    (
-        b"TSK_SELF",
-        ArgumentKind::Object(ObjectKind::Task),
-        Value::Number(0),
-    ),
-    (b"TPRI_SELF", ArgumentKind::Priority, Value::Number(0)),
-    (b"TPRI_INI", ArgumentKind::Priority, Value::Number(0)),
-    (b"TPRC_INI", ArgumentKind::Processor, Value::Number(0)),
-    (b"TMO_POL", ArgumentKind::Timeout, Value::Number(0)),
-    (b"TMO_FEVR", ArgumentKind::Timeout, Value::Number(-1)),
-    (b"TWF_ANDW", ArgumentKind::Mode, Value::Mode(Mode::Andw)),
-    (b"TWF_ORW", ArgumentKind::Mode, Value::Mode(Mode::Orw)),
-];
-
-fn add(names: &mut Names, kind: NameKind, name: &[u8]) -> Result<bool, Fail> {
-    let taken = match kind {
-        NameKind::Object(_) => is_reserved(name) || names.contains_object(name),
-        NameKind::Function => names.contains_function(name),
-    };
-    if taken || !is_name(name) || !names.has_room(kind) {
-        return Ok(false);
-    }
-    names.add(kind, name)?;
-    Ok(true)
-}
+use std::test::Fail;
 
 const FUNCTION: NameKind = NameKind::Function;
 
@@ -75,11 +28,7 @@ const NAMES: [(NameKind, &[u8]); 10] = [
 
 /// A machine with two processors.
 fn machine(rt: &HostRuntime) -> Result<Names, Fail> {
-    let mut names = Names::new(rt.alloc(), 2);
-    for (kind, name) in NAMES {
-        add(&mut names, kind, name)?;
-    }
-    Ok(names)
+    names_of(rt.alloc(), 2, &NAMES)
 }
 
 /// Texts with faults, and the kind and the line of the first one.
@@ -123,15 +72,28 @@ const ACCEPTED: [&[u8]; 5] = [
     b"P1  act_tsk ( TSK_SELF ) \r\n\tP2\ttick\n  ",
 ];
 
-/// Texts of one call, and what they are read as.
-const CALLS: [(&[u8], Result<Call, TextKind>); 7] = [
-    (b" ext_tsk( )\t", Ok(Call::Task(TaskCall::ExtTsk))),
-    (
-        b"act_tsk(-2147483648)",
-        Ok(Call::Task(TaskCall::ActTsk(i32::MIN))),
-    ),
+/// Activations, and the task that each is read as.
+const ACTIVATIONS: [(&[u8], Result<i32, TextKind>); 15] = [
+    (b"act_tsk(T2)", Ok(2)),
+    (b"act_tsk(-0)", Ok(0)),
+    (b"act_tsk(-2147483648)", Ok(i32::MIN)),
     (b"act_tsk(-2147483649)", Err(NumberOutOfRange)),
-    (b"act_tsk(-0)", Ok(Call::Task(TaskCall::ActTsk(0)))),
+    (b"act_tsk(4294967295)", Err(NumberOutOfRange)),
+    (b"act_tsk(00)", Err(NumberOutOfRange)),
+    (b"act_tsk(TSK_SELF)", Ok(0)),
+    (b"act_tsk(TPRI_SELF)", Err(WrongArguments)),
+    (b"act_tsk(TPRI_INI)", Err(WrongArguments)),
+    (b"act_tsk(TPRC_INI)", Err(WrongArguments)),
+    (b"act_tsk(TMO_POL)", Err(WrongArguments)),
+    (b"act_tsk(TMO_FEVR)", Err(WrongArguments)),
+    (b"act_tsk(TWF_ANDW)", Err(WrongArguments)),
+    (b"act_tsk(TWF_ORW)", Err(WrongArguments)),
+    (b"act_tsk(TSK_NONE)", Err(UnknownName)),
+];
+
+/// Texts of one call, and what they are read as.
+const CALLS: [(&[u8], Result<Call, TextKind>); 4] = [
+    (b" ext_tsk( )\t", Ok(Call::Task(TaskCall::ExtTsk))),
     (b"P1 ext_tsk()", Err(BadWord)),
     (b"", Err(BadWord)),
     (b"ext_tsk()\n", Err(BadByte)),
@@ -173,85 +135,12 @@ fn accepted_texts(rt: HostRuntime) -> Result<(), Fail> {
 #[test]
 fn calls(rt: HostRuntime) -> Result<(), Fail> {
     let names = machine(&rt)?;
-    for (text, call) in CALLS {
+    for (text, task) in ACTIVATIONS {
+        let call = task.map(|id| Call::Task(TaskCall::ActTsk(id)));
         assert!(rt; read_call(text, &names) == call);
     }
-    Ok(())
-}
-
-/// What a constant gives in an argument of this kind: its value in its own, and elsewhere a fault.
-fn judged(place: (&[u8], ArgumentKind, Value), kind: ArgumentKind) -> Result<Value, TextKind> {
-    if place.1 == kind {
-        Ok(place.2)
-    } else {
-        Err(TextKind::WrongArguments)
-    }
-}
-
-#[test]
-fn constants(rt: HostRuntime) -> Result<(), Fail> {
-    let names = machine(&rt)?;
-    for constant in CONSTANTS {
-        for kind in KINDS {
-            assert!(rt; value_at(&names, kind, constant.0) == judged(constant, kind));
-        }
-    }
-    Ok(())
-}
-
-/// The ends of the range of 32 signed bits, and a number with a leading zero.
-const NUMBERS: [(&[u8], Result<Value, TextKind>); 3] = [
-    (b"-2147483648", Ok(Value::Number(i32::MIN))),
-    (b"4294967295", Err(NumberOutOfRange)),
-    (b"00", Err(NumberOutOfRange)),
-];
-
-/// Arguments of the other kinds, and what has the form of one but is none.
-const VALUES: [(ArgumentKind, &[u8], Result<Value, TextKind>); 14] = [
-    (ArgumentKind::Pattern, b"-2147483648", Err(NumberOutOfRange)),
-    (
-        ArgumentKind::Pattern,
-        b"4294967295",
-        Ok(Value::Pattern(u32::MAX)),
-    ),
-    (ArgumentKind::Pattern, b"4294967296", Err(NumberOutOfRange)),
-    (ArgumentKind::Pattern, b"-0", Ok(Value::Pattern(0))),
-    (ArgumentKind::Pattern, b"00", Err(NumberOutOfRange)),
-    (
-        ArgumentKind::Data,
-        b"4294967295",
-        Ok(Value::Data(4294967295)),
-    ),
-    (
-        ArgumentKind::Data,
-        b"-9223372036854775808",
-        Ok(Value::Data(i64::MIN)),
-    ),
-    (ArgumentKind::Data, b"00", Err(NumberOutOfRange)),
-    (ArgumentKind::Mode, b"-2147483648", Err(WrongArguments)),
-    (ArgumentKind::Mode, b"00", Err(WrongArguments)),
-    (ArgumentKind::Mode, b"T1", Err(WrongArguments)),
-    (ArgumentKind::Mode, b"T9", Err(UnknownName)),
-    (ArgumentKind::Time, b"S", Err(WrongArguments)),
-    (ArgumentKind::Timeout, b"TSK_NONE", Err(UnknownName)),
-];
-
-#[test]
-fn values(rt: HostRuntime) -> Result<(), Fail> {
-    let names = machine(&rt)?;
-    for (text, value) in NUMBERS {
-        for kind in [
-            ArgumentKind::Priority,
-            ArgumentKind::Processor,
-            ArgumentKind::Time,
-            ArgumentKind::Timeout,
-            ArgumentKind::Block,
-        ] {
-            assert!(rt; value_at(&names, kind, text) == value);
-        }
-    }
-    for (kind, text, value) in VALUES {
-        assert!(rt; value_at(&names, kind, text) == value);
+    for (text, call) in CALLS {
+        assert!(rt; read_call(text, &names) == call);
     }
     Ok(())
 }

@@ -2,9 +2,10 @@
 ghost use Rattle.std.specs.Prelude.{◌≡◌, false, [], IfOk};
 ghost use Rattle.fmpsim_run.specs.Runs.{IsAnswered};
 
-use crate::{Failed, MemSink, MemSource, RunFault, Sink, Source, run_calls, run_check};
+use crate::machines::{NEIGHBOURS, REMOTE};
 use fmp_text::MOST_BYTES;
 use fmp_trace::Verdict;
+use fmpsim_run::{Failed, MemSink, MemSource, RunFault, Sink, Source, run_calls, run_check};
 use std::alloc::Global;
 use std::process::Abort;
 use std::test::Fail;
@@ -20,29 +21,8 @@ CLASS(C1) {
 }
 ";
 
-/// A second task on the first processor, of higher priority.
-const NEIGHBOUR: &[u8] = b"\
-PROCESSORS(2);
-DEF_CLASS(C1, 1, {1, 2});
-CLASS(C1) {
-  CRE_TSK(T1, {TA_ACT, 0, main1, 10, 4096, NULL});
-  CRE_TSK(T2, {TA_NULL, 0, main2, 5, 4096, NULL});
-}
-";
-
-/// A second task on the second processor.
-const REMOTE: &[u8] = b"\
-PROCESSORS(2);
-DEF_CLASS(C1, 1, {1, 2});
-DEF_CLASS(C2, 2, {1, 2});
-DEF_CLASS(FIX1, 1, {1});
-CLASS(C1) {
-  CRE_TSK(T1, {TA_ACT, 0, main1, 10, 4096, NULL});
-}
-CLASS(C2) {
-  CRE_TSK(T2, {TA_NULL, 0, main2, 10, 4096, NULL});
-}
-";
+/// No trace of these runs has more bytes.
+const MOST_TRACE: usize = 1 << 22;
 
 /// An interrupt that comes late and then once more, and then a queued activation.
 const EVENTS: &[u8] = b"\
@@ -67,45 +47,11 @@ const TRACE: &[u8] = b"\
 8 P2 T2 ext_tsk() gone run=idle
 ";
 
-/// A task keeps its processor, first by disabled dispatching, and then locked too.
-const KEEPING_EVENTS: &[u8] = b"\
-# T2 keeps its processor while it works on shared data
-P2 dis_dsp()
-P1 act_tsk(T3)
-P2 ipi
-P2 tick
-P2 sns_dpn()
-P2 loc_cpu()
-P2 tick
-P2 get_tid()
-P2 unl_cpu()
-P2 sns_dsp()
-P2 ena_dsp()
-P2 ipi
-P2 get_tid()
-";
-
-const KEEPING_TRACE: &[u8] = b"\
-1 P2 T2 dis_dsp() E_OK
-2 P1 T1 act_tsk(T3) E_OK ipi=2
-3 P2 T2 ipi held
-4 P2 T2 tick taken
-5 P2 T2 sns_dpn() E_OK:1
-6 P2 T2 loc_cpu() E_OK
-7 P2 T2 tick held
-8 P2 T2 get_tid() E_CTX
-9 P2 T2 unl_cpu() E_OK
-10 P2 T2 sns_dsp() E_OK:1
-11 P2 T2 ena_dsp() E_OK run=T3
-12 P2 T3 ipi none
-13 P2 T3 get_tid() E_OK:3
-";
-
 /// Runs over memory, and tells what is written.
 fn run(alloc: Global, config: &[u8], events: &[u8]) -> Result<MemSink, RunFault>
     ensures { IfOk result (λ trace. IsAnswered config.now events.now [] trace.bytes.items) }
 {
-    let mut trace = MemSink::with_room(alloc, 1000)?;
+    let mut trace = MemSink::with_room(alloc, MOST_TRACE)?;
     run_calls(
         alloc,
         &mut MemSource::new(config),
@@ -171,70 +117,12 @@ fn no_event(rt: HostRuntime) -> Result<(), Fail> {
 #[test]
 fn activation_on_the_same_processor(rt: HostRuntime) -> Result<(), Fail> {
     let trace = b"1 P1 T1 act_tsk(T2) E_OK run=T2\n";
-    writes(&rt, rt.alloc(), NEIGHBOUR, b"P1 act_tsk(T2)\n", trace)
+    writes(&rt, rt.alloc(), NEIGHBOURS, b"P1 act_tsk(T2)\n", trace)
 }
 
 #[test]
 fn late_interrupt_and_queued_activation(rt: HostRuntime) -> Result<(), Fail> {
     writes(&rt, rt.alloc(), REMOTE, EVENTS, TRACE)
-}
-
-/// The example of a queued activation.
-#[test]
-fn queued_activation(rt: HostRuntime) -> Result<(), Fail> {
-    let events = b"\
-P1 act_tsk(T2)
-P2 ipi
-P1 act_tsk(T2)
-P1 act_tsk(T2)
-P2 ext_tsk()
-P2 get_pid()
-P2 ext_tsk()
-";
-    let trace = b"\
-1 P1 T1 act_tsk(T2) E_OK ipi=2
-2 P2 - ipi taken run=T2
-3 P1 T1 act_tsk(T2) E_OK
-4 P1 T1 act_tsk(T2) E_QOVR
-5 P2 T2 ext_tsk() gone
-6 P2 T2 get_pid() E_OK:2
-7 P2 T2 ext_tsk() gone run=idle
-";
-    writes(&rt, rt.alloc(), REMOTE, events, trace)
-}
-
-/// The example of priorities on one processor.
-#[test]
-fn priorities(rt: HostRuntime) -> Result<(), Fail> {
-    let config = b"\
-PROCESSORS(1);
-DEF_CLASS(MAIN, 1, {1});
-CLASS(MAIN) {
-  CRE_TSK(WORKER, {TA_ACT, 0, worker, 10, 4096, NULL});
-  CRE_TSK(URGENT, {TA_NULL, 0, urgent, 3, 4096, NULL});
-  CRE_TSK(PEER, {TA_NULL, 0, peer, 10, 4096, NULL});
-}
-";
-    let events = b"\
-# the peer becomes ready behind the worker, the urgent task before it
-P1 act_tsk(PEER)
-P1 act_tsk(URGENT)
-P1 ext_tsk()
-P1 ext_tsk()
-P1 tick
-P1 ext_tsk()
-P1 act_tsk(WORKER)
-";
-    let trace = b"\
-1 P1 WORKER act_tsk(PEER) E_OK
-2 P1 WORKER act_tsk(URGENT) E_OK run=URGENT
-3 P1 URGENT ext_tsk() gone run=WORKER
-4 P1 WORKER ext_tsk() gone run=PEER
-5 P1 PEER tick taken
-6 P1 PEER ext_tsk() gone run=idle
-7 P1 - act_tsk(WORKER) idle
-";
-    writes(&rt, rt.alloc(), config, events, trace)
 }
 
 /// The processor is locked and unlocked twice.
@@ -261,22 +149,6 @@ P1 sns_dpn()
 8 P1 T1 sns_dpn() E_OK:0
 ";
     writes(&rt, rt.alloc(), MACHINE, events, trace)
-}
-
-/// The example of disabled dispatching.
-#[test]
-fn disabled_dispatching(rt: HostRuntime) -> Result<(), Fail> {
-    let config = b"\
-PROCESSORS(2);
-DEF_CLASS(C1, 1, {1, 2});
-DEF_CLASS(C2, 2, {1, 2});
-CLASS(C1) { CRE_TSK(T1, {TA_ACT, 0, main1, 10, 4096, NULL}); }
-CLASS(C2) {
-  CRE_TSK(T2, {TA_ACT, 0, main2, 10, 4096, NULL});
-  CRE_TSK(T3, {TA_NULL, 0, main3, 5, 4096, NULL});
-}
-";
-    writes(&rt, rt.alloc(), config, KEEPING_EVENTS, KEEPING_TRACE)
 }
 
 #[test]
@@ -433,7 +305,7 @@ fn checked(alloc: Global, config: &[u8], trace: &[u8]) -> Result<MemSink, RunFau
 }
 
 /// The verdict on what a run over memory writes: yes, of whatever texts, by the contracts of the two runs.
-fn verdict_on_own(alloc: Global, config: &[u8], events: &[u8]) -> Result<Verdict, RunFault>
+pub fn verdict_on_own(alloc: Global, config: &[u8], events: &[u8]) -> Result<Verdict, RunFault>
     ensures { IfOk result (λ verdict. verdict ≡ Verdict.Yes) }
 {
     let trace = run(alloc, config, events)?;
@@ -469,7 +341,7 @@ fn verdicts(rt: HostRuntime) -> Result<(), Fail> {
         ),
         (b"".as_slice(), b"yes\n".as_slice()),
     ] {
-        let written = checked(rt.alloc(), NEIGHBOUR, trace)?;
+        let written = checked(rt.alloc(), NEIGHBOURS, trace)?;
         assert_eq!(rt; written.bytes(), verdict);
     }
     assert_eq!(rt;
@@ -481,7 +353,7 @@ fn verdicts(rt: HostRuntime) -> Result<(), Fail> {
 
 #[test]
 fn refused_trace(rt: HostRuntime) -> Result<(), Fail> {
-    let Err(fault) = checked(rt.alloc(), NEIGHBOUR, b"2 P1 T1 act_tsk(T2) E_OK run=T2\n") else {
+    let Err(fault) = checked(rt.alloc(), NEIGHBOURS, b"2 P1 T1 act_tsk(T2) E_OK run=T2\n") else {
         return Err("the trace is refused")?;
     };
     assert_eq!(rt;

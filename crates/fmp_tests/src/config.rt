@@ -1,6 +1,6 @@
-use crate::{ConfigFault, ConfigKind, read_config};
 use fmp_calls::{NameKind, ObjectKind};
 use fmp_codes::{Pri, Proc};
+use fmp_config::{ConfigFault, ConfigKind, read_config};
 use std::alloc::{AllocError, Global};
 use std::test::Fail;
 
@@ -330,7 +330,7 @@ fn the_greatest_numbers_are_accepted(rt: HostRuntime) -> Result<(), Fail> {
         )
     );
     let mut text = Vec::from_slice(alloc, b"PROCESSORS(1);")?;
-    text.resize(crate::MOST_BYTES, b' ')?;
+    text.resize(1_048_576, b' ')?;
     assert!(rt; is_accepted(alloc, text.as_slice()));
     text.push(b' ')?;
     assert!(rt; is_refused(alloc, text.as_slice(), ConfigKind::TooMany, 0, ""));

@@ -1,34 +1,28 @@
 //! Traces as docs/FORMATS.md has them: one line of each form, texts that are refused, and traces that are checked.
-use crate::{Verdict, check, read_trace, trace_text};
+use crate::machines::{NEIGHBOURS, REMOTE, names_of};
 use fmp_calls::{NameKind, ObjectKind};
 use fmp_codes::{
     Answer, Call, Code, Event, Object, Proc, Record, Release, Releases, Requests, Runner,
     SystemCall, Task, TaskCall,
 };
 use fmp_config::read_config;
-use fmp_text::{Names, TextFault, TextKind, is_name, is_reserved};
+use fmp_text::{Names, TextFault, TextKind};
+use fmp_trace::{Verdict, check, read_trace, trace_text};
 use std::alloc::Global;
 use std::test::Fail;
 
-fn add(names: &mut Names, kind: ObjectKind, name: &[u8]) -> Result<(), Fail> {
-    let kind = NameKind::Object(kind);
-    let free = !is_reserved(name) && !names.contains_object(name);
-    if is_name(name) && free && names.has_room(kind) {
-        names.add(kind, name)?;
-    }
-    Ok(())
-}
-
 /// Three processors, three tasks, and an object of three other kinds.
 fn machine(rt: &HostRuntime) -> Result<Names, Fail> {
-    let mut names = Names::new(rt.alloc(), 3);
-    add(&mut names, ObjectKind::Task, b"T1")?;
-    add(&mut names, ObjectKind::Task, b"T2")?;
-    add(&mut names, ObjectKind::Task, b"T3")?;
-    add(&mut names, ObjectKind::Alarm, b"AL")?;
-    add(&mut names, ObjectKind::Cyclic, b"CY")?;
-    add(&mut names, ObjectKind::Semaphore, b"SE")?;
-    Ok(names)
+    let list = [
+        (ObjectKind::Task, b"T1".as_slice()),
+        (ObjectKind::Task, b"T2"),
+        (ObjectKind::Task, b"T3"),
+        (ObjectKind::Alarm, b"AL"),
+        (ObjectKind::Cyclic, b"CY"),
+        (ObjectKind::Semaphore, b"SE"),
+    ]
+    .map(|(kind, name)| (NameKind::Object(kind), name));
+    names_of(rt.alloc(), 3, &list)
 }
 
 /// A record with everything that a line can tell.
@@ -210,25 +204,6 @@ fn first_faults(rt: HostRuntime) -> Result<(), Fail> {
     }
     Ok(())
 }
-
-/// A task that runs, and one of higher priority on the same processor.
-const NEIGHBOURS: &[u8] = b"\
-PROCESSORS(2);
-DEF_CLASS(C1, 1, {1, 2});
-CLASS(C1) {
-  CRE_TSK(T1, {TA_ACT, 0, main1, 10, 4096, NULL});
-  CRE_TSK(T2, {TA_NULL, 0, main2, 5, 4096, NULL});
-}
-";
-
-/// A task that runs, and one of another processor.
-const REMOTE: &[u8] = b"\
-PROCESSORS(2);
-DEF_CLASS(C1, 1, {1, 2});
-DEF_CLASS(C2, 2, {1, 2});
-CLASS(C1) { CRE_TSK(T1, {TA_ACT, 0, main1, 10, 4096, NULL}); }
-CLASS(C2) { CRE_TSK(T2, {TA_NULL, 0, main2, 10, 4096, NULL}); }
-";
 
 #[test]
 fn verdicts_on_one_line(rt: HostRuntime) -> Result<(), Fail> {

@@ -1,5 +1,5 @@
-use super::*;
-use std::test::*;
+use fmp_tokens::{End, Token, TokenKind, read_tokens};
+use std::test::Fail;
 
 fn is_token(token: Option<&Token<'_>>, kind: TokenKind, text: &[u8], line: u32) -> bool {
     match token {

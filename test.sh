@@ -1,0 +1,119 @@
+#!/usr/bin/env bash
+# The whole test: rt ci, and then the two programs that it leaves, run as a user runs them. The last line counts both,
+# as 'N passed, M failed'. With --runs only the programs run, as they were built last.
+set -u
+exec < /dev/null
+top=$(dirname "$(realpath "${BASH_SOURCE[0]}")")
+room=$(mktemp -d) || exit 1
+trap 'rm -rf "$room"' EXIT
+cd "$room" || exit 1
+
+passed=0 failed=0
+late=$top/examples/late-interrupt
+
+# Runs rt ci and counts what its closing line counts. That line is passed on behind other words.
+prove() {
+    local closing='^([0-9]+) passed, ([0-9]+) failed$' status
+    (cd "$top" && rt ci) | tee gate | sed -u -E "s/$closing/rt ci: &/"
+    status=${PIPESTATUS[0]}
+    if [[ $(tail -n 1 gate) =~ $closing ]]; then
+        passed=${BASH_REMATCH[1]} failed=${BASH_REMATCH[2]}
+        ((status == 0 || failed > 0)) || failed=1
+    else
+        failed=1
+    fi
+}
+
+# count WELL WORD..: counts one run of the program on these words, and tells a failure.
+count() {
+    if [ "$1" = yes ]; then
+        passed=$((passed + 1))
+    else
+        failed=$((failed + 1))
+        printf 'FAILED: %s' "${program##*/}" && printf ' %q' "${@:2}" && echo
+    fi
+}
+
+# play WORD..: runs the program in so many KiB of memory, if $memory says how many, with its output into the file $to.
+play() {
+    ([ -z "${memory-}" ] || ulimit -v "$memory"; exec "$program" "$@") > "${to:-output}" 2> errors
+}
+
+# run STATUS OUTPUT ERRORS WORD..: the program on these words ends so, and writes what these two files have.
+run() {
+    local ended well=yes
+    : > output
+    play "${@:4}"
+    ended=$?
+    [ "$ended" = "$1" ] || { well=no && echo "status $ended in place of $1"; }
+    diff "$2" output || well=no
+    diff "$3" errors || well=no
+    count "$well" "${@:4}"
+}
+
+# usage STATUS TOLD SILENT WORD..: the program on these words ends so, tells its usage in one file, and the other is empty.
+usage() {
+    local well=no
+    play "${@:4}"
+    [ $? = "$1" ] && grep -q '^Usage: fmpsim' "$2" && [ ! -s "$3" ] && well=yes
+    count "$well" "${@:4}"
+}
+
+examples() {
+    local folder
+    for folder in "$top"/examples/*/; do
+        run 0 "$folder/trace.txt" /dev/null calls "$folder/machine.cfg" "$folder/events.txt"
+        run 0 <(echo yes) /dev/null check "$folder/machine.cfg" "$folder/trace.txt"
+    done
+}
+
+texts_at_fault() {
+    sed '3s/taken/none/' "$late/trace.txt" > changed.txt
+    printf 'P1 tick\nP3 tick\n' > events.txt
+    printf '1 P1 T1 tick taken' > cut.txt
+    printf 'PROCESSORS(1);\nCRE_SEM(S, {TA_NULL, 0, 1});\n' > word.cfg
+    printf 'PROCESSORS(9);\n' > number.cfg
+    run 5 <(echo no 3) /dev/null check "$late/machine.cfg" changed.txt
+    run 1 /dev/null <(echo fmpsim: events.txt: line 2: E5 number out of range) calls "$late/machine.cfg" events.txt
+    run 1 /dev/null <(echo fmpsim: cut.txt: line 1: E6 cut short) check "$late/machine.cfg" cut.txt
+    run 1 /dev/null <(echo fmpsim: word.cfg: line 2: F3 unsupported API CRE_SEM) calls word.cfg "$late/events.txt"
+    run 1 /dev/null <(echo fmpsim: number.cfg: line 1: F7 value out of range) check number.cfg "$late/trace.txt"
+}
+
+devices_that_fail() {
+    yes '#' | head -c 50000000 > long.txt
+    run 3 /dev/null <(echo fmpsim: read failed) calls missing "$late/events.txt"
+    run 3 /dev/null <(echo fmpsim: read failed) calls "$late/machine.cfg" missing
+    run 3 /dev/null <(echo fmpsim: read failed) check missing "$late/trace.txt"
+    run 3 /dev/null <(echo fmpsim: read failed) check "$late/machine.cfg" missing
+    to=/dev/full run 3 /dev/null <(echo fmpsim: write failed) calls "$late/machine.cfg" "$late/events.txt"
+    to=/dev/full run 3 /dev/null <(echo fmpsim: write failed) check "$late/machine.cfg" "$late/trace.txt"
+    memory=40000 run 4 /dev/null <(echo fmpsim: want of memory) calls "$late/machine.cfg" long.txt
+    memory=40000 run 4 /dev/null <(echo fmpsim: want of memory) check "$late/machine.cfg" long.txt
+}
+
+command_lines() {
+    run 2 /dev/null <(echo fmpsim: a word of the command line is not UTF-8) calls "$late/machine.cfg" $'\xff'
+    usage 2 errors output
+    usage 2 errors output call "$late/machine.cfg" "$late/events.txt"
+    usage 2 errors output calls "$late/machine.cfg"
+    usage 2 errors output calls "$late/machine.cfg" "$late/events.txt" more
+    usage 2 errors output check "$late/machine.cfg" "$late/trace.txt" more
+    usage 0 output errors --help
+    usage 0 output errors calls --help
+    usage 0 output errors check --help
+}
+
+[ "${1-}" = --runs ] || prove
+for program in "$top"/crates/fmpsim/out/fmpsim{,.by-rattle}; do
+    if [ -x "$program" ]; then
+        examples
+        texts_at_fault
+        devices_that_fail
+        command_lines
+    else
+        count no is not built
+    fi
+done
+echo "$passed passed, $failed failed"
+[ "$failed" -eq 0 ]
