@@ -1,5 +1,5 @@
 -- An error is told as the fault that reading gives.
-use Rattle.std.proofs.Common.{◌≡◌, ◌⊎◌, List, Result, Err, refl, inl, inr}
+use Rattle.std.proofs.Common.{◌≡◌, ◌⊎◌, List, Result, refl, inl, inr}
 use Rattle.fmp_tokens.specs.Lexing.{Lexeme}
 use Rattle.fmp_statements.specs.declared.fault.Fault.{Fault}
 use Rattle.fmp_config.specs.declared.fault.ConfigFault.{ConfigFault}

@@ -4,7 +4,6 @@ use Rattle.std.specs.Str.{is_utf8}
 use Rattle.fmp_tokens.specs.Lexing.{Lexeme, lexed_text}
 use Rattle.fmp_statements.specs.Cursor.{first_text, is_word_next}
 use Rattle.fmp_statements.specs.declared.fault.Fault.{Fault}
-use Rattle.fmp_statements.specs.declared.fault.ConfigKind.{ConfigKind}
 use Rattle.fmp_statements.specs.declared.fault.ConfigKind.TheVariants.{Memory}
 use Rattle.fmp_statements.specs.Faults.{code_of, words_of}
 use Rattle.fmp_config.specs.declared.fault.ConfigFault.{ConfigFault}
