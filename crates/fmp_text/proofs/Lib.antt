@@ -1,3 +1,4 @@
+pub mod ConstantWords
 pub mod Judged
 pub mod Limited
 pub mod Listed

@@ -1,7 +1,6 @@
 -- What a text spells is on the processors of the names, and its arguments are within their kinds' bits.
-use Rattle.std.proofs.Common.{◌≡◌, ℕ, zero, suc, ◌-◌, ◌<◌, ◌≤◌, ◌^◌, ℤ, pos, negsuc, Bool, true, false, not, ◌&&◌, ◌||◌, cond, eqb, leb, ltb, inl, inr, List, [], ◌∷◌, Option, Some, None, option_map, refl, sym, ap, subst, arith}
-use Rattle.std.specs.Prelude.{All, codes}
-use Rattle.std.specs.Str.{bytes_eq}
+use Rattle.std.proofs.Common.{◌≡◌, ℕ, zero, suc, ◌-◌, ◌<◌, ◌≤◌, ◌^◌, ℤ, pos, negsuc, Bool, true, false, not, ◌&&◌, ◌||◌, eqb, leb, ltb, inl, inr, List, [], ◌∷◌, Option, Some, None, option_map, refl, sym, ap, subst, arith}
+use Rattle.std.specs.Prelude.{All}
 use Rattle.std.proofs.lemmas.Bool.{and_parts, leb-true, ltb-true}
 use Rattle.std.proofs.lemmas.List.Elements.{All-nil, All-cons}
 use Rattle.std.proofs.lemmas.Option.{slice_get_within}
@@ -22,12 +21,15 @@ use Rattle.fmp_calls.specs.declared.kinds.ObjectKind.{ObjectKind}
 use Rattle.fmp_calls.specs.declared.kinds.ObjectKind.TheVariants as objects
 use Rattle.fmp_calls.specs.declared.kinds.Value.{Value}
 use Rattle.fmp_calls.specs.declared.kinds.Value.TheVariants as values
-use Rattle.fmp_text.specs.Argument.{ranged, number32, constant_of, zero_if}
+use Rattle.fmp_text.specs.declared.constants.Constant.{Constant}
+use Rattle.fmp_text.specs.declared.constants.Constant.TheVariants.{TskSelf, TpriSelf, TpriIni, TprcIni, TmoPol, TmoFevr, TwfAndw, TwfOrw}
+use Rattle.fmp_text.specs.Argument.{ranged, number32, constant_of}
+use Rattle.fmp_text.specs.Constants.{constant_in, value_of}
 use Rattle.fmp_text.specs.Events.{reading_of, faultless}
 use Rattle.fmp_text.specs.Grammar.{IsObjectName, SpellsValue, SpellsPieces, SpellsArguments, SpellsCall}
 use Rattle.fmp_text.specs.Names.{NameLists, AreValid, names_of}
 use Rattle.fmp_text.specs.TextGrammar.{OnProcessor, SpellsEvent, SpellsLines}
-use Rattle.fmp_text.proofs.Parsed.{tested_some}
+use Rattle.fmp_text.proofs.Parsed.{and_then_parts, tested_some}
 use Rattle.fmp_text.proofs.Placed.{numbered}
 use Rattle.fmp_text.proofs.SpelledTexts.{text_is_spelled}
 
@@ -66,28 +68,22 @@ ranged_in_bits kinds.Mode negative m value e = absurd cc
 ranged_in_bits (kinds.Object k) negative m value e = number32_in_bits negative m value e
 ranged_in_bits _ negative m value e = number32_in_bits negative m value e
 
-zero_in_bits : (b : Bool) (value : Value) → zero_if b ≡ Some value → IsInBits value
-zero_in_bits b value e =
-    let t = tested_some b (values.Number (pos 0)) value e in
-    subst IsInBits t.1 (omega arith)
-
--- one of two words
-word_in_bits : (a b : Bool) (x y value : Value) → IsInBits x → IsInBits y → cond a (Some x) (cond b (Some y) None) ≡ Some value → IsInBits value
-word_in_bits true b x y value f g e = let same : x ≡ value = cc in subst IsInBits same f
-word_in_bits false true x y value f g e = let same : y ≡ value = cc in subst IsInBits same g
-word_in_bits false false x y value f g e = absurd cc
+meaning_in_bits : (constant : Constant) (kind : ArgumentKind) (value : Value) → value_of constant kind ≡ Some value → IsInBits value
+meaning_in_bits TskSelf (kinds.Object objects.Task) value e = let same : values.Number (pos 0) ≡ value = cc in subst IsInBits same (omega arith)
+meaning_in_bits TpriSelf kinds.Priority value e = let same : values.Number (pos 0) ≡ value = cc in subst IsInBits same (omega arith)
+meaning_in_bits TpriIni kinds.Priority value e = let same : values.Number (pos 0) ≡ value = cc in subst IsInBits same (omega arith)
+meaning_in_bits TprcIni kinds.Processor value e = let same : values.Number (pos 0) ≡ value = cc in subst IsInBits same (omega arith)
+meaning_in_bits TmoPol kinds.Timeout value e = let same : values.Number (pos 0) ≡ value = cc in subst IsInBits same (omega arith)
+meaning_in_bits TmoFevr kinds.Timeout value e = let same : values.Number (negsuc 0) ≡ value = cc in subst IsInBits same (omega arith)
+meaning_in_bits TwfAndw kinds.Mode value e = let same : values.Mode modes.Andw ≡ value = cc in subst IsInBits same tt
+meaning_in_bits TwfOrw kinds.Mode value e = let same : values.Mode modes.Orw ≡ value = cc in subst IsInBits same tt
+meaning_in_bits _ _ value e = absurd cc
 
 constant_in_bits : (kind : ArgumentKind) (word : List ℕ) (value : Value) → constant_of kind word ≡ Some value → IsInBits value
 unfolding constant_of
-constant_in_bits (kinds.Object objects.Task) word value e = zero_in_bits _ value e
-constant_in_bits (kinds.Object _) word value e = absurd cc
-constant_in_bits kinds.Priority word value e = zero_in_bits _ value e
-constant_in_bits kinds.Processor word value e = zero_in_bits _ value e
-constant_in_bits kinds.Timeout word value e =
-    word_in_bits (bytes_eq word (codes "TMO_POL")) (bytes_eq word (codes "TMO_FEVR")) (values.Number (pos 0)) (values.Number (negsuc 0)) value (omega arith) (omega arith) e
-constant_in_bits kinds.Mode word value e =
-    word_in_bits (bytes_eq word (codes "TWF_ANDW")) (bytes_eq word (codes "TWF_ORW")) (values.Mode modes.Andw) (values.Mode modes.Orw) value tt tt e
-constant_in_bits _ word value e = absurd cc
+constant_in_bits kind word value e =
+    let p = and_then_parts (constant_in word) (λ c. value_of c kind) value e in
+    meaning_in_bits p.0 kind value p.2
 
 most_of-le : (kind : ObjectKind) → most_of kind ≤ 64
 most_of-le objects.Task = omega arith

@@ -3,23 +3,22 @@ use Rattle.std.proofs.Common.{◌≡◌, ℕ, pos, true, false, ◌||◌, ◌⊎
 use Rattle.std.specs.Prelude.{codes}
 use Rattle.std.specs.Option.{ok_or, option_map_or, option_or}
 use Rattle.std.specs.Str.{bytes_eq}
-use Rattle.std.proofs.lemmas.Bool.{cases_Bool, or_cases, and_parts, false≢true}
-use Rattle.std.proofs.lemmas.Slice.Eq.{bytes_eq-Decides}
+use Rattle.std.proofs.lemmas.Bool.{cases_Bool, and_parts, false≢true}
 use Rattle.fmp_bytes.specs.declared.numerals.Number.{Number}
-use Rattle.fmp_bytes.specs.Bytes.{is_of, is_identifier}
+use Rattle.fmp_bytes.specs.Bytes.{is_identifier}
 use Rattle.fmp_bytes.specs.Numerals.{number_of}
 use Rattle.fmp_bytes.proofs.Spelled.{number_of-spelled, number_is_spelled, number_of-identifier}
 use Rattle.fmp_calls.specs.declared.kinds.ArgumentKind.{ArgumentKind}
 use Rattle.fmp_calls.specs.declared.kinds.ArgumentKind.TheVariants as kinds
-use Rattle.fmp_calls.specs.declared.kinds.ObjectKind.TheVariants as objects
 use Rattle.fmp_calls.specs.declared.kinds.NameKind.TheVariants as name_kinds
 use Rattle.fmp_calls.specs.declared.kinds.Value.{Value}
 use Rattle.fmp_calls.specs.declared.kinds.Value.TheVariants as values
 use Rattle.fmp_text.specs.declared.fault.TextKind.TheVariants.{NumberOutOfRange, WrongArguments, UnknownName}
 use Rattle.fmp_text.specs.Names.{NameLists, AreValid, is_name, is_reserved, is_constant, is_object, is_processor_word}
 use Rattle.fmp_text.specs.Names.{number_of as number_of_name}
-use Rattle.fmp_text.specs.Argument.{is_argument, ranged, number_value, judged_number, constant_of, object_of, named_value, value_at, zero_if}
+use Rattle.fmp_text.specs.Argument.{is_argument, ranged, number_value, judged_number, constant_of, object_of, named_value, value_at}
 use Rattle.fmp_text.specs.Grammar.{IsNumber, IsObjectName, SpellsValue}
+use Rattle.fmp_text.proofs.ConstantWords.{constant_word}
 use Rattle.fmp_text.proofs.Placed.{number_of-name_of, name_of-number_of, object_name}
 
 -- ---- numbers
@@ -67,42 +66,6 @@ value_at-number names kind token value s =
     (rw read (or_from_right (is_identifier token)), rw read here)
 
 -- ---- constants
-
-zero_word : (is_zero : Bool) (value : Value) → zero_if is_zero ≡ Some value → is_zero ≡ true
-zero_word true value e = refl
-zero_word false value e = absurd cc
-
--- the word is one of two
-either_word : (a b : Bool) (x y value : Value) → cond a (Some x) (cond b (Some y) None) ≡ Some value → (a ≡ true) ⊎ (b ≡ true)
-either_word true b x y value e = inl refl
-either_word false true x y value e = inr refl
-either_word false false x y value e = absurd cc
-
-is_word : (word text : List ℕ) → bytes_eq word text ≡ true → word ≡ text
-is_word word text e = (bytes_eq-Decides word text).0 e
-
--- a constant of a kind is an identifier and one of the constants
-constant_word : (kind : ArgumentKind) (word : List ℕ) (value : Value) → constant_of kind word ≡ Some value → (is_identifier word ≡ true) × (is_constant word ≡ true)
-unfolding constant_of is_constant is_of
-constant_word (kinds.Object objects.Task) word value e = rw (is_word word (codes "TSK_SELF") (zero_word _ value e)) (refl, refl)
-constant_word (kinds.Object _) word value e = absurd cc
-constant_word kinds.Priority word value e =
-    elim (or_cases (bytes_eq word (codes "TPRI_SELF")) (bytes_eq word (codes "TPRI_INI")) (zero_word _ value e)) [
-      | inl t ↦ rw (is_word word (codes "TPRI_SELF") t) (refl, refl)
-      | inr t ↦ rw (is_word word (codes "TPRI_INI") t) (refl, refl)
-    ]
-constant_word kinds.Processor word value e = rw (is_word word (codes "TPRC_INI") (zero_word _ value e)) (refl, refl)
-constant_word kinds.Timeout word value e =
-    elim (either_word (bytes_eq word (codes "TMO_POL")) (bytes_eq word (codes "TMO_FEVR")) _ _ value e) [
-      | inl t ↦ rw (is_word word (codes "TMO_POL") t) (refl, refl)
-      | inr t ↦ rw (is_word word (codes "TMO_FEVR") t) (refl, refl)
-    ]
-constant_word kinds.Mode word value e =
-    elim (either_word (bytes_eq word (codes "TWF_ANDW")) (bytes_eq word (codes "TWF_ORW")) _ _ value e) [
-      | inl t ↦ rw (is_word word (codes "TWF_ANDW") t) (refl, refl)
-      | inr t ↦ rw (is_word word (codes "TWF_ORW") t) (refl, refl)
-    ]
-constant_word _ word value e = absurd cc
 
 value_at-constant : (names : NameLists) (kind : ArgumentKind) (token : List ℕ) (value : Value) → constant_of kind token ≡ Some value → (is_argument token ≡ true) × (value_at names kind token ≡ Ok value)
 unfolding is_argument value_at named_value

@@ -24,12 +24,12 @@ use Rattle.fmp_text.specs.declared.fault.TextKind.TheVariants.{BadByte, BadWord,
 use Rattle.fmp_text.specs.Names.{NameLists, AreValid}
 use Rattle.fmp_calls.specs.Table.{text_of}
 use Rattle.fmp_text.specs.Reading.{call_at}
-use Rattle.fmp_text.specs.Lines.{in_processors, digits_of, processor_in, alone, event_of, event_at, event_in}
+use Rattle.fmp_text.specs.Lines.{in_processors, digits_of, processor_numbered, processor_in, alone, event_of, event_at, event_in}
 use Rattle.fmp_text.specs.Grammar.{AreBlank, SpellsCall}
 use Rattle.fmp_text.specs.TextGrammar.{IsAlone, OnProcessor, SpellsEvent}
 use Rattle.fmp_bytes.proofs.Tokens.{identifier_bytes}
 use Rattle.fmp_calls.proofs.Matched.{no_tick, no_ipi, is_identifier-text_of}
-use Rattle.fmp_text.proofs.Parsed.{bind_parts, ok_or_parts, tested_ok}
+use Rattle.fmp_text.proofs.Parsed.{bind_parts, ok_or_parts, tested_ok, tested_some}
 use Rattle.fmp_text.proofs.SpelledCalls.{not-word, call_at-spelled, call_at_is_spelled, word_of_call, line_of_call}
 
 -- ---- the processor
@@ -53,7 +53,7 @@ word_bytes n lt =
     and_from (is_of Word 80) (list_all (is_of Word) (decimal n)) refl (list_all-weaker (λ b. is_digit b 10) (is_of Word) (λ b h. word-digit 10 b (omega arith) h) (decimal n) (list_all-digits 10 (decimal n) numeral.0.1))
 
 processor_read : (names : NameLists) (n : ℕ) → 1 ≤ n → n ≤ names.processors → names.processors ≤ 8 → processor_in names (80 ∷ decimal n) ≡ Ok (as_proc n)
-unfolding processor_in digits_of in_processors
+unfolding processor_in digits_of processor_numbered in_processors
 processor_read names n least most few =
     let lt : n < 2 ^ 64 = omega (arith, most, few) in
     let digits = digits_are n lt in
@@ -71,26 +71,25 @@ digits_parts word digits (Some ds) h e =
       | inr f ↦ let e2 = rw f at e in absurd cc
     ]
 
-number_parts : (most : ℕ) (found : Option ℕ) (processor : Proc) → in_processors most found ≡ Ok processor → (n : ℕ) × (found ≡ Some n) × (1 ≤ n) × (n ≤ most) × (processor ≡ as_proc n)
+number_parts : (most : ℕ) (found : Option ℕ) (processor : Proc) → in_processors most found ≡ Some processor → (n : ℕ) × (found ≡ Some n) × (1 ≤ n) × (n ≤ most) × (processor ≡ as_proc n)
 unfolding in_processors
 number_parts most None processor e = absurd cc
 number_parts most (Some n) processor e =
-    let t = tested_ok (leb 1 n && leb n most) (Ok (as_proc n)) NumberOutOfRange processor e in
+    let t = tested_some (leb 1 n && leb n most) (as_proc n) processor e in
     let p = and_parts (leb 1 n) (leb n most) t.0 in
-    let same : as_proc n ≡ processor = let e2 = t.1 in cc in
-    (n, refl, leb-true 1 n p.0, leb-true n most p.1, sym same)
+    (n, refl, leb-true 1 n p.0, leb-true n most p.1, sym t.1)
 
 zero_led_parts : (led : Bool) (read : Result Proc TextKind) (processor : Proc) → cond led (Err NumberOutOfRange) read ≡ Ok processor → (led ≡ false) × (read ≡ Ok processor)
 zero_led_parts true read processor e = absurd cc
 zero_led_parts false read processor e = (refl, e)
 
 processor_spelled : (names : NameLists) (word : List ℕ) (processor : Proc) → processor_in names word ≡ Ok processor → IsProcessorWord names word processor
-unfolding processor_in digits_of
+unfolding processor_in digits_of processor_numbered
 processor_spelled names word processor e =
     let p = bind_parts (ok_or (digits_of word) BadWord) _ processor e in
     let d = digits_parts word p.0 (behind 80 word) refl (ok_or_parts (digits_of word) BadWord p.0 p.1) in
-    let z = zero_led_parts (is_zero_led p.0) (in_processors names.processors (magnitude_of 10 p.0)) processor p.2 in
-    let n = number_parts names.processors (magnitude_of 10 p.0) processor z.1 in
+    let z = zero_led_parts (is_zero_led p.0) (ok_or (processor_numbered names p.0) NumberOutOfRange) processor p.2 in
+    let n = number_parts names.processors (magnitude_of 10 p.0) processor (ok_or_parts (processor_numbered names p.0) NumberOutOfRange processor z.1) in
     let m = magnitude_of-some 10 p.0 n.0 n.1 in
     let digits = digits_from 10 p.0 d.1 in
     let canonical = decimal-digits_value own p.0 digits.1 digits.0 (zero_alone p.0 digits.0 z.0) (omega (arith, m)) in

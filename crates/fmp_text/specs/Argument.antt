@@ -1,16 +1,13 @@
 -- The arguments of a call: their form, and the values that they stand for.
-use Rattle.std.specs.Prelude.{ℕ, pos, negsuc, ◌^◌, Bool, ◌&&◌, ◌||◌, List, [], ◌∷◌, length, Option, Some, None, option_map, option_and_then, is_some, Result, Ok, Err, nat_le, if◌then◌else◌, codes}
+use Rattle.std.specs.Prelude.{ℕ, pos, ◌^◌, Bool, ◌&&◌, ◌||◌, List, [], ◌∷◌, length, Option, Some, None, option_map, option_and_then, is_some, Result, Ok, Err, nat_le, if◌then◌else◌}
 use Rattle.std.specs.List.{list_all}
 use Rattle.std.specs.Option.{ok_or, option_map_or, option_or}
-use Rattle.std.specs.Str.{bytes_eq}
-use Rattle.fmp_codes.specs.declared.calls.Mode.TheVariants.{Andw, Orw}
 use Rattle.fmp_bytes.specs.declared.classes.Class.TheVariants.{Blank, Argument}
 use Rattle.fmp_bytes.specs.declared.numerals.Number.{Number}
 use Rattle.fmp_bytes.specs.Bytes.{is_of, front, after, behind, cut_at, pieces_of, is_identifier}
 use Rattle.fmp_bytes.specs.Numerals.{number_of, signed_of, unsigned_limited}
 use Rattle.fmp_calls.specs.declared.kinds.ArgumentKind.{ArgumentKind}
 use Rattle.fmp_calls.specs.declared.kinds.ArgumentKind.TheVariants as kinds
-use Rattle.fmp_calls.specs.declared.kinds.ObjectKind.TheVariants as objects
 use Rattle.fmp_calls.specs.declared.kinds.NameKind.TheVariants as names
 use Rattle.fmp_calls.specs.declared.kinds.Value.{Value}
 use Rattle.fmp_calls.specs.declared.kinds.Value.TheVariants as values
@@ -18,6 +15,7 @@ use Rattle.fmp_text.specs.declared.fault.TextKind.{TextKind}
 use Rattle.fmp_text.specs.declared.fault.TextKind.TheVariants.{UnknownName, WrongArguments, NumberOutOfRange}
 use Rattle.fmp_text.specs.Names.{number_of as number_of_name}
 use Rattle.fmp_text.specs.Names.{NameLists, is_object, is_constant}
+use Rattle.fmp_text.specs.Constants.{constant_in, value_of}
 
 -- reading goes on with a value that is there
 infixl 10 ◌>>=◌
@@ -88,26 +86,11 @@ ranged kinds.Block negative magnitude = number32 negative magnitude
 unfoldable pub number_value : ArgumentKind → Number → Option Value
 number_value kind number = if number.zero_led then None else option_and_then (ranged kind number.negative) number.magnitude
 
--- 0, where a word stands for it
-abbrev pub zero_if : Bool → Option Value
-zero_if is_zero = if is_zero then Some (values.Number (pos 0)) else None
-
--- the words for a timeout: not to wait, and to wait for ever
-abbrev pub timeout_of : List ℕ → Option Value
-timeout_of word = if bytes_eq word (codes "TMO_POL") then Some (values.Number (pos 0)) else (if bytes_eq word (codes "TMO_FEVR") then Some (values.Number (negsuc 0)) else None)
-
--- the words for a mode
-abbrev pub mode_of : List ℕ → Option Value
-mode_of word = if bytes_eq word (codes "TWF_ANDW") then Some (values.Mode Andw) else (if bytes_eq word (codes "TWF_ORW") then Some (values.Mode Orw) else None)
-
--- the constants of a kind
+-- the value of a constant of this kind
 unfoldable pub constant_of : ArgumentKind → List ℕ → Option Value
-constant_of (kinds.Object objects.Task) word = zero_if (bytes_eq word (codes "TSK_SELF"))
-constant_of kinds.Priority word = zero_if (bytes_eq word (codes "TPRI_SELF") || bytes_eq word (codes "TPRI_INI"))
-constant_of kinds.Processor word = zero_if (bytes_eq word (codes "TPRC_INI"))
-constant_of kinds.Timeout word = timeout_of word
-constant_of kinds.Mode word = mode_of word
-constant_of _ word = None
+constant_of kind word = do
+  constant ← constant_in word
+  value_of constant kind
 
 -- the objects of a kind
 unfoldable pub object_of : NameLists → ArgumentKind → List ℕ → Option Value

@@ -1,4 +1,5 @@
 pub mod Argument
+pub mod Constants
 pub mod Events
 pub mod Faults
 pub mod Grammar

@@ -16,9 +16,13 @@ use Rattle.fmp_text.specs.Names.{NameLists}
 use Rattle.fmp_text.specs.Reading.{◌>>=◌, call_at}
 
 -- the processor of a number from 1 to how many there are
-unfoldable pub in_processors : ℕ → Option ℕ → Result Proc TextKind
-in_processors most None = Err NumberOutOfRange
-in_processors most (Some number) = if nat_le 1 number && nat_le number most then Ok (as_proc number) else Err NumberOutOfRange
+unfoldable pub in_processors : ℕ → Option ℕ → Option Proc
+in_processors most None = None
+in_processors most (Some number) = if nat_le 1 number && nat_le number most then Some (as_proc number) else None
+
+-- the processor whose number these digits are
+unfoldable pub processor_numbered : NameLists → List ℕ → Option Proc
+processor_numbered names digits = in_processors names.processors (magnitude_of 10 digits)
 
 -- `P` and decimal digits
 unfoldable pub digits_of : List ℕ → Option (List ℕ)
@@ -28,7 +32,7 @@ digits_of word = option_map_or (λ digits. if are_digits 10 digits then Some dig
 unfoldable pub processor_in : NameLists → List ℕ → Result Proc TextKind
 processor_in names word = do
   digits ← ok_or (digits_of word) BadWord
-  if is_zero_led digits then Err NumberOutOfRange else in_processors names.processors (magnitude_of 10 digits)
+  if is_zero_led digits then Err NumberOutOfRange else ok_or (processor_numbered names digits) NumberOutOfRange
 
 -- an event without arguments, with what follows its word
 abbrev pub alone : Event → List ℕ → Result Event TextKind

@@ -4,6 +4,7 @@ ghost use Rattle.std.specs.Option.{option_copied};
 ghost use Rattle.fmp_bytes.specs.Bytes.{pieces_of};
 ghost use Rattle.fmp_text.specs.Argument as spec;
 
+use crate::constants::constant_in;
 use crate::fault::TextKind;
 use crate::names::{Names, is_constant};
 use arrayvec::ArrayVec;
@@ -11,8 +12,7 @@ use fmp_bytes::{
     Class, Number, all_of, behind, cut, is_identifier, signed32, signed64, skip, spelled_number,
     split_front, unsigned32,
 };
-use fmp_calls::{ArgumentKind, MOST_ARGUMENTS, ObjectKind, Value};
-use fmp_codes::Mode;
+use fmp_calls::{ArgumentKind, MOST_ARGUMENTS, Value};
 
 /// Whether the text has the form of an argument: an identifier or a number.
 #[tactic(auto, unfolding(crate::specs::Argument::is_argument))]
@@ -127,56 +127,12 @@ fn judged_number(kind: ArgumentKind, number: Number) -> Result<Value, TextKind>
     }
 }
 
-fn timeout(word: &[u8]) -> Option<Value>
-    ensures { result ≡ spec.timeout_of word.now }
-{
-    if word == b"TMO_POL".as_slice() {
-        Some(Value::Number(0))
-    } else if word == b"TMO_FEVR".as_slice() {
-        Some(Value::Number(-1))
-    } else {
-        None
-    }
-}
-
-fn mode(word: &[u8]) -> Option<Value>
-    ensures { result ≡ spec.mode_of word.now }
-{
-    if word == b"TWF_ANDW".as_slice() {
-        Some(Value::Mode(Mode::Andw))
-    } else if word == b"TWF_ORW".as_slice() {
-        Some(Value::Mode(Mode::Orw))
-    } else {
-        None
-    }
-}
-
-/// 0, where the word is one of those that stand for it.
-fn zero(is_zero: bool) -> Option<Value>
-    ensures { result ≡ spec.zero_if is_zero }
-{
-    if is_zero {
-        Some(Value::Number(0))
-    } else {
-        None
-    }
-}
-
 /// The value of a constant of this kind.
 #[tactic(auto, unfolding(crate::specs::Argument::constant_of))]
-pub fn constant(kind: ArgumentKind, word: &[u8]) -> Option<Value>
+fn constant(kind: ArgumentKind, word: &[u8]) -> Option<Value>
     ensures { result ≡ spec.constant_of kind word.now }
 {
-    match kind {
-        ArgumentKind::Object(ObjectKind::Task) => zero(word == b"TSK_SELF".as_slice()),
-        ArgumentKind::Priority => {
-            zero(word == b"TPRI_SELF".as_slice() || word == b"TPRI_INI".as_slice())
-        }
-        ArgumentKind::Processor => zero(word == b"TPRC_INI".as_slice()),
-        ArgumentKind::Timeout => timeout(word),
-        ArgumentKind::Mode => mode(word),
-        _ => None,
-    }
+    constant_in(word)?.value(kind)
 }
 
 #[tactic(auto, unfolding(crate::specs::Argument::object_of))]

@@ -5,8 +5,8 @@ ghost use Rattle.fmp_codes.specs.declared.records.Event.{Event};
 ghost use Rattle.fmp_calls.specs.declared.kinds.ArgumentKind.{ArgumentKind};
 ghost use Rattle.fmp_calls.specs.declared.kinds.NameKind.{NameKind};
 ghost use Rattle.fmp_calls.specs.declared.kinds.Value.{Value};
-ghost use Rattle.fmp_text.specs.Names.{NameLists, AreValid, name_of, number_of};
-ghost use Rattle.fmp_text.specs.Argument.{is_argument, value_at};
+ghost use Rattle.fmp_text.specs.Names.{NameLists, AreValid, is_constant, name_of, number_of};
+ghost use Rattle.fmp_text.specs.Argument.{constant_of, is_argument, value_at};
 ghost use Rattle.fmp_text.specs.Reading.{call_in};
 ghost use Rattle.fmp_text.specs.Lines.{line_event};
 ghost use Rattle.fmp_text.specs.Events.{HasNoFeed, after_line, reading_of, reading_from, faultless};
@@ -19,6 +19,14 @@ pub fn names_and_numbers_agree()
         → name_of names kind number ≡ Some name → number_of names kind name ≡ Some number }
     ensures names { (names : NameLists) (kind : NameKind) (number : ℕ) (name : List ℕ)
         → number_of names kind name ≡ Some number → name_of names kind number ≡ Some name }
+{}
+
+/// A word is a constant exactly where it is one of some kind.
+pub fn constants_have_a_kind()
+    ensures kind { (word : List ℕ) → is_constant word ≡ true
+        → (kind : ArgumentKind) × (value : Value) × (constant_of kind word ≡ Some value) }
+    ensures constant { (kind : ArgumentKind) (word : List ℕ) (value : Value)
+        → constant_of kind word ≡ Some value → is_constant word ≡ true }
 {}
 
 /// What spells a value is an argument, and is read as that value.

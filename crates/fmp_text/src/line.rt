@@ -10,14 +10,22 @@ use fmp_bytes::{Class, all_of, are_digits, behind, is_zero_led, magnitude, skip,
 use fmp_codes::{Event, Proc};
 
 #[tactic(auto, unfolding(crate::specs::Lines::in_processors))]
-fn in_processors(most: u8, number: Option<u64>) -> Result<Proc, TextKind>
+fn in_processors(most: u8, number: Option<u64>) -> Option<Proc>
     requires { most ≤ 8 }
     ensures { result ≡ spec.in_processors most number }
 {
     match number {
-        Some(number) if 1 <= number && number <= u64::from(most) => Ok(Proc::new(number as u8)),
-        _ => Err(TextKind::NumberOutOfRange),
+        Some(number) if 1 <= number && number <= u64::from(most) => Some(Proc::new(number as u8)),
+        _ => None,
     }
+}
+
+/// The processor whose number these decimal digits are, where there is such a processor.
+#[tactic(auto, unfolding(crate::specs::Lines::processor_numbered))]
+pub fn processor_numbered(names: &Names, digits: &[u8]) -> Option<Proc>
+    ensures { result ≡ spec.processor_numbered names.now digits.now }
+{
+    in_processors(names.processors(), magnitude(10, digits))
 }
 
 #[tactic(auto, unfolding(crate::specs::Lines::digits_of))]
@@ -41,7 +49,7 @@ fn processor_in(names: &Names, word: &[u8]) -> Result<Proc, TextKind>
     if is_zero_led(digits) {
         return Err(TextKind::NumberOutOfRange);
     }
-    in_processors(names.processors(), magnitude(10, digits))
+    processor_numbered(names, digits).ok_or(TextKind::NumberOutOfRange)
 }
 
 fn alone(event: Event, rest: &[u8]) -> Result<Event, TextKind>

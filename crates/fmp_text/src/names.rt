@@ -7,6 +7,7 @@ ghost use Rattle.fmp_calls.specs.declared.kinds.ObjectKind.{ObjectKind};
 ghost use Rattle.fmp_calls.specs.Kinds.{most_of};
 ghost use Rattle.fmp_text.specs.Names as spec;
 
+use crate::constants::constant_in;
 use fmp_bytes::{are_digits, behind, is_identifier};
 use fmp_calls::{NameKind, ObjectKind};
 use indexmap::IndexSet;
@@ -48,14 +49,7 @@ pub fn is_name(text: &[u8]) -> bool
 pub fn is_constant(word: &[u8]) -> bool
     ensures { result ≡ spec.is_constant word.now }
 {
-    word == b"TSK_SELF".as_slice()
-        || word == b"TPRI_SELF".as_slice()
-        || word == b"TPRI_INI".as_slice()
-        || word == b"TPRC_INI".as_slice()
-        || word == b"TMO_POL".as_slice()
-        || word == b"TMO_FEVR".as_slice()
-        || word == b"TWF_ANDW".as_slice()
-        || word == b"TWF_ORW".as_slice()
+    constant_in(word).is_some()
 }
 
 #[tactic(auto, unfolding(crate::specs::Names::is_processor_word))]

@@ -15,13 +15,14 @@ use Rattle.fmp_bytes.specs.declared.classes.Class.TheVariants.{Word}
 use Rattle.fmp_bytes.specs.Bytes.{front, after, behind, cut_at, pieces_of}
 use Rattle.fmp_calls.specs.Arguments.{EventInBits}
 use Rattle.fmp_calls.specs.declared.kinds.ObjectKind.TheVariants as objects
+use Rattle.fmp_text.specs.Lines.{processor_numbered}
 use Rattle.fmp_text.specs.Names.{NameLists, AreValid}
 use Rattle.fmp_text.specs.Reading.{call_in}
 use Rattle.fmp_text.proofs.Parsed.{and_then_parts, tested_some}
 use Rattle.fmp_trace.specs.Fits.{IsNamed, RunnerFits, ReleasesFit, FitsNames}
 use Rattle.fmp_trace.specs.Guess.{with_release, with_lost, with_run_change, with_requests, with_part, with_word, with_words, words_left, read, guess_answer, guess_call, guess_event, guess_runner, guess_processor, guess}
-use Rattle.fmp_trace.specs.GuessParts.{processor_in, signed_in, task_in, coded_in, answer_in, runner_in, release_in, running_in, request_in, requests_in}
-use Rattle.fmp_trace.proofs.FittingParts.{signed_in-fits, processor_in-fits, task_in-fits, running_in-fits, runner_in-fits, coded_in-fits, answer_in-fits, call-fits}
+use Rattle.fmp_trace.specs.GuessParts.{signed_in, task_in, coded_in, answer_in, runner_in, release_in, running_in, request_in, requests_in}
+use Rattle.fmp_trace.proofs.FittingParts.{signed_in-fits, processor_numbered-fits, task_in-fits, running_in-fits, runner_in-fits, coded_in-fits, answer_in-fits, call-fits}
 
 -- ---- what stands behind the answer
 
@@ -80,10 +81,10 @@ unfolding AddsAscending request_in
 requests_ascend names least front all [] valid e = let same : front ≡ all = cc in ([], sym same ∙ sym (append-nil front), tt)
 requests_ascend names least front all (piece ∷ pieces) valid e =
     let p = and_then_parts (request_in names least piece) _ all e in
-    let one = and_then_parts (processor_in names piece) _ p.0 p.1 in
+    let one = and_then_parts (processor_numbered names piece) _ p.0 p.1 in
     let t = tested_some (ltb least one.0.number) one.0 p.0 one.2 in
     let above : least < p.0.number = let number = ap (λ (q : Proc). q.number) t.1 in omega (arith, ltb-true least one.0.number t.0, number) in
-    let most = processor_in-fits names piece p.0 valid (one.1 ∙ ap (λ (q : Proc). Some q) t.1) in
+    let most = processor_numbered-fits names piece p.0 valid (one.1 ∙ ap (λ (q : Proc). Some q) t.1) in
     let rest = requests_ascend names p.0.number (front ++ p.0 ∷ []) all pieces valid p.2 in
     (p.0 ∷ rest.0, rest.1 ∙ append_assoc front (p.0 ∷ []) rest.0, (above, most, rest.2))
 
@@ -167,7 +168,7 @@ guess-fits names line r valid h =
     let number = and_then_parts (cut_at 32 line).1 _ r h in
     let digits = and_then_parts (behind 80 number.0) _ r number.2 in
     let rest = and_then_parts (cut_at 32 digits.0).1 _ r digits.2 in
-    let p = and_then_parts (processor_in names (cut_at 32 digits.0).0) _ r rest.2 in
+    let p = and_then_parts (processor_numbered names (cut_at 32 digits.0).0) _ r rest.2 in
     let event = and_then_parts (cut_at 32 rest.0).1 _ r p.2 in
     let runner = and_then_parts (runner_in names (cut_at 32 rest.0).0) _ r event.2 in
-    guess_event-fits names runner.0 p.0 event.0 r valid (processor_in-fits names (cut_at 32 digits.0).0 p.0 valid p.1) (runner_in-fits names (cut_at 32 rest.0).0 runner.0 valid runner.1) runner.2
+    guess_event-fits names runner.0 p.0 event.0 r valid (processor_numbered-fits names (cut_at 32 digits.0).0 p.0 valid p.1) (runner_in-fits names (cut_at 32 rest.0).0 runner.0 valid runner.1) runner.2

@@ -21,6 +21,7 @@ use Rattle.fmp_calls.specs.Kinds.{most_of}
 use Rattle.fmp_calls.specs.declared.kinds.NameKind.TheVariants as name_kinds
 use Rattle.fmp_calls.specs.declared.kinds.ObjectKind.{ObjectKind}
 use Rattle.fmp_calls.specs.declared.kinds.ObjectKind.TheVariants as objects
+use Rattle.fmp_text.specs.Lines.{in_processors, processor_numbered}
 use Rattle.fmp_text.specs.Names.{NameLists, AreValid, names_of, name_of}
 use Rattle.fmp_text.specs.Names.{number_of as number_of_name}
 use Rattle.fmp_text.specs.Reading.{call_in}
@@ -31,7 +32,7 @@ use Rattle.fmp_text.proofs.SpelledCalls.{call_is_spelled}
 use Rattle.fmp_codes.specs.Records.{IsWithin, ValueFits, AnswerFits}
 use Rattle.fmp_calls.specs.Arguments.{CallInBits}
 use Rattle.fmp_trace.specs.Fits.{IsNamed, RunnerFits, RunningFits}
-use Rattle.fmp_trace.specs.GuessParts.{in_processors, processor_in, signed_in, task_in, object_in, code_in, value_in, coded_in, done_in, word_answer, answer_in, named_runner, runner_in, running_in}
+use Rattle.fmp_trace.specs.GuessParts.{signed_in, task_in, object_in, code_in, value_in, coded_in, done_in, word_answer, answer_in, named_runner, runner_in, running_in}
 
 -- ---- numbers
 
@@ -51,9 +52,9 @@ in_processors-fits most (Some n) p few e =
     let number = ap (λ (q : Proc). q.number) t.1 in
     omega (arith, number, leb-true 1 n parts.0, leb-true n most parts.1, few)
 
-pub processor_in-fits : (names : NameLists) (digits : List ℕ) (p : Proc) → AreValid names → processor_in names digits ≡ Some p → p.number ≤ names.processors
-unfolding processor_in
-processor_in-fits names digits p valid e = in_processors-fits names.processors (magnitude_of 10 digits) p valid.most e
+pub processor_numbered-fits : (names : NameLists) (digits : List ℕ) (p : Proc) → AreValid names → processor_numbered names digits ≡ Some p → p.number ≤ names.processors
+unfolding processor_numbered
+processor_numbered-fits names digits p valid e = in_processors-fits names.processors (magnitude_of 10 digits) p valid.most e
 
 -- ---- names
 

@@ -24,13 +24,14 @@ use Rattle.fmp_bytes.proofs.Tokens.{identifier_words}
 use Rattle.fmp_calls.specs.declared.kinds.NameKind.TheVariants as kinds
 use Rattle.fmp_calls.specs.declared.kinds.ObjectKind.{ObjectKind}
 use Rattle.fmp_calls.specs.declared.kinds.ObjectKind.TheVariants as objects
+use Rattle.fmp_text.specs.Lines.{in_processors, processor_numbered}
 use Rattle.fmp_text.specs.Names.{NameLists, AreValid, name_of, is_reserved, is_processor_word, is_constant}
 use Rattle.fmp_text.specs.Names.{number_of as number_of_name}
 use Rattle.fmp_text.specs.Names as names
 use Rattle.fmp_text.proofs.Placed.{number_of-name_of, object_name}
 use Rattle.fmp_codes.specs.Records.{IsWithin, ValueFits, AnswerFits}
 use Rattle.fmp_trace.specs.Fits.{IsNamed, RunningFits}
-use Rattle.fmp_trace.specs.GuessParts.{in_processors, processor_in, signed_in, task_in, object_in, code_in, value_in, coded_in, done_in, word_answer, answer_in, running_in}
+use Rattle.fmp_trace.specs.GuessParts.{signed_in, task_in, object_in, code_in, value_in, coded_in, done_in, word_answer, answer_in, running_in}
 use Rattle.fmp_trace.specs.Lines.{code_text, answer_text, task_text, running_text}
 use Rattle.fmp_trace.specs.Values.{named}
 use Rattle.fmp_trace.proofs.Bytes.{other_than, decimal_bytes, of_words, code_words}
@@ -65,8 +66,8 @@ unfolding is_of
 signed_bytes (pos n) fits = decimal_bytes n (omega (arith, fits))
 signed_bytes (negsuc n) fits = decimal_bytes (suc n) (omega (arith, fits))
 
-pub processor_guessed : (names : NameLists) (p : Proc) → p.number ≤ names.processors → processor_in names (decimal p.number) ≡ Some p
-unfolding processor_in in_processors
+pub processor_guessed : (names : NameLists) (p : Proc) → p.number ≤ names.processors → processor_numbered names (decimal p.number) ≡ Some p
+unfolding processor_numbered in_processors
 processor_guessed names p most =
     let lt : p.number < 2 ^ 64 = omega (arith, p.most) in
     let numeral = decimal_is_IsNumeral p.number lt in

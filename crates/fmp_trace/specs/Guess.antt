@@ -11,9 +11,10 @@ use Rattle.fmp_codes.specs.declared.records.Record.{Record}
 use Rattle.fmp_bytes.specs.declared.classes.Class.TheVariants.{Word}
 use Rattle.fmp_bytes.specs.Bytes.{front, after, behind, cut_at, pieces_of}
 use Rattle.fmp_text.specs.Argument.{◌>>=◌}
+use Rattle.fmp_text.specs.Lines.{processor_numbered}
 use Rattle.fmp_text.specs.Names.{NameLists}
 use Rattle.fmp_text.specs.Reading.{call_in}
-use Rattle.fmp_trace.specs.GuessParts.{processor_in, signed_in, answer_in, runner_in, release_in, running_in, requests_in}
+use Rattle.fmp_trace.specs.GuessParts.{signed_in, answer_in, runner_in, release_in, running_in, requests_in}
 
 -- ---- what stands behind the answer
 
@@ -98,7 +99,7 @@ unfoldable pub guess_processor : NameLists → List ℕ → Option Record
 guess_processor names text = do
   digits ← behind 80 text
   rest ← (cut_at 32 digits).1
-  p ← processor_in names (cut_at 32 digits).0
+  p ← processor_numbered names (cut_at 32 digits).0
   guess_runner names p rest
 
 -- the record that a line prints, whatever its number

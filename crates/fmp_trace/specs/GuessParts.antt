@@ -1,9 +1,9 @@
 -- What the parts of a line are guessed to say: numbers, names, codes, answers, runners, releases and requests.
-use Rattle.std.specs.Prelude.{ℕ, ◌^◌, ℤ, Bool, false, ◌&&◌, List, [], ◌∷◌, ◌++◌, Option, None, Some, option_map, find, nat_le, nat_lt, if◌then◌else◌, codes}
+use Rattle.std.specs.Prelude.{ℕ, ◌^◌, ℤ, Bool, false, List, [], ◌∷◌, ◌++◌, Option, None, Some, option_map, find, nat_lt, if◌then◌else◌, codes}
 use Rattle.std.specs.Option.{option_map_or, option_or}
 use Rattle.std.specs.Str.{bytes_eq}
 use Rattle.fmp_codes.specs.Codes as code
-use Rattle.fmp_codes.specs.Numbers.{as_proc, as_task, as_object}
+use Rattle.fmp_codes.specs.Numbers.{as_task, as_object}
 use Rattle.fmp_codes.specs.Records.{word_of, worded}
 use Rattle.fmp_codes.specs.declared.codes.Code.{Code}
 use Rattle.fmp_codes.specs.declared.numbers.Proc.{Proc}
@@ -15,23 +15,16 @@ use Rattle.fmp_codes.specs.declared.records.Answer.{Answer}
 use Rattle.fmp_codes.specs.declared.records.Answer.TheVariants as answers
 use Rattle.fmp_codes.specs.declared.records.Release.{Release}
 use Rattle.fmp_bytes.specs.Bytes.{cut_at}
-use Rattle.fmp_bytes.specs.Numerals.{magnitude_of, number_of, signed_of}
+use Rattle.fmp_bytes.specs.Numerals.{number_of, signed_of}
 use Rattle.fmp_calls.specs.declared.kinds.ObjectKind.{ObjectKind}
 use Rattle.fmp_calls.specs.declared.kinds.ObjectKind.TheVariants as objects
 use Rattle.fmp_calls.specs.declared.kinds.NameKind.TheVariants as kinds
 use Rattle.fmp_text.specs.Argument.{◌>>=◌}
+use Rattle.fmp_text.specs.Lines.{processor_numbered}
 use Rattle.fmp_text.specs.Names.{NameLists}
 use Rattle.fmp_text.specs.Names.{number_of as number_of_name}
 
 -- ---- numbers and names
-
--- one of so many processors
-unfoldable pub in_processors : ℕ → Option ℕ → Option Proc
-in_processors most None = None
-in_processors most (Some n) = if nat_le 1 n && nat_le n most then Some (as_proc n) else None
-
-unfoldable pub processor_in : NameLists → List ℕ → Option Proc
-processor_in names digits = in_processors names.processors (magnitude_of 10 digits)
 
 unfoldable pub signed_in : List ℕ → Option ℤ
 signed_in text = do
@@ -103,7 +96,7 @@ running_in names text = if bytes_eq text (codes "idle") then Some None else opti
 -- a processor behind one of this number
 unfoldable pub request_in : NameLists → ℕ → List ℕ → Option Proc
 request_in names least text = do
-  p ← processor_in names text
+  p ← processor_numbered names text
   if nat_lt least p.number then Some p else None
 
 -- the processors of these pieces, in ascending order behind those made so far

@@ -9,28 +9,10 @@ ghost use Rattle.std.specs.Option.{option_copied};
 ghost use Rattle.fmp_trace.specs.Guess as spec;
 ghost use Rattle.fmp_trace.specs.GuessParts as parts;
 
-use fmp_bytes::{Class, behind, cut, magnitude, signed64, spelled_number, split_front};
+use fmp_bytes::{Class, behind, cut, signed64, spelled_number, split_front};
 use fmp_calls::{NameKind, ObjectKind};
 use fmp_codes::{Answer, Code, Event, Object, Proc, Record, Release, Requests, Runner, Task};
-use fmp_text::{Names, read_call};
-
-#[tactic(auto, unfolding(crate::specs::GuessParts::in_processors))]
-fn in_processors(most: u8, number: Option<u64>) -> Option<Proc>
-    requires { most ≤ 8 }
-    ensures { result ≡ parts.in_processors most number }
-{
-    match number {
-        Some(number) if 1 <= number && number <= u64::from(most) => Some(Proc::new(number as u8)),
-        _ => None,
-    }
-}
-
-#[tactic(auto, unfolding(crate::specs::GuessParts::processor_in))]
-fn processor_in(names: &Names, digits: &[u8]) -> Option<Proc>
-    ensures { result ≡ parts.processor_in names.now digits.now }
-{
-    in_processors(names.processors(), magnitude(10, digits))
-}
+use fmp_text::{Names, processor_numbered, read_call};
 
 #[tactic(auto, unfolding(crate::specs::GuessParts::signed_in))]
 fn signed_in(text: &[u8]) -> Option<i64>
@@ -215,7 +197,7 @@ fn request_in(names: &Names, least: u8, text: &[u8]) -> Option<Proc>
     ensures value { result ≡ parts.request_in names.now least text.now }
     ensures above { IfSome result (λ p. least < p.number) }
 {
-    let processor = processor_in(names, text)?;
+    let processor = processor_numbered(names, text)?;
     if least < processor.number {
         Some(processor)
     } else {
@@ -336,7 +318,7 @@ fn guess_processor(names: &Names, text: &[u8]) -> Option<Record>
 {
     let (digits, rest) = cut(b' ', behind(b'P', text)?);
     let rest = rest?;
-    let processor = processor_in(names, digits)?;
+    let processor = processor_numbered(names, digits)?;
     guess_runner(names, processor, rest)
 }
 
