@@ -69,7 +69,7 @@ impl Model for Machine {
 
 impl Machine {
     /// The record of a task.
-    pub fn task(&self, t: Task) -> TaskRecord
+    pub(crate) fn task(&self, t: Task) -> TaskRecord
         ensures { result ≡ task self.now t }
     {
         self.tasks
@@ -80,7 +80,7 @@ impl Machine {
     }
 
     /// Changes the fields of a task, which keeps its place in every order.
-    pub fn note(&mut self, t: Task, changed: TaskRecord)
+    pub(crate) fn note(&mut self, t: Task, changed: TaskRecord)
         ensures { self.new ≡ note self.old t changed }
     {
         if let Some(place) = self.tasks.get_mut(t.index()) {
@@ -89,7 +89,7 @@ impl Machine {
     }
 
     /// How many tasks there are.
-    pub fn task_count(&self) -> usize
+    pub(crate) fn task_count(&self) -> usize
         ensures value { result ≡ length self.now.tasks }
         ensures few { result ≤ 64 }
     {
@@ -151,14 +151,14 @@ impl Machine {
     }
 
     /// The number that the next task to become ready, or the next wait to begin, will take.
-    pub fn next_number(&self) -> u64
+    pub(crate) fn next_number(&self) -> u64
         ensures { result ≡ self.now.order.next }
     {
         self.next
     }
 
     /// Lets a processor enter the CPU-locked state.
-    pub fn lock(&mut self, p: Proc)
+    pub(crate) fn lock(&mut self, p: Proc)
         ensures { self.new ≡ with_lock self.old p true }
     {
         let processor = self.processor(p);
@@ -172,7 +172,7 @@ impl Machine {
     }
 
     /// Disables the dispatching of a processor, or enables it.
-    pub fn set_dispatching_disabled(&mut self, p: Proc, disabled: bool)
+    pub(crate) fn set_dispatching_disabled(&mut self, p: Proc, disabled: bool)
         ensures { self.new ≡ with_dispatching_disabled self.old p disabled }
     {
         let processor = self.processor(p);
@@ -186,7 +186,7 @@ impl Machine {
     }
 
     /// Lets a processor leave the CPU-locked state and free the spin lock that it holds. There are no spin locks yet.
-    pub fn unlock(&mut self, p: Proc)
+    pub(crate) fn unlock(&mut self, p: Proc)
         ensures unlocked { self.new ≡ unlocked self.old p }
         ensures no_holder { holds_lock self.old p ≡ false }
         ensures lock { self.new ≡ with_lock self.old p false }
@@ -198,7 +198,7 @@ impl Machine {
 
     /// The same, and enables its dispatching.
     #[tactic(auto, unfolding(fmp_machine::specs::Processors::opened))]
-    pub fn open(&mut self, p: Proc)
+    pub(crate) fn open(&mut self, p: Proc)
         ensures state { self.new ≡ opened self.old p }
         ensures next { self.new.order.next ≡ self.old.order.next }
     {

@@ -11,7 +11,7 @@ use fmp_machine::{Effect, Rule};
 
 impl Machine {
     /// A call on the processors or on the state of dispatching.
-    pub fn system_call(&mut self, p: Proc, call: SystemCall) -> Result<Effect, Code>
+    pub(crate) fn system_call(&mut self, p: Proc, call: SystemCall) -> Result<Effect, Code>
         ensures row { (self.new, effect_of result) ≡ called self.old p (system_row numbered self.old p call) }
         ensures next { self.new.order.next ≡ self.old.order.next }
     {

@@ -13,7 +13,7 @@ use fmp_machine::{Effect, Rule};
 
 impl Machine {
     /// A call on tasks.
-    pub fn task_call(&mut self, p: Proc, call: TaskCall) -> Result<Effect, Code>
+    pub(crate) fn task_call(&mut self, p: Proc, call: TaskCall) -> Result<Effect, Code>
         requires { self.old.order.next + 1 < 2 ^ 64 }
         ensures row { (self.new, effect_of result) ≡ called self.old p (task_row numbered self.old p call) }
         ensures next { self.new.order.next ≤ self.old.order.next + 1 }

@@ -74,7 +74,7 @@ impl Machine {
 
     /// Changes the fields of a task, which goes last where it is ready then.
     #[tactic(auto, unfolding(fmp_machine::specs::Numbers::numbered))]
-    pub fn place(&mut self, t: Task, changed: TaskRecord)
+    pub(crate) fn place(&mut self, t: Task, changed: TaskRecord)
         requires { self.old.order.next + 1 < 2 ^ 64 }
         ensures state { self.new ≡ place numbered self.old t changed }
         ensures next { self.new.order.next ≤ self.old.order.next + 1 }
@@ -95,7 +95,7 @@ impl Machine {
 
     /// Ends the wait of a task, if it has one, and changes its fields. It goes last where it is ready then.
     #[tactic(auto, unfolding(fmp_machine::specs::Numbers::numbered))]
-    pub fn end_wait(&mut self, t: Task, changed: TaskRecord)
+    pub(crate) fn end_wait(&mut self, t: Task, changed: TaskRecord)
         requires { self.old.order.next + 1 < 2 ^ 64 }
         ensures state { self.new ≡ end_wait numbered self.old t changed }
         ensures next { self.new.order.next ≤ self.old.order.next + 1 }
@@ -115,7 +115,7 @@ impl Machine {
     }
 
     /// Starts a dormant task on a processor, or queues the activation of another with a kept processor.
-    pub fn activate(&mut self, t: Task, p: Proc, kept: Option<Proc>)
+    pub(crate) fn activate(&mut self, t: Task, p: Proc, kept: Option<Proc>)
         requires { self.old.order.next + 1 < 2 ^ 64 }
         ensures state { self.new ≡ activate numbered self.old t p kept }
         ensures next { self.new.order.next ≤ self.old.order.next + 1 }
@@ -137,7 +137,7 @@ impl Machine {
 
     /// Ends a task. A queued activation starts it anew.
     #[tactic(auto, unfolding(fmp_machine::specs::Tasks::finish))]
-    pub fn finish(&mut self, t: Task)
+    pub(crate) fn finish(&mut self, t: Task)
         requires { self.old.order.next + 1 < 2 ^ 64 }
         ensures state { self.new ≡ finish numbered self.old t }
         ensures next { self.new.order.next ≤ self.old.order.next + 1 }
@@ -159,7 +159,7 @@ impl Machine {
 
     /// Lets a task wait, with so many ticks left or for ever.
     #[tactic(auto, unfolding(fmp_machine::specs::Numbers::numbered))]
-    pub fn begin_wait(&mut self, t: Task, wait: Wait, left: Option<u64>)
+    pub(crate) fn begin_wait(&mut self, t: Task, wait: Wait, left: Option<u64>)
         requires { self.old.order.next + 1 < 2 ^ 64 }
         ensures state { self.new ≡ begin_wait numbered self.old t wait left }
         ensures next { self.new.order.next ≤ self.old.order.next + 1 }
@@ -177,7 +177,7 @@ impl Machine {
     }
 
     /// Lets a task wait for so long, unless the timeout is 0.
-    pub fn wait_for(&mut self, t: Task, wait: Wait, timeout: i32) -> Result<Effect, Code>
+    pub(crate) fn wait_for(&mut self, t: Task, wait: Wait, timeout: i32) -> Result<Effect, Code>
         requires { self.old.order.next + 1 < 2 ^ 64 }
         ensures state { (self.new, effect_of result) ≡ wait_for numbered self.old t wait timeout }
         ensures next { self.new.order.next ≤ self.old.order.next + 1 }
@@ -188,7 +188,7 @@ impl Machine {
     }
 
     /// Ends the wait of a task, which is ready last of its priority unless it is suspended.
-    pub fn make_ready(&mut self, t: Task)
+    pub(crate) fn make_ready(&mut self, t: Task)
         requires { self.old.order.next + 1 < 2 ^ 64 }
         ensures state { self.new ≡ make_ready numbered self.old t }
         ensures next { self.new.order.next ≤ self.old.order.next + 1 }
@@ -198,7 +198,7 @@ impl Machine {
     }
 
     /// Ends the wait of a task with a code and perhaps a value.
-    pub fn release(&mut self, t: Task, code: Code, value: Option<i64>) -> Effect
+    pub(crate) fn release(&mut self, t: Task, code: Code, value: Option<i64>) -> Effect
         requires { self.old.order.next + 1 < 2 ^ 64 }
         ensures state { (self.new, result) ≡ release numbered self.old t code value }
         ensures next { self.new.order.next ≤ self.old.order.next + 1 }
@@ -238,7 +238,7 @@ impl Machine {
 
     /// Changes the fields of a task, which comes last where it is ready or waits in a queue by priority.
     #[tactic(auto, unfolding(fmp_machine::specs::Numbers::numbered))]
-    pub fn requeue(&mut self, t: Task, changed: TaskRecord)
+    pub(crate) fn requeue(&mut self, t: Task, changed: TaskRecord)
         requires { self.old.order.next + 1 < 2 ^ 64 }
         ensures state { self.new ≡ requeue numbered self.old t changed }
         ensures next { self.new.order.next ≤ self.old.order.next + 1 }
@@ -253,7 +253,7 @@ impl Machine {
     }
 
     /// Gives a task this priority, of which it comes last.
-    pub fn change_priority(&mut self, t: Task, priority: Pri)
+    pub(crate) fn change_priority(&mut self, t: Task, priority: Pri)
         requires { self.old.order.next + 1 < 2 ^ 64 }
         ensures state { self.new ≡ change_priority numbered self.old t priority }
         ensures next { self.new.order.next ≤ self.old.order.next + 1 }
