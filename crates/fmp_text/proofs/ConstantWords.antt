@@ -15,7 +15,8 @@ use Rattle.fmp_text.specs.declared.constants.Constant.TheVariants.{TskSelf, Tpri
 use Rattle.fmp_text.specs.Argument.{constant_of}
 use Rattle.fmp_text.specs.Constants.{all_constants, constant_in, value_of, word_of}
 use Rattle.fmp_text.specs.Names.{is_constant}
-use Rattle.fmp_text.proofs.Parsed.{and_then_parts, found_passes}
+use Rattle.fmp_calls.proofs.Found.{found_passes}
+use Rattle.fmp_text.proofs.Parsed.{and_then_parts}
 
 word_is_name : (constant : Constant) → is_identifier (word_of constant) ≡ true
 unfolding is_of
