@@ -1,14 +1,6 @@
-//! The tests of every crate: what no contract says.
+//! Tests of the machine, its traces and whole runs: what no contract says.
 #![tactic(auto)]
 
-#[cfg(test)]
-mod bytes;
-#[cfg(test)]
-mod calls;
-#[cfg(test)]
-mod codes;
-#[cfg(test)]
-mod config;
 #[cfg(test)]
 mod limits;
 #[cfg(test)]
@@ -17,9 +9,5 @@ mod machines;
 mod plain;
 #[cfg(test)]
 mod run;
-#[cfg(test)]
-mod text;
-#[cfg(test)]
-mod tokens;
 #[cfg(test)]
 mod trace;

@@ -31,7 +31,7 @@ CLASS(C2) {
 ";
 
 /// Adds a name where it may be added, and tells whether it may.
-pub fn add(names: &mut Names, kind: NameKind, name: &[u8]) -> Result<bool, Fail> {
+fn add(names: &mut Names, kind: NameKind, name: &[u8]) -> Result<bool, Fail> {
     let taken = match kind {
         NameKind::Object(_) => is_reserved(name) || names.contains_object(name),
         NameKind::Function => names.contains_function(name),

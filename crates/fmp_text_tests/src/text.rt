@@ -1,10 +1,22 @@
-use crate::machines::{add, names_of};
 use fmp_calls::{NameKind, ObjectKind};
 use fmp_codes::{Call, Event, SystemCall, TaskCall};
 use fmp_text::TextKind::*;
-use fmp_text::{Names, TextKind, read_call, read_events};
+use fmp_text::{Names, TextKind, is_name, is_reserved, read_call, read_events};
 use std::alloc::Global;
 use std::test::Fail;
+
+/// Adds a name where it may be added, and tells whether it may.
+fn add(names: &mut Names, kind: NameKind, name: &[u8]) -> Result<bool, Fail> {
+    let taken = match kind {
+        NameKind::Object(_) => is_reserved(name) || names.contains_object(name),
+        NameKind::Function => names.contains_function(name),
+    };
+    if taken || !is_name(name) || !names.has_room(kind) {
+        return Ok(false);
+    }
+    names.add(kind, name)?;
+    Ok(true)
+}
 
 const FUNCTION: NameKind = NameKind::Function;
 
@@ -28,7 +40,11 @@ const NAMES: [(NameKind, &[u8]); 10] = [
 
 /// A machine with two processors.
 fn machine(rt: &HostRuntime) -> Result<Names, Fail> {
-    names_of(rt.alloc(), 2, &NAMES)
+    let mut names = Names::new(rt.alloc(), 2);
+    for (kind, name) in &NAMES {
+        add(&mut names, *kind, *name)?;
+    }
+    Ok(names)
 }
 
 /// Texts with faults, and the kind and the line of the first one.
@@ -107,8 +123,8 @@ fn fault(alloc: Global, names: &Names, text: &[u8]) -> Option<(TextKind, u32)> {
 #[test]
 fn refused_texts(rt: HostRuntime) -> Result<(), Fail> {
     let names = machine(&rt)?;
-    for (text, kind, line) in REFUSED {
-        assert!(rt; fault(rt.alloc(), &names, text) == Some((kind, line)));
+    for (text, kind, line) in &REFUSED {
+        assert!(rt; fault(rt.alloc(), &names, *text) == Some((*kind, *line)));
     }
     Ok(())
 }
@@ -116,8 +132,8 @@ fn refused_texts(rt: HostRuntime) -> Result<(), Fail> {
 #[test]
 fn accepted_texts(rt: HostRuntime) -> Result<(), Fail> {
     let names = machine(&rt)?;
-    for text in ACCEPTED {
-        assert!(rt; fault(rt.alloc(), &names, text).is_none());
+    for text in &ACCEPTED {
+        assert!(rt; fault(rt.alloc(), &names, *text).is_none());
     }
     let text = b"# two\nP1 act_tsk(T2)\n\nP2 ipi\nP2 get_pid()\r\n";
     let events = read_events(rt.alloc(), text, &names)
@@ -135,12 +151,12 @@ fn accepted_texts(rt: HostRuntime) -> Result<(), Fail> {
 #[test]
 fn calls(rt: HostRuntime) -> Result<(), Fail> {
     let names = machine(&rt)?;
-    for (text, task) in ACTIVATIONS {
+    for (text, task) in &ACTIVATIONS {
         let call = task.map(|id| Call::Task(TaskCall::ActTsk(id)));
-        assert!(rt; read_call(text, &names) == call);
+        assert!(rt; read_call(*text, &names) == call);
     }
-    for (text, call) in CALLS {
-        assert!(rt; read_call(text, &names) == call);
+    for (text, call) in &CALLS {
+        assert!(rt; read_call(*text, &names) == *call);
     }
     Ok(())
 }

@@ -1,0 +1,15 @@
+//! Tests of the values and of the texts that are read: what no contract says.
+#![tactic(auto)]
+
+#[cfg(test)]
+mod bytes;
+#[cfg(test)]
+mod calls;
+#[cfg(test)]
+mod codes;
+#[cfg(test)]
+mod config;
+#[cfg(test)]
+mod text;
+#[cfg(test)]
+mod tokens;
