@@ -9,6 +9,7 @@ use fmp_config::read_config;
 use fmp_text::{Names, TextFault, TextKind};
 use fmp_trace::{Verdict, check, read_trace, trace_text};
 use std::alloc::Global;
+use std::process::Abort;
 use std::test::Fail;
 
 /// Three processors, three tasks, and an object of three other kinds.
@@ -134,9 +135,19 @@ fn fault_of(alloc: Global, names: &Names, text: &[u8]) -> Option<TextFault> {
     read_trace(alloc, text, names).err()
 }
 
+/// The first line of each text is a bad word.
+fn are_bad_words(rt: &impl Abort, alloc: Global, names: &Names, texts: &[&[u8]]) {
+    let fault = TextFault {
+        kind: TextKind::BadWord,
+        line: 1,
+    };
+    for text in texts {
+        assert!(rt; fault_of(alloc, names, *text) == Some(fault));
+    }
+}
+
 #[test]
 fn second_spellings_are_refused(rt: HostRuntime) -> Result<(), Fail> {
-    let names = machine(&rt)?;
     let spellings = [
         b"01 P1 T1 tick held\n".as_slice(),
         b"1  P1 T1 tick held\n",
@@ -149,19 +160,12 @@ fn second_spellings_are_refused(rt: HostRuntime) -> Result<(), Fail> {
         b"1 P1 T1 act_tsk(09) E_ID\n",
         b"1 P1 T1 act_tsk(0x9) E_ID\n",
     ];
-    for text in spellings {
-        let fault = TextFault {
-            kind: TextKind::BadWord,
-            line: 1,
-        };
-        assert!(rt; fault_of(rt.alloc(), &names, text) == Some(fault));
-    }
+    are_bad_words(&rt, rt.alloc(), &machine(&rt)?, &spellings);
     Ok(())
 }
 
 #[test]
 fn what_nothing_prints_is_refused(rt: HostRuntime) -> Result<(), Fail> {
-    let names = machine(&rt)?;
     let texts = [
         b"2 P1 T1 tick held\n".as_slice(),
         b"1 P4 T1 tick held\n",
@@ -176,13 +180,7 @@ fn what_nothing_prints_is_refused(rt: HostRuntime) -> Result<(), Fail> {
         b"1 P1 T1 tick held run=T1 lost=1\n",
         b"# tick\n",
     ];
-    for text in texts {
-        let fault = TextFault {
-            kind: TextKind::BadWord,
-            line: 1,
-        };
-        assert!(rt; fault_of(rt.alloc(), &names, text) == Some(fault));
-    }
+    are_bad_words(&rt, rt.alloc(), &machine(&rt)?, &texts);
     Ok(())
 }
 
