@@ -1,5 +1,5 @@
 -- What is found in a list.
-use Rattle.std.proofs.Common.{◌≡◌, inl, inr, Bool, true, cond, List, [], ◌∷◌, Some, sym, ap, ◌∙◌, find}
+use Rattle.std.proofs.Common.{◌≡◌, inl, inr, Bool, true, List, [], ◌∷◌, Some, sym, ap, ◌∙◌, find}
 use Rattle.std.proofs.lemmas.Bool.{cases_Bool}
 
 -- what is found passes the test

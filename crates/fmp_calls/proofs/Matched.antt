@@ -1,9 +1,8 @@
 -- The table of the calls: calls, their names and their arguments give each other back.
-use Rattle.std.proofs.Common.{◌≡◌, ◌∙◌, ◌≤◌, ◌⊎◌, inl, inr, sym, ap, true, Bool, List, [], ◌∷◌, length, Option, Some, None, option_map, find, false, refl, arith}
+use Rattle.std.proofs.Common.{◌≡◌, ◌∙◌, ◌≤◌, ◌⊎◌, inl, inr, sym, ap, true, Bool, List, [], length, Option, Some, None, option_map, find, false, refl, arith}
 use Rattle.std.specs.Option.{option_or}
 use Rattle.std.proofs.lemmas.Slice.Eq.{bytes_eq-Decides}
-use Rattle.std.specs.Prelude.{ℕ}
-use Rattle.std.specs.Prelude.{codes, unwrap_or, if◌then◌else◌}
+use Rattle.std.specs.Prelude.{ℕ, codes, unwrap_or, if◌then◌else◌}
 use Rattle.std.specs.Str.{bytes_eq}
 use Rattle.fmp_codes.specs.declared.calls.Call.{Call}
 use Rattle.fmp_codes.specs.declared.calls.Call.TheVariants as calls

@@ -292,6 +292,16 @@ fn failed_writes(rt: HostRuntime) -> Result<(), Fail> {
     Ok(())
 }
 
+/// The flush is the call after the one write that takes the whole trace.
+#[test]
+fn failed_flush(rt: HostRuntime) -> Result<(), Fail> {
+    let mut trace = MemSink::with_room(rt.alloc(), 1000)?.failing_after(1);
+    let (config, events) = (MemSource::new(REMOTE), MemSource::new(EVENTS));
+    stops(&rt, rt.alloc(), config, events, &mut trace, "write failed")?;
+    assert!(rt; trace.bytes() == TRACE);
+    Ok(())
+}
+
 /// Checks over memory, and tells what is written.
 fn checked(alloc: Global, config: &[u8], trace: &[u8]) -> Result<MemSink, RunFault> {
     let mut answer = MemSink::with_room(alloc, 20)?;

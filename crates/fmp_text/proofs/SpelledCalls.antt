@@ -2,9 +2,7 @@
 use Rattle.std.proofs.Common.{◌≡◌, Option, ℕ, ◌<◌, ◌≤◌, Bool, true, false, not, ◌&&◌, ◌||◌, cond, eqb, inl, inr, List, [], ◌∷◌, ◌++◌, length, Some, None, Ok, option_and_then, refl, sym, ap, subst, ◌∙◌, arith}
 use Rattle.std.specs.List.{list_all, prefix_len, join_with_byte}
 use Rattle.std.specs.Option.{ok_or}
-use Rattle.std.specs.Str.{bytes_eq}
 use Rattle.std.proofs.lemmas.Bool.{cases_Bool, and_parts, and_from, or_cases, eq-eqb, ne_eqb, le-leb, eqb-true, false≢true}
-use Rattle.std.proofs.lemmas.Slice.Eq.{bytes_eq-Decides}
 use Rattle.fmp_codes.specs.declared.calls.Call.{Call}
 use Rattle.fmp_bytes.specs.declared.classes.Class.TheVariants.{Blank, Word, Argument, Line}
 use Rattle.fmp_bytes.specs.Bytes.{is_of, front, after, behind, cut_at, pieces_of, is_identifier}
@@ -23,7 +21,6 @@ use Rattle.fmp_text.specs.Reading.{◌>>=◌, named_call, values_at, call_with, 
 use Rattle.fmp_text.specs.Grammar.{AreBlank, Padded, SpellsPieces, SpellsArguments, SpellsCall}
 use Rattle.fmp_text.proofs.Spelled.{value_at-spelled, value_is_spelled}
 use Rattle.fmp_calls.proofs.Matched.{call_of-parts, call_of-agrees, call_of-same, named-text_of, text_of-named, kinds_of-name_of, is_identifier-text_of, length-kinds_of-le}
-use Rattle.fmp_calls.proofs.Found.{found_passes}
 use Rattle.fmp_text.proofs.Parsed.{bind_parts, and_then_parts, ok_or_parts, tested_some, tested_ok}
 
 -- ---- an argument with blanks around

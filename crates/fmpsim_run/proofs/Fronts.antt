@@ -1,5 +1,5 @@
 -- A text past its limit is judged the same from any front that is past it too.
-use Rattle.std.proofs.Common.{◌≡◌, ◌∙◌, ℕ, ◌<◌, ◌≤◌, Bool, true, false, List, [], ◌++◌, length, refl, ap, subst, sym, arith, length-append}
+use Rattle.std.proofs.Common.{◌≡◌, ◌∙◌, ℕ, ◌<◌, ◌≤◌, Bool, true, false, List, [], ◌++◌, length, refl, ap, sym, arith, length-append}
 use Rattle.std.specs.Prelude.{nat_lt, Ok, Err}
 use Rattle.std.proofs.lemmas.Bool.{lt-ltb, ltb-true, ltb-false}
 use Rattle.std.proofs.lemmas.List.{append-nil}
