@@ -4,3 +4,4 @@ mod WorkedHolding
 pub mod Classes
 pub mod Named
 pub mod Growing
+pub mod Objects

@@ -6,27 +6,51 @@ use Rattle.fmp_codes.specs.declared.numbers.Object.{Object}
 use Rattle.fmp_codes.specs.declared.calls.Mode.{Mode}
 use Rattle.fmp_codes.specs.declared.calls.Mode.TheVariants as mode
 use Rattle.fmp_machine.specs.declared.setup.Order.TheVariants as order
+use Rattle.fmp_machine.specs.declared.setup.SemaphoreSetup.{SemaphoreSetup}
+use Rattle.fmp_machine.specs.declared.setup.EventflagSetup.{EventflagSetup}
 use Rattle.fmp_machine.specs.declared.setup.DataQueueSetup.{DataQueueSetup}
+use Rattle.fmp_machine.specs.declared.setup.PoolSetup.{PoolSetup}
+use Rattle.fmp_machine.specs.declared.setup.CyclicSetup.{CyclicSetup}
+use Rattle.fmp_machine.specs.declared.setup.AlarmSetup.{AlarmSetup}
 use Rattle.fmp_machine.specs.declared.machine.Semaphore.{Semaphore}
 use Rattle.fmp_machine.specs.declared.machine.Eventflag.{Eventflag}
 use Rattle.fmp_machine.specs.declared.machine.Pool.{Pool}
-use Rattle.fmp_machine.specs.World.{World, item}
+use Rattle.fmp_machine.specs.World.{World, no_task, item}
+
+-- what stands where there is no object of a kind
+abbrev pub no_semaphore : SemaphoreSetup
+no_semaphore = record { order = order.First; initial = 0; most = 1 }
+
+abbrev pub no_eventflag : EventflagSetup
+no_eventflag = record { order = order.First; many = false; clears = false; initial = 0 }
+
+abbrev pub no_data_queue : DataQueueSetup
+no_data_queue = record { order = order.First; capacity = 0 }
+
+abbrev pub no_pool : PoolSetup
+no_pool = record { order = order.First; blocks = 1 }
+
+abbrev pub no_cyclic : CyclicSetup
+no_cyclic = record { class = no_task.setup.class; handler = 1; period = 1; phase = 0; starts = false }
+
+abbrev pub no_alarm : AlarmSetup
+no_alarm = record { class = no_task.setup.class; handler = 1 }
 
 abbrev pub semaphore : {Q : Type 0} → World Q → Object → Semaphore
-semaphore w s = item (record { setup = record { order = order.First; initial = 0; most = 1 }; count = 0 }) w.semaphores s.number
+semaphore w s = item (record { setup = no_semaphore; count = 0 }) w.semaphores s.number
 
 abbrev pub eventflag : {Q : Type 0} → World Q → Object → Eventflag
-eventflag w f = item (record { setup = record { order = order.First; many = false; clears = false; initial = 0 }; pattern = 0 }) w.eventflags f.number
+eventflag w f = item (record { setup = no_eventflag; pattern = 0 }) w.eventflags f.number
 
 abbrev pub data_queue : {Q : Type 0} → World Q → Object → DataQueueSetup
-data_queue w d = item (record { order = order.First; capacity = 0 }) w.data_queues d.number
+data_queue w d = item no_data_queue w.data_queues d.number
 
 -- the values of a data queue, the oldest first
 abbrev pub values : {Q : Type 0} → World Q → Object → List ℤ
 values w d = item [] w.contents d.number
 
 abbrev pub pool : {Q : Type 0} → World Q → Object → Pool
-pool w m = item (record { setup = record { order = order.First; blocks = 1 }; handed = replicate 64 false }) w.pools m.number
+pool w m = item (record { setup = no_pool; handed = replicate 64 false }) w.pools m.number
 
 -- the least block of a pool that is not handed out
 abbrev pub free_block : {Q : Type 0} → World Q → Object → Option ℕ

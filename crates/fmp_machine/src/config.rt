@@ -4,11 +4,15 @@ ghost use Rattle.std.specs.List.{list_any};
 ghost use Rattle.fmp_machine.specs.Valid.{is_class_of};
 
 use crate::parts::{NamedClass, Parts};
-use crate::setup::{Class, TaskSetup};
-use fmp_text::Names;
+use crate::setup::{
+    AlarmSetup, Class, CyclicSetup, DataQueueSetup, EventflagSetup, Limits, PoolSetup,
+    SemaphoreSetup, TaskSetup, Timer,
+};
+use fmp_names::Names;
 use std::marker::Model;
 
-/// A valid configuration: how many processors there are, the classes and tasks, and the names of the objects and functions.
+/// A valid configuration: how many processors there are, its timer and limits, the classes and objects, the names of the
+/// objects and functions, and the names that are defined to stand for numbers.
 #[derive(Drop)]
 pub struct Config {
     parts: Parts,
@@ -47,7 +51,23 @@ impl Config {
         self.parts.names.processors()
     }
 
-    /// The names of the objects and functions.
+    /// The processors whose ticks count.
+    pub fn timer(&self) -> Timer
+        ensures value { result ≡ self.now.timer }
+        ensures valid { IsValid self.now }
+    {
+        self.parts.timer
+    }
+
+    /// The greatest number of queued wakeups, and the greatest priority.
+    pub fn limits(&self) -> Limits
+        ensures value { result ≡ self.now.limits }
+        ensures valid { IsValid self.now }
+    {
+        self.parts.limits
+    }
+
+    /// The names of the objects and functions, and the defined names.
     pub fn names(&self) -> &Names
         ensures value { result.now ≡ self.now.names }
         ensures valid { IsValid self.now }
@@ -70,6 +90,62 @@ impl Config {
         ensures valid { IsValid self.now }
     {
         self.parts.tasks.as_slice()
+    }
+
+    /// The semaphores, in the order of their numbers.
+    pub fn semaphores(&self) -> &[SemaphoreSetup]
+        ensures value { result.now ≡ self.now.semaphores }
+        ensures valid { IsValid self.now }
+    {
+        self.parts.semaphores.as_slice()
+    }
+
+    /// The eventflags, in the order of their numbers.
+    pub fn eventflags(&self) -> &[EventflagSetup]
+        ensures value { result.now ≡ self.now.eventflags }
+        ensures valid { IsValid self.now }
+    {
+        self.parts.eventflags.as_slice()
+    }
+
+    /// The data queues, in the order of their numbers.
+    pub fn data_queues(&self) -> &[DataQueueSetup]
+        ensures value { result.now ≡ self.now.data_queues }
+        ensures valid { IsValid self.now }
+    {
+        self.parts.data_queues.as_slice()
+    }
+
+    /// The pools, in the order of their numbers.
+    pub fn pools(&self) -> &[PoolSetup]
+        ensures value { result.now ≡ self.now.pools }
+        ensures valid { IsValid self.now }
+    {
+        self.parts.pools.as_slice()
+    }
+
+    /// The cyclic handlers, in the order of their numbers.
+    pub fn cyclics(&self) -> &[CyclicSetup]
+        ensures value { result.now ≡ self.now.cyclics }
+        ensures valid { IsValid self.now }
+    {
+        self.parts.cyclics.as_slice()
+    }
+
+    /// The alarm handlers, in the order of their numbers.
+    pub fn alarms(&self) -> &[AlarmSetup]
+        ensures value { result.now ≡ self.now.alarms }
+        ensures valid { IsValid self.now }
+    {
+        self.parts.alarms.as_slice()
+    }
+
+    /// How many spin locks there are.
+    pub fn spin_locks(&self) -> u8
+        ensures value { result ≡ self.now.spin_locks }
+        ensures valid { IsValid self.now }
+    {
+        self.parts.spin_locks
     }
 }
 

@@ -16,7 +16,7 @@ pub use machine::{
     Alarm, Context, Cyclic, Eventflag, Pool, Processor, QueueKind, Rule, Semaphore, TaskRecord,
     Wait,
 };
-pub use parts::{NamedClass, Parts, TaskFields};
+pub use parts::{CyclicFields, Fields, NamedClass, Parts, TaskFields};
 pub use setup::{
     AlarmSetup, Class, CyclicSetup, DataQueueSetup, EventflagSetup, Limits, Order, PoolSetup,
     SemaphoreSetup, TaskSetup, Timer,

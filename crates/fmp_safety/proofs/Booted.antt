@@ -1,13 +1,10 @@
 -- The state at boot of a valid configuration is safe.
-use Rattle.std.proofs.Common.{◌≡◌, ℕ, ◌+◌, ◌-◌, ◌<◌, ◌≤◌, not, List, length, map, sym, ap, subst, arith, lit≤}
-use Rattle.std.specs.Prelude.{All, slice_index_or, drop}
-use Rattle.std.specs.List.{list_any}
-use Rattle.std.proofs.lemmas.Bool.{and_parts}
+use Rattle.std.proofs.Common.{◌≡◌, ℕ, ◌+◌, ◌-◌, ◌<◌, List, length, map, ap, arith, lit≤}
+use Rattle.std.specs.Prelude.{slice_index_or}
 use Rattle.std.proofs.lemmas.List.{get_or-map}
-use Rattle.std.proofs.lemmas.List.Sums.{AllPass-from_list_all}
 use Rattle.fmp_machine.specs.declared.machine.TaskRecord.{TaskRecord}
-use Rattle.fmp_machine.specs.Setup.{Setup, of_parts, has_member}
-use Rattle.fmp_machine.specs.Valid.{IsValid, is_class_of}
+use Rattle.fmp_machine.specs.Setup.{Setup}
+use Rattle.fmp_machine.specs.Valid.{IsValid}
 use Rattle.fmp_machine.specs.World.{World, no_task}
 use Rattle.fmp_machine.specs.Keeping.{Keeping}
 use Rattle.fmp_machine.specs.Numbers.{State, numbered}
@@ -18,27 +15,21 @@ use Rattle.fmp_codes.specs.declared.records.Event.{Event}
 use Rattle.fmp_safety.proofs.Rests.{Rests}
 use Rattle.fmp_safety.proofs.Settling.{TopsMayRun}
 use Rattle.fmp_safety.proofs.Stepping.{numbered_tops, safe_throughout}
-use Rattle.fmp_safety.proofs.Booting.{HasInitial, blank_rests, started_processors, started_due, started_rests, safe_running, length_running}
+use Rattle.fmp_safety.proofs.Booting.{task_member, blank_rests, started_processors, started_due, started_rests, safe_running, length_running}
 
 module _ {Q : Type 0} (k : Keeping Q) (may_run : (w : World Q) → TopsMayRun k w) (order : Q) where
   -- the tasks are started and the processors run their tops
-  boot_safe : (c : Setup) → c ≡ of_parts c.processors c.classes c.class_names c.tasks c.names → length c.tasks ≤ 64 → All HasInitial c.tasks → Safe k (boot k order c)
-  boot_safe c is few member =
-      let plain : Setup = of_parts c.processors c.classes c.class_names c.tasks c.names in
-      let w : World Q = all_started k (blank order plain) 1 c.tasks in
+  boot_safe : (c : Setup) → IsValid c → Safe k (boot k order c)
+  boot_safe c valid =
+      let w : World Q = all_started k (blank order c) 1 c.tasks in
       let of : (j : ℕ) → j < length c.tasks → (slice_index_or (map resting c.tasks) (1 - 1 + j) no_task).setup ≡ slice_index_or c.tasks j no_task.setup =
       λ j h. let e : 1 - 1 + j ≡ j = omega arith in rw e (ap (λ (r : TaskRecord). r.setup) (get_or-map resting c.tasks j no_task.setup no_task h)) in
-      let rests : Rests w = started_rests k (blank order plain) 1 c.tasks (lit≤ tt) (omega (arith, few)) of member (blank_rests order c member) in
-      let safe : Safe k (boot k order plain) =
-      safe_running k w c.processors (started_processors k (blank order plain) 1 c.tasks) (started_due k (blank order plain) 1 c.tasks) (may_run w) rests in
-      subst (λ (s : Setup). Safe k (boot k order s)) (sym is) safe
+      let few = valid.few_tasks in
+      let rests : Rests w = started_rests k (blank order c) 1 c.tasks (lit≤ tt) (omega (arith, few)) of (task_member order c valid) (blank_rests order c valid) in
+      safe_running k w c.processors (started_processors k (blank order c) 1 c.tasks) (started_due k (blank order c) 1 c.tasks) (may_run w) rests
 
 pub booted_safe : (c : Setup) → IsValid c → Safe numbered (booted c)
-booted_safe c valid =
-    let member : All HasInitial c.tasks =
-    λ i d h. (and_parts (has_member (slice_index_or c.tasks i d).class (slice_index_or c.tasks i d).class.initial) (not (list_any (λ m. m) (drop c.processors (slice_index_or c.tasks i d).class.members)))
-    (AllPass-from_list_all (λ t. is_class_of c.processors t.class) c.tasks valid.classes i d h)).0 in
-    boot_safe numbered numbered_tops (unnumbered c) c valid.only_tasks valid.few_tasks member
+booted_safe c valid = boot_safe numbered numbered_tops (unnumbered c) c valid
 
 pub count_booted : (c : Setup) → length (booted c).processors ≡ c.processors
 count_booted c =

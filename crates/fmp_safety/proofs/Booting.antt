@@ -1,23 +1,32 @@
 -- The state at boot is safe.
-use Rattle.std.proofs.Common.{◌≡◌, ℕ, suc, ◌+◌, ◌-◌, ◌<◌, ◌≤◌, true, false, ◌||◌, List, [], ◌∷◌, length, map, replicate, refl, sym, ap, ◌∙◌, subst, arith, lit≤, Option, None, ⊎_elim}
-use Rattle.std.specs.Prelude.{All, is_some, slice_index_or, if◌then◌else◌}
-use Rattle.std.proofs.lemmas.Bool.{cases_lt, cond_both, true≢false, both_ways}
+use Rattle.std.proofs.Common.{◌≡◌, ℕ, ℤ, suc, ◌+◌, ◌-◌, ◌<◌, ◌≤◌, true, false, not, ◌||◌, List, [], ◌∷◌, length, map, replicate, refl, sym, ap, ◌∙◌, subst, arith, lit≤, Option, Some, None, ⊎_elim}
+use Rattle.std.specs.Prelude.{All, is_some, slice_index_or, drop, if◌then◌else◌}
+use Rattle.std.specs.List.{list_any}
+use Rattle.std.proofs.lemmas.Bool.{cases_lt, and_parts, cond_both, true≢false, false≢true, both_ways}
 use Rattle.std.proofs.lemmas.List.{get_or_past, get_or-replicate, length-replicate}
-use Rattle.std.proofs.lemmas.List.Elements.{All-map, All-nil, All-tail}
+use Rattle.std.proofs.lemmas.List.Elements.{All-map, All-replicate, All-tail}
+use Rattle.std.proofs.lemmas.List.Sums.{AllPass-from_list_all}
 use Rattle.std.proofs.lemmas.Option.{none-some}
 use Rattle.fmp_codes.specs.Numbers.{as_task, within}
 use Rattle.fmp_codes.specs.declared.numbers.Proc.{Proc}
 use Rattle.fmp_codes.specs.declared.numbers.Task.{Task}
+use Rattle.fmp_codes.specs.declared.numbers.Object.{Object}
 use Rattle.fmp_codes.specs.declared.records.Runner.{Runner}
 use Rattle.fmp_machine.specs.declared.setup.TaskSetup.{TaskSetup}
 use Rattle.fmp_machine.specs.declared.machine.TaskRecord.{TaskRecord}
 use Rattle.fmp_machine.specs.declared.machine.Processor.{Processor}
-use Rattle.fmp_machine.specs.Setup.{Setup, of_parts, has_member}
+use Rattle.fmp_machine.specs.declared.machine.Alarm.{Alarm}
+use Rattle.fmp_machine.specs.declared.machine.Semaphore.{Semaphore}
+use Rattle.fmp_machine.specs.declared.machine.QueueKind.TheVariants as kind
+use Rattle.fmp_machine.specs.declared.setup.Class.{Class}
+use Rattle.fmp_machine.specs.Setup.{Setup, has_member}
+use Rattle.fmp_machine.specs.Valid.{IsValid, is_class_of}
+use Rattle.fmp_machine.specs.Objects.{data_queue, holder}
 use Rattle.fmp_machine.specs.World.{World, no_task, no_processor, item, first, task, handler, processors_to}
-use Rattle.fmp_machine.specs.Keeping.{Keeping, top}
+use Rattle.fmp_machine.specs.Keeping.{Keeping, top, waits_in}
 use Rattle.fmp_machine.specs.Tasks.{started, start}
-use Rattle.fmp_machine.specs.Boot.{resting, blank, all_started, with_top_running, with_tops_running}
-use Rattle.fmp_safety.specs.Safe.{IsNumberOf, TaskInRange, TicksInRange, SafeAt, Safe}
+use Rattle.fmp_machine.specs.Boot.{resting, phase_left, blank, all_started, with_top_running, with_tops_running}
+use Rattle.fmp_safety.specs.Safe.{IsNumberOf, TaskInRange, TicksInRange, CyclicInRange, SafeAt, Safe}
 use Rattle.fmp_safety.proofs.Items.{item_after}
 use Rattle.fmp_safety.proofs.Rests.{Rests, rests_task, rests_processors}
 use Rattle.fmp_safety.proofs.Settling.{TopsMayRun, among, with_each, length_each, each_at, locked_each}
@@ -33,28 +42,50 @@ item_holds P blank xs n none all =
 abbrev pub HasInitial : TaskSetup → Type 0
 HasInitial s = has_member s.class s.class.initial ≡ true
 
-module _ {Q : Type 0} (order : Q) (c : Setup) where
-  pub blank_rests : All HasInitial c.tasks → Rests (blank order (of_parts c.processors c.classes c.class_names c.tasks c.names))
-  blank_rests member =
-      let none : (t : Task) → (item no_task (map resting c.tasks) t.number).wait ≡ None =
-      λ t. item_holds (λ (r : TaskRecord). r.wait ≡ None) no_task (map resting c.tasks) t.number refl (All-map (λ (r : TaskRecord). r.wait ≡ None) resting c.tasks (λ i d h. refl)) in
-      record {
-        waits = λ t x e. absurd (none-some x (sym (none t) ∙ e));
-        in_range = record {
-          tasks = All-map (TaskInRange (record { wakeups = 1; priorities = 16 })) resting c.tasks
-              (λ i d h. record { activations = lit≤ tt; wakeups = lit≤ tt; assigned = member i d h; kept = λ p e. absurd (none-some p e); dormant = λ e. (refl, refl, refl) });
-          waits_left = All-map TicksInRange (λ s. None) c.tasks (λ i d h. tt);
-          cyclics_left = All-nil TicksInRange;
-          alarms_left = All-nil TicksInRange;
-          semaphores = All-nil _;
-          contents = λ d n. absurd (omega (arith, n.0, n.1));
-          one_waiter = λ f t u n e g h. absurd (omega (arith, n.0, n.1));
-          cyclics = All-nil _;
-          alarms = All-nil _;
-          locked = λ l p e. absurd (none-some p e);
-          one_lock = λ l m p e f. absurd (none-some p e);
-        };
-      }
+module _ {Q : Type 0} (order : Q) (c : Setup) (valid : IsValid c) where
+  initial_member : (class : Class) → is_class_of c.processors class ≡ true → has_member class class.initial ≡ true
+  initial_member class e = (and_parts (has_member class class.initial) (not (list_any (λ m. m) (drop c.processors class.members))) e).0
+
+  pub task_member : All HasInitial c.tasks
+  task_member i d h = initial_member (slice_index_or c.tasks i d).class (AllPass-from_list_all (λ t. is_class_of c.processors t.class) c.tasks valid.classes i d h)
+
+  -- a blank task waits for nothing
+  pub no_wait : (t : Task) → (task (blank order c) t).wait ≡ None
+  no_wait t = item_holds (λ (r : TaskRecord). r.wait ≡ None) no_task (map resting c.tasks) t.number refl (All-map (λ (r : TaskRecord). r.wait ≡ None) resting c.tasks (λ i d h. refl))
+
+  -- nobody holds a spin lock
+  no_holder : (l : Object) → holder (blank order c) l ≡ None
+  no_holder l =
+      item_holds (λ (o : Option Proc). o ≡ None) None (replicate c.spin_locks None) l.number refl (All-replicate (λ (o : Option Proc). o ≡ None) c.spin_locks None refl)
+
+  pub blank_rests : Rests (blank order c)
+  blank_rests = record {
+    waits = λ t x e. absurd (none-some x (sym (no_wait t) ∙ e));
+    in_range = record {
+      tasks = All-map (TaskInRange c.limits) resting c.tasks
+          (λ i d h. record { activations = lit≤ tt; wakeups = omega arith; assigned = task_member i d h; kept = λ p e. absurd (none-some p e); dormant = λ e. (refl, refl, refl) });
+      waits_left = All-map TicksInRange (λ s. None) c.tasks (λ i d h. tt);
+      cyclics_left = All-map TicksInRange phase_left c.cyclics
+          (λ i d h. let phase = (valid.in_range.cyclics i d h).phase in
+          cond_both (slice_index_or c.cyclics i d).starts (Some ((slice_index_or c.cyclics i d).phase + 1)) None TicksInRange (λ _. (omega arith, omega (arith, phase))) (λ _. tt));
+      alarms_left = All-map TicksInRange (λ s. None) c.alarms (λ i d h. tt);
+      semaphores = All-map (λ (s : Semaphore). s.count ≤ s.setup.most) _ c.semaphores (λ i d h. (valid.in_range.semaphores i d h).initial);
+      contents = λ d n.
+          item_holds (λ (vs : List ℤ). length vs ≤ (data_queue (blank order c) d).capacity) [] (map (λ s. []) c.data_queues) d.number (omega arith)
+          (All-map (λ (vs : List ℤ). length vs ≤ (data_queue (blank order c) d).capacity) (λ s. []) c.data_queues (λ i e h. omega arith));
+      one_waiter = λ f t u n e g h. absurd (false≢true (sym (ap (waits_in kind.Eventflag f) (no_wait t)) ∙ g));
+      cyclics = All-map CyclicInRange _ c.cyclics
+          (λ i d h. record {
+            assigned = initial_member (slice_index_or c.cyclics i d).class (AllPass-from_list_all (λ t. is_class_of c.processors t.class) c.cyclics valid.cyclics i d h);
+            period = let r = valid.in_range.cyclics i d h in let most = r.most in (r.least, omega (arith, most));
+            phase = (valid.in_range.cyclics i d h).phase;
+          });
+      alarms = All-map (λ (a : Alarm). has_member a.setup.class a.assigned ≡ true) _ c.alarms
+          (λ i d h. initial_member (slice_index_or c.alarms i d).class (AllPass-from_list_all (λ h. is_class_of c.processors h.class) c.alarms valid.alarms i d h));
+      locked = λ l p e. absurd (none-some p (sym (no_holder l) ∙ e));
+      one_lock = λ l m p e f. absurd (none-some p (sym (no_holder l) ∙ e));
+    };
+  }
 
 -- Some tasks are started.
 

@@ -10,13 +10,13 @@ use Rattle.fmp_calls.specs.declared.kinds.ArgumentKind.TheVariants as kinds
 use Rattle.fmp_calls.specs.declared.kinds.ObjectKind.TheVariants as objects
 use Rattle.fmp_calls.specs.declared.kinds.Value.{Value}
 use Rattle.fmp_calls.specs.declared.kinds.Value.TheVariants as values
-use Rattle.fmp_text.specs.declared.constants.Constant.{Constant}
-use Rattle.fmp_text.specs.declared.constants.Constant.TheVariants.{TskSelf, TpriSelf, TpriIni, TprcIni, TmoPol, TmoFevr, TwfAndw, TwfOrw}
+use Rattle.fmp_names.specs.declared.constants.Constant.{Constant}
+use Rattle.fmp_names.specs.declared.constants.Constant.TheVariants.{TskSelf, TpriSelf, TpriIni, TprcIni, TmoPol, TmoFevr, TwfAndw, TwfOrw}
 use Rattle.fmp_text.specs.Argument.{constant_of}
-use Rattle.fmp_text.specs.Constants.{all_constants, constant_in, value_of, word_of}
-use Rattle.fmp_text.specs.Names.{is_constant}
+use Rattle.fmp_names.specs.Constants.{all_constants, constant_in, value_of, word_of}
+use Rattle.fmp_names.specs.Names.{is_constant}
 use Rattle.fmp_calls.proofs.Found.{found_passes}
-use Rattle.fmp_text.proofs.Parsed.{and_then_parts}
+use Rattle.fmp_bytes.proofs.Parsed.{and_then_parts}
 
 word_is_name : (constant : Constant) → is_identifier (word_of constant) ≡ true
 unfolding is_of

@@ -4,7 +4,7 @@ use Rattle.std.proofs.lemmas.List.{append-nil, drop_more, drop_all}
 use Rattle.fmp_calls.specs.declared.kinds.ArgumentKind.{ArgumentKind}
 use Rattle.fmp_calls.specs.declared.kinds.Value.{Value}
 use Rattle.fmp_text.specs.declared.fault.TextKind.{TextKind}
-use Rattle.fmp_text.specs.Names.{NameLists}
+use Rattle.fmp_names.specs.Names.{NameLists}
 use Rattle.fmp_text.specs.Argument.{value_at}
 use Rattle.fmp_text.specs.Reading.{◌>>=◌, values_at}
 

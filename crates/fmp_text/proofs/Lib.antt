@@ -1,13 +1,10 @@
 pub mod ConstantWords
 pub mod Judged
 pub mod Limited
-pub mod Listed
 pub mod Parsed
 pub mod Pieces
-pub mod Placed
 pub mod Scanned
 pub mod Spelled
 pub mod SpelledCalls
 pub mod SpelledEvents
 pub mod SpelledTexts
-pub mod Valid

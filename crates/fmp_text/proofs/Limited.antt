@@ -12,25 +12,24 @@ use Rattle.fmp_codes.specs.declared.records.Event.{Event}
 use Rattle.fmp_codes.specs.declared.records.Event.TheVariants as events
 use Rattle.fmp_bytes.specs.Numerals.{signed_of, unsigned_limited}
 use Rattle.fmp_calls.specs.Arguments.{IsInBits, AreInBits, CallInBits, EventInBits}
-use Rattle.fmp_calls.specs.Kinds.{most_of}
 use Rattle.fmp_calls.specs.Table as table
 use Rattle.fmp_calls.specs.declared.kinds.ArgumentKind.{ArgumentKind}
 use Rattle.fmp_calls.specs.declared.kinds.ArgumentKind.TheVariants as kinds
 use Rattle.fmp_calls.specs.declared.kinds.NameKind.TheVariants as name_kinds
-use Rattle.fmp_calls.specs.declared.kinds.ObjectKind.{ObjectKind}
 use Rattle.fmp_calls.specs.declared.kinds.ObjectKind.TheVariants as objects
 use Rattle.fmp_calls.specs.declared.kinds.Value.{Value}
 use Rattle.fmp_calls.specs.declared.kinds.Value.TheVariants as values
-use Rattle.fmp_text.specs.declared.constants.Constant.{Constant}
-use Rattle.fmp_text.specs.declared.constants.Constant.TheVariants.{TskSelf, TpriSelf, TpriIni, TprcIni, TmoPol, TmoFevr, TwfAndw, TwfOrw}
+use Rattle.fmp_names.specs.declared.constants.Constant.{Constant}
+use Rattle.fmp_names.specs.declared.constants.Constant.TheVariants.{TskSelf, TpriSelf, TpriIni, TprcIni, TmoPol, TmoFevr, TwfAndw, TwfOrw}
 use Rattle.fmp_text.specs.Argument.{ranged, number32, constant_of}
-use Rattle.fmp_text.specs.Constants.{constant_in, value_of}
+use Rattle.fmp_names.specs.Constants.{constant_in, value_of}
 use Rattle.fmp_text.specs.Events.{reading_of, faultless}
 use Rattle.fmp_text.specs.Grammar.{IsObjectName, SpellsValue, SpellsPieces, SpellsArguments, SpellsCall}
-use Rattle.fmp_text.specs.Names.{NameLists, AreValid, names_of}
+use Rattle.fmp_names.specs.Names.{NameLists, AreValid, names_of}
 use Rattle.fmp_text.specs.TextGrammar.{OnProcessor, SpellsEvent, SpellsLines}
-use Rattle.fmp_text.proofs.Parsed.{and_then_parts, tested_some}
-use Rattle.fmp_text.proofs.Placed.{numbered}
+use Rattle.fmp_bytes.proofs.Parsed.{and_then_parts, tested_some}
+use Rattle.fmp_names.proofs.Placed.{numbered}
+use Rattle.fmp_names.proofs.Valid.{most_of-le}
 use Rattle.fmp_text.proofs.SpelledTexts.{text_is_spelled}
 
 -- ---- values
@@ -84,10 +83,6 @@ unfolding constant_of
 constant_in_bits kind word value e =
     let p = and_then_parts (constant_in word) (λ c. value_of c kind) value e in
     meaning_in_bits p.0 kind value p.2
-
-most_of-le : (kind : ObjectKind) → most_of kind ≤ 64
-most_of-le objects.Task = omega arith
-most_of-le _ = omega arith
 
 object_in_bits : (names : NameLists) (kind : ArgumentKind) (token : List ℕ) (value : Value) → AreValid names → IsObjectName names kind token value → IsInBits value
 object_in_bits names kind token value valid o =

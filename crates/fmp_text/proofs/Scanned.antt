@@ -10,7 +10,7 @@ use Rattle.fmp_text.specs.Limits.{most_events}
 use Rattle.fmp_text.specs.declared.fault.TextKind.{TextKind}
 use Rattle.fmp_text.specs.declared.fault.TextKind.TheVariants.{TooMany}
 use Rattle.fmp_text.specs.declared.scan.Scan.{Scan}
-use Rattle.fmp_text.specs.Names.{NameLists}
+use Rattle.fmp_names.specs.Names.{NameLists}
 use Rattle.fmp_text.specs.Lines.{line_event}
 use Rattle.fmp_text.specs.Events.{HasNoFeed, Reading, ScansTo, after_line, at_end, fault_at, reading_from, with_events}
 

@@ -14,12 +14,12 @@ use Rattle.fmp_calls.specs.declared.kinds.NameKind.TheVariants as name_kinds
 use Rattle.fmp_calls.specs.declared.kinds.Value.{Value}
 use Rattle.fmp_calls.specs.declared.kinds.Value.TheVariants as values
 use Rattle.fmp_text.specs.declared.fault.TextKind.TheVariants.{NumberOutOfRange, WrongArguments, UnknownName}
-use Rattle.fmp_text.specs.Names.{NameLists, AreValid, is_name, is_reserved, is_constant, is_object, is_processor_word}
-use Rattle.fmp_text.specs.Names.{number_of as number_of_name}
+use Rattle.fmp_names.specs.Names.{NameLists, AreValid, is_name, is_reserved, is_constant, is_object, is_processor_word}
+use Rattle.fmp_names.specs.Names.{number_of as number_of_name}
 use Rattle.fmp_text.specs.Argument.{is_argument, ranged, number_value, judged_number, constant_of, object_of, named_value, value_at}
 use Rattle.fmp_text.specs.Grammar.{IsNumber, IsObjectName, SpellsValue}
 use Rattle.fmp_text.proofs.ConstantWords.{constant_word}
-use Rattle.fmp_text.proofs.Placed.{number_of-name_of, name_of-number_of, object_name}
+use Rattle.fmp_names.proofs.Placed.{number_of-name_of, name_of-number_of, object_name}
 
 -- ---- numbers
 

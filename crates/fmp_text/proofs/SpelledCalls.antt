@@ -14,14 +14,15 @@ use Rattle.fmp_bytes.proofs.Cutting.{cut_at-append, cut_at-parts, pieces_of-join
 use Rattle.fmp_calls.specs.declared.kinds.ArgumentKind.{ArgumentKind}
 use Rattle.fmp_calls.specs.declared.kinds.Value.{Value}
 use Rattle.fmp_text.specs.declared.fault.TextKind.TheVariants.{BadByte, BadWord, WrongArguments}
-use Rattle.fmp_text.specs.Names.{NameLists, AreValid}
+use Rattle.fmp_names.specs.Names.{NameLists, AreValid}
 use Rattle.fmp_calls.specs.Table.{text_of, kinds_of, name_of, values_of, call_of}
 use Rattle.fmp_text.specs.Argument.{is_argument, token_in, tokens_in, arguments_in, before_close, enclosed_in, value_at}
 use Rattle.fmp_text.specs.Reading.{◌>>=◌, named_call, values_at, call_with, call_after, call_at, call_in}
 use Rattle.fmp_text.specs.Grammar.{AreBlank, Padded, SpellsPieces, SpellsArguments, SpellsCall}
 use Rattle.fmp_text.proofs.Spelled.{value_at-spelled, value_is_spelled}
 use Rattle.fmp_calls.proofs.Matched.{call_of-parts, call_of-agrees, call_of-same, named-text_of, text_of-named, kinds_of-name_of, is_identifier-text_of, length-kinds_of-le}
-use Rattle.fmp_text.proofs.Parsed.{bind_parts, and_then_parts, ok_or_parts, tested_some, tested_ok}
+use Rattle.fmp_bytes.proofs.Parsed.{and_then_parts, ok_or_parts, tested_some, tested_ok}
+use Rattle.fmp_text.proofs.Parsed.{bind_parts}
 
 -- ---- an argument with blanks around
 

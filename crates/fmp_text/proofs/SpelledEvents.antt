@@ -21,7 +21,7 @@ use Rattle.fmp_bytes.proofs.Included.{line-blank, line-argument, argument-word, 
 use Rattle.fmp_bytes.proofs.Spelled.{own, behind_is, behind-same, list_all-digits, are_digits-from, digits_from, not_zero_led, zero_alone, decimal_alone, magnitude_of-small, magnitude_of-some}
 use Rattle.fmp_text.specs.declared.fault.TextKind.{TextKind}
 use Rattle.fmp_text.specs.declared.fault.TextKind.TheVariants.{BadByte, BadWord, NumberOutOfRange, WrongArguments}
-use Rattle.fmp_text.specs.Names.{NameLists, AreValid}
+use Rattle.fmp_names.specs.Names.{NameLists, AreValid}
 use Rattle.fmp_calls.specs.Table.{text_of}
 use Rattle.fmp_text.specs.Reading.{call_at}
 use Rattle.fmp_text.specs.Lines.{in_processors, digits_of, processor_numbered, processor_in, alone, event_of, event_at, event_in}
@@ -29,7 +29,8 @@ use Rattle.fmp_text.specs.Grammar.{AreBlank, SpellsCall}
 use Rattle.fmp_text.specs.TextGrammar.{IsAlone, OnProcessor, SpellsEvent}
 use Rattle.fmp_bytes.proofs.Tokens.{identifier_bytes}
 use Rattle.fmp_calls.proofs.Matched.{no_tick, no_ipi, is_identifier-text_of}
-use Rattle.fmp_text.proofs.Parsed.{bind_parts, ok_or_parts, tested_ok, tested_some}
+use Rattle.fmp_bytes.proofs.Parsed.{ok_or_parts, tested_ok, tested_some}
+use Rattle.fmp_text.proofs.Parsed.{bind_parts}
 use Rattle.fmp_text.proofs.SpelledCalls.{not-word, call_at-spelled, call_at_is_spelled, word_of_call, line_of_call}
 
 -- ---- the processor

@@ -16,13 +16,13 @@ use Rattle.fmp_text.specs.Limits.{most_bytes, most_events}
 use Rattle.fmp_text.specs.declared.fault.TextFault.{TextFault}
 use Rattle.fmp_text.specs.declared.fault.TextKind.{TextKind}
 use Rattle.fmp_text.specs.declared.fault.TextKind.TheVariants.{CutShort, TooMany}
-use Rattle.fmp_text.specs.Names.{NameLists, AreValid}
+use Rattle.fmp_names.specs.Names.{NameLists, AreValid}
 use Rattle.fmp_text.specs.Reading.{◌>>=◌}
 use Rattle.fmp_text.specs.Lines.{event_in, is_skipped, without_return, line_event}
 use Rattle.fmp_text.specs.Events.{HasNoFeed, Reading, after_line, fault_at, faultless, reading_from, reading_of, with_event}
 use Rattle.fmp_text.specs.Grammar.{AreBlank}
 use Rattle.fmp_text.specs.TextGrammar.{IsComment, Ended, SpellsNothing, SpellsOne, IsRest, SpellsLines, SpellsText}
-use Rattle.fmp_text.proofs.Listed.{list_all-at}
+use Rattle.fmp_names.proofs.Listed.{list_all-at}
 use Rattle.fmp_text.proofs.Scanned.{reading_from-cut, reading_from-last}
 use Rattle.fmp_text.proofs.SpelledEvents.{event_in-spelled, event_is_spelled, line_of_spelled, event_begins}
 

@@ -13,9 +13,9 @@ use Rattle.fmp_calls.specs.declared.kinds.Value.{Value}
 use Rattle.fmp_calls.specs.declared.kinds.Value.TheVariants as values
 use Rattle.fmp_text.specs.declared.fault.TextKind.{TextKind}
 use Rattle.fmp_text.specs.declared.fault.TextKind.TheVariants.{UnknownName, WrongArguments, NumberOutOfRange}
-use Rattle.fmp_text.specs.Names.{number_of as number_of_name}
-use Rattle.fmp_text.specs.Names.{NameLists, is_object, is_constant}
-use Rattle.fmp_text.specs.Constants.{constant_in, value_of}
+use Rattle.fmp_names.specs.Names.{number_of as number_of_name}
+use Rattle.fmp_names.specs.Names.{NameLists, is_object, is_constant}
+use Rattle.fmp_names.specs.Constants.{constant_in, value_of}
 
 -- reading goes on with a value that is there
 infixl 10 ◌>>=◌

@@ -6,7 +6,7 @@ use Rattle.fmp_text.specs.declared.fault.TextFault.{TextFault}
 use Rattle.fmp_text.specs.declared.fault.TextKind.{TextKind}
 use Rattle.fmp_text.specs.declared.fault.TextKind.TheVariants.{CutShort, TooMany, Memory}
 use Rattle.fmp_text.specs.declared.scan.Scan.{Scan}
-use Rattle.fmp_text.specs.Names.{NameLists}
+use Rattle.fmp_names.specs.Names.{NameLists}
 use Rattle.fmp_text.specs.Lines.{line_event, is_skipped}
 
 -- what a text gives: the events of its lines before the first fault, and that fault

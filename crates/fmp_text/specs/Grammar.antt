@@ -11,7 +11,7 @@ use Rattle.fmp_calls.specs.declared.kinds.ObjectKind.{ObjectKind}
 use Rattle.fmp_calls.specs.declared.kinds.NameKind.TheVariants as name_kinds
 use Rattle.fmp_calls.specs.declared.kinds.Value.{Value}
 use Rattle.fmp_calls.specs.declared.kinds.Value.TheVariants as values
-use Rattle.fmp_text.specs.Names.{NameLists, name_of}
+use Rattle.fmp_names.specs.Names.{NameLists, name_of}
 use Rattle.fmp_calls.specs.Table.{text_of, kinds_of, values_of}
 use Rattle.fmp_text.specs.Argument.{ranged, constant_of}
 

@@ -1,10 +1,8 @@
 pub mod Argument
-pub mod Constants
 pub mod Events
 pub mod Faults
 pub mod Grammar
 pub mod Limits
 pub mod Lines
-pub mod Names
 pub mod Reading
 pub mod TextGrammar

@@ -12,7 +12,7 @@ use Rattle.fmp_bytes.specs.Bytes.{is_of, front, after, behind}
 use Rattle.fmp_bytes.specs.Numerals.{are_digits, is_zero_led, magnitude_of}
 use Rattle.fmp_text.specs.declared.fault.TextKind.{TextKind}
 use Rattle.fmp_text.specs.declared.fault.TextKind.TheVariants.{BadByte, BadWord, WrongArguments, NumberOutOfRange}
-use Rattle.fmp_text.specs.Names.{NameLists}
+use Rattle.fmp_names.specs.Names.{NameLists}
 use Rattle.fmp_text.specs.Reading.{◌>>=◌, call_at}
 
 -- the processor of a number from 1 to how many there are

@@ -11,7 +11,7 @@ use Rattle.fmp_bytes.specs.declared.classes.Class.TheVariants.{Blank, Word, Line
 use Rattle.fmp_text.specs.declared.fault.TextKind.{TextKind}
 use Rattle.fmp_text.specs.declared.fault.TextKind.TheVariants.{BadByte, BadWord, WrongArguments}
 use Rattle.fmp_bytes.specs.Bytes.{is_of, front, after}
-use Rattle.fmp_text.specs.Names.{NameLists}
+use Rattle.fmp_names.specs.Names.{NameLists}
 use Rattle.fmp_text.specs.Argument.{enclosed_in, arguments_in, value_at}
 
 -- reading goes on with what was read, and ends at the first fault

@@ -6,7 +6,7 @@ use Rattle.fmp_codes.specs.declared.numbers.Proc.{Proc}
 use Rattle.fmp_codes.specs.declared.records.Event.{Event}
 use Rattle.fmp_codes.specs.declared.records.Event.TheVariants as events
 use Rattle.fmp_text.specs.Limits.{most_bytes, most_events}
-use Rattle.fmp_text.specs.Names.{NameLists}
+use Rattle.fmp_names.specs.Names.{NameLists}
 use Rattle.fmp_text.specs.Grammar.{AreBlank, SpellsCall}
 
 -- a word with blanks behind it

@@ -4,15 +4,14 @@ ghost use Rattle.std.specs.Option.{option_copied};
 ghost use Rattle.fmp_bytes.specs.Bytes.{pieces_of};
 ghost use Rattle.fmp_text.specs.Argument as spec;
 
-use crate::constants::constant_in;
 use crate::fault::TextKind;
-use crate::names::{Names, is_constant};
 use arrayvec::ArrayVec;
 use fmp_bytes::{
     Class, Number, all_of, behind, cut, is_identifier, signed32, signed64, skip, spelled_number,
     split_front, unsigned32,
 };
 use fmp_calls::{ArgumentKind, MOST_ARGUMENTS, Value};
+use fmp_names::{Names, constant_in, is_constant};
 
 /// Whether the text has the form of an argument: an identifier or a number.
 #[tactic(auto, unfolding(crate::specs::Argument::is_argument))]

@@ -5,11 +5,11 @@ ghost use Rattle.fmp_text.specs.Reading.{Gives};
 
 use crate::argument::{arguments_in, enclosed_in, value_at};
 use crate::fault::TextKind;
-use crate::names::Names;
 use arrayvec::ArrayVec;
 use fmp_bytes::{Class, all_of, skip, split_front};
 use fmp_calls::{ArgumentKind, MOST_ARGUMENTS, Value, find_call, form, with_values};
 use fmp_codes::Call;
+use fmp_names::Names;
 
 #[tactic(auto, unfolding(crate::specs::Reading::named_call))]
 fn named_call(word: &[u8]) -> Result<Call, TextKind>

@@ -7,9 +7,9 @@ ghost use Rattle.fmp_text.specs.Limits.{most_events};
 
 use crate::fault::{TextFault, TextKind};
 use crate::line::is_skipped;
-use crate::names::Names;
 use crate::scan::first_said;
 use fmp_codes::Event;
+use fmp_names::Names;
 use std::alloc::Global;
 
 /// The greatest number of bytes of a text.

@@ -3,23 +3,14 @@ ghost use Rattle.std.specs.Prelude.{◌≡◌, ℕ, ◌+◌, Bool, true, List, [
 ghost use Rattle.fmp_codes.specs.declared.calls.Call.{Call};
 ghost use Rattle.fmp_codes.specs.declared.records.Event.{Event};
 ghost use Rattle.fmp_calls.specs.declared.kinds.ArgumentKind.{ArgumentKind};
-ghost use Rattle.fmp_calls.specs.declared.kinds.NameKind.{NameKind};
 ghost use Rattle.fmp_calls.specs.declared.kinds.Value.{Value};
-ghost use Rattle.fmp_text.specs.Names.{NameLists, AreValid, is_constant, name_of, number_of};
+ghost use Rattle.fmp_names.specs.Names.{NameLists, AreValid, is_constant};
 ghost use Rattle.fmp_text.specs.Argument.{constant_of, is_argument, value_at};
 ghost use Rattle.fmp_text.specs.Reading.{call_in};
 ghost use Rattle.fmp_text.specs.Lines.{line_event};
 ghost use Rattle.fmp_text.specs.Events.{HasNoFeed, after_line, reading_of, reading_from, faultless};
 ghost use Rattle.fmp_text.specs.Grammar.{SpellsValue, SpellsCall};
 ghost use Rattle.fmp_text.specs.TextGrammar.{SpellsText};
-
-/// A name and its number give each other back.
-pub fn names_and_numbers_agree()
-    ensures numbers { (names : NameLists) (kind : NameKind) (number : ℕ) (name : List ℕ) → AreValid names
-        → name_of names kind number ≡ Some name → number_of names kind name ≡ Some number }
-    ensures names { (names : NameLists) (kind : NameKind) (number : ℕ) (name : List ℕ)
-        → number_of names kind name ≡ Some number → name_of names kind number ≡ Some name }
-{}
 
 /// A word is a constant exactly where it is one of some kind.
 pub fn constants_have_a_kind()

@@ -5,9 +5,9 @@ ghost use Rattle.fmp_text.specs.Lines as spec;
 
 use crate::call::call_at;
 use crate::fault::TextKind;
-use crate::names::Names;
 use fmp_bytes::{Class, all_of, are_digits, behind, is_zero_led, magnitude, skip, split_front};
 use fmp_codes::{Event, Proc};
+use fmp_names::Names;
 
 #[tactic(auto, unfolding(crate::specs::Lines::in_processors))]
 fn in_processors(most: u8, number: Option<u64>) -> Option<Proc>

@@ -4,8 +4,8 @@ ghost use Rattle.fmp_text.specs.Events.{ScansTo, HasNoFeed};
 
 use crate::fault::TextKind;
 use crate::line::line_event;
-use crate::names::Names;
 use fmp_codes::Event;
+use fmp_names::Names;
 use memchr::memchr;
 
 /// A line that is not skipped, how many bytes end with its line feed, and how many lines.

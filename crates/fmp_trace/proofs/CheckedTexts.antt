@@ -16,7 +16,7 @@ use Rattle.fmp_text.specs.Limits.{most_events}
 use Rattle.fmp_text.specs.declared.fault.TextFault.{TextFault}
 use Rattle.fmp_text.specs.Events.{IsMemory}
 use Rattle.fmp_trace.specs.Reading.{GivesOrFails}
-use Rattle.fmp_text.specs.Names.{NameLists, AreValid}
+use Rattle.fmp_names.specs.Names.{NameLists, AreValid}
 use Rattle.fmp_text.proofs.Parsed.{bind_parts}
 use Rattle.fmp_trace.specs.declared.checking.Verdict.{Verdict}
 use Rattle.fmp_trace.specs.declared.checking.Verdict.TheVariants.{Yes, No}

@@ -1,5 +1,5 @@
 -- What the machine answers fits the names of its configuration.
-use Rattle.std.proofs.Common.{◌≡◌, ℕ, zero, suc, ◌-◌, ◌≤◌, ◌||◌, eqb, false, List, [], ◌∷◌, length, map, get_or, Option, Some, None, refl, sym, ap, subst, ◌∙◌, arith}
+use Rattle.std.proofs.Common.{◌≡◌, ℕ, ◌-◌, ◌≤◌, ◌||◌, eqb, false, List, [], ◌∷◌, length, map, get_or, Option, Some, None, refl, sym, ap, subst, ◌∙◌, arith}
 use Rattle.std.specs.Prelude.{All, IfSome, is_some}
 use Rattle.std.proofs.lemmas.Bool.{cond_both, ne_eqb}
 use Rattle.std.proofs.lemmas.List.Elements.{All-tail}
@@ -22,9 +22,10 @@ use Rattle.fmp_machine.specs.Setup.{Setup}
 use Rattle.fmp_machine.specs.Step.{settled, front_of, unchanged, step, answers}
 use Rattle.fmp_machine.specs.Valid.{IsValid}
 use Rattle.fmp_machine.specs.World.{processor, handler, runner_of, is_held}
+use Rattle.fmp_machine.proofs.Named.{length_at}
 use Rattle.fmp_safety.proofs.Telling.{runs_name}
 use Rattle.fmp_safety.specs.Counts.{counts_of, IsRunnerOf, IsTaskOf, IsReleaseOf, NamesOnly}
-use Rattle.fmp_text.specs.Names.{NameLists, names_of, name_of}
+use Rattle.fmp_names.specs.Names.{NameLists, names_of, name_of}
 use Rattle.fmp_trace.specs.Fits.{IsNamed, RunnerFits, ReleasesFit, RunChangeFits, FitsNames, AllFit}
 
 -- ---- the events of the answers
@@ -54,20 +55,15 @@ named_to lists kind i least most =
     let test : eqb i 0 ≡ false = ne_eqb i 0 (λ e. omega (arith, least, e)) in
     (get_or (names_of lists (Object kind)) (i - 1) [], rw test (slice_get-get_or (names_of lists (Object kind)) (i - 1) [] (omega (arith, least, most))))
 
-length_at : (lists : List (List (List ℕ))) (i : ℕ) → length (get_or lists i []) ≡ get_or (map length lists) i 0
-length_at [] i = refl
-length_at (list ∷ lists) zero = refl
-length_at (list ∷ lists) (suc i) = length_at lists i
-
 module _ (c : Setup) (valid : IsValid c) where
   tasks_named : length (names_of c.names (Object objects.Task)) ≡ length c.tasks
-  tasks_named = length_at c.names.objects 0 ∙ ap (λ (ns : List ℕ). get_or ns 0 0) valid.named_objects
+  tasks_named = sym (length_at c.names.objects 0) ∙ ap (λ (ns : List ℕ). get_or ns 0 0) valid.named_objects
 
   cyclics_named : length (names_of c.names (Object objects.Cyclic)) ≡ length c.cyclics
-  cyclics_named = length_at c.names.objects 5 ∙ ap (λ (ns : List ℕ). get_or ns 5 0) valid.named_objects ∙ sym (ap (λ (s : Setup). length s.cyclics) valid.only_tasks)
+  cyclics_named = sym (length_at c.names.objects 5) ∙ ap (λ (ns : List ℕ). get_or ns 5 0) valid.named_objects
 
   alarms_named : length (names_of c.names (Object objects.Alarm)) ≡ length c.alarms
-  alarms_named = length_at c.names.objects 6 ∙ ap (λ (ns : List ℕ). get_or ns 6 0) valid.named_objects ∙ sym (ap (λ (s : Setup). length s.alarms) valid.only_tasks)
+  alarms_named = sym (length_at c.names.objects 6) ∙ ap (λ (ns : List ℕ). get_or ns 6 0) valid.named_objects
 
   task_fits : (t : Task) → IsTaskOf (counts_of c) t → IsNamed c.names objects.Task t.number
   task_fits t most = named_to c.names objects.Task t.number t.least (rw tasks_named most)

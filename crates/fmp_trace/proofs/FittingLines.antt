@@ -16,9 +16,9 @@ use Rattle.fmp_bytes.specs.Bytes.{front, after, behind, cut_at, pieces_of}
 use Rattle.fmp_calls.specs.Arguments.{EventInBits}
 use Rattle.fmp_calls.specs.declared.kinds.ObjectKind.TheVariants as objects
 use Rattle.fmp_text.specs.Lines.{processor_numbered}
-use Rattle.fmp_text.specs.Names.{NameLists, AreValid}
+use Rattle.fmp_names.specs.Names.{NameLists, AreValid}
 use Rattle.fmp_text.specs.Reading.{call_in}
-use Rattle.fmp_text.proofs.Parsed.{and_then_parts, tested_some}
+use Rattle.fmp_bytes.proofs.Parsed.{and_then_parts, tested_some}
 use Rattle.fmp_trace.specs.Fits.{IsNamed, RunnerFits, ReleasesFit, FitsNames}
 use Rattle.fmp_trace.specs.Guess.{with_release, with_lost, with_run_change, with_requests, with_part, with_word, with_words, words_left, read, guess_answer, guess_call, guess_event, guess_runner, guess_processor, guess}
 use Rattle.fmp_trace.specs.GuessParts.{signed_in, task_in, coded_in, answer_in, runner_in, release_in, running_in, request_in, requests_in}

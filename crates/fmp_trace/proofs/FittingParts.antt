@@ -22,12 +22,12 @@ use Rattle.fmp_calls.specs.declared.kinds.NameKind.TheVariants as name_kinds
 use Rattle.fmp_calls.specs.declared.kinds.ObjectKind.{ObjectKind}
 use Rattle.fmp_calls.specs.declared.kinds.ObjectKind.TheVariants as objects
 use Rattle.fmp_text.specs.Lines.{in_processors, processor_numbered}
-use Rattle.fmp_text.specs.Names.{NameLists, AreValid, names_of, name_of}
-use Rattle.fmp_text.specs.Names.{number_of as number_of_name}
+use Rattle.fmp_names.specs.Names.{NameLists, AreValid, names_of, name_of}
+use Rattle.fmp_names.specs.Names.{number_of as number_of_name}
 use Rattle.fmp_text.specs.Reading.{call_in}
 use Rattle.fmp_text.proofs.Limited.{mapped, signed_within, call_in_bits}
-use Rattle.fmp_text.proofs.Parsed.{and_then_parts, tested_some}
-use Rattle.fmp_text.proofs.Placed.{name_of-number_of, numbered}
+use Rattle.fmp_bytes.proofs.Parsed.{and_then_parts, tested_some}
+use Rattle.fmp_names.proofs.Placed.{name_of-number_of, numbered}
 use Rattle.fmp_text.proofs.SpelledCalls.{call_is_spelled}
 use Rattle.fmp_codes.specs.Records.{IsWithin, ValueFits, AnswerFits}
 use Rattle.fmp_calls.specs.Arguments.{CallInBits}

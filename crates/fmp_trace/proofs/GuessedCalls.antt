@@ -24,7 +24,7 @@ use Rattle.fmp_calls.specs.declared.kinds.Value.TheVariants as values
 use Rattle.fmp_calls.specs.Table as table
 use Rattle.fmp_text.specs.Argument.{constant_of, ranged, number32, is_argument}
 use Rattle.fmp_text.specs.Grammar.{IsNumber, SpellsValue, SpellsPieces, SpellsArguments}
-use Rattle.fmp_text.specs.Names.{NameLists, AreValid, name_of}
+use Rattle.fmp_names.specs.Names.{NameLists, AreValid, name_of}
 use Rattle.fmp_text.specs.Reading.{call_in}
 use Rattle.fmp_text.proofs.Spelled.{value_at-spelled}
 use Rattle.fmp_text.proofs.SpelledCalls.{call_in-spelled}

@@ -19,7 +19,7 @@ use Rattle.fmp_calls.proofs.Matched.{is_identifier-text_of, no_tick, no_ipi}
 use Rattle.fmp_calls.specs.Table as table
 use Rattle.fmp_calls.specs.Arguments.{CallInBits, EventInBits}
 use Rattle.fmp_codes.specs.Records.{processor_of}
-use Rattle.fmp_text.specs.Names.{NameLists, AreValid}
+use Rattle.fmp_names.specs.Names.{NameLists, AreValid}
 use Rattle.fmp_trace.specs.Fits.{FitsNames}
 use Rattle.fmp_trace.specs.Guess.{guess_answer, guess_call, guess_event, guess_runner, guess_processor, guess}
 use Rattle.fmp_trace.specs.Lines.{event_text, runner_text, answer_text, tail_text, head_text, core_text}

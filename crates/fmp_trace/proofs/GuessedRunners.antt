@@ -16,10 +16,10 @@ use Rattle.fmp_calls.specs.Kinds.{place_of}
 use Rattle.fmp_calls.specs.declared.kinds.NameKind.TheVariants as kinds
 use Rattle.fmp_calls.specs.declared.kinds.ObjectKind.{ObjectKind}
 use Rattle.fmp_calls.specs.declared.kinds.ObjectKind.TheVariants as objects
-use Rattle.fmp_text.specs.Names.{NameLists, AreValid, names_of, name_of, times}
-use Rattle.fmp_text.specs.Names.{number_of as number_of_name}
-use Rattle.fmp_text.proofs.Placed.{name_of-number_of, numbered}
-use Rattle.fmp_text.proofs.Valid.{place_of-lt}
+use Rattle.fmp_names.specs.Names.{NameLists, AreValid, names_of, name_of, times}
+use Rattle.fmp_names.specs.Names.{number_of as number_of_name}
+use Rattle.fmp_names.proofs.Placed.{name_of-number_of, numbered}
+use Rattle.fmp_names.proofs.Valid.{place_of-lt}
 use Rattle.fmp_trace.specs.Fits.{IsNamed, RunnerFits}
 use Rattle.fmp_trace.specs.GuessParts.{task_in, object_in, named_runner, runner_in}
 use Rattle.fmp_trace.specs.Lines.{runner_text}

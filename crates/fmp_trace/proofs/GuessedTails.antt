@@ -21,7 +21,7 @@ use Rattle.fmp_bytes.specs.Bytes.{is_of, pieces_of}
 use Rattle.fmp_bytes.proofs.Cutting.{cut_at-append, pieces_of-join}
 use Rattle.fmp_bytes.proofs.Fronts.{list_all-weaker, list_all-both}
 use Rattle.fmp_calls.specs.declared.kinds.ObjectKind.TheVariants as objects
-use Rattle.fmp_text.specs.Names.{NameLists, AreValid}
+use Rattle.fmp_names.specs.Names.{NameLists, AreValid}
 use Rattle.fmp_codes.specs.Records.{ValueFits, AnswerFits, Ascend}
 use Rattle.fmp_trace.specs.Fits.{IsNamed, ReleasesFit, RunningFits, RunChangeFits}
 use Rattle.fmp_trace.specs.Guess.{with_release, with_lost, with_run_change, with_requests, with_part, with_word, with_words}

@@ -25,10 +25,10 @@ use Rattle.fmp_calls.specs.declared.kinds.NameKind.TheVariants as kinds
 use Rattle.fmp_calls.specs.declared.kinds.ObjectKind.{ObjectKind}
 use Rattle.fmp_calls.specs.declared.kinds.ObjectKind.TheVariants as objects
 use Rattle.fmp_text.specs.Lines.{in_processors, processor_numbered}
-use Rattle.fmp_text.specs.Names.{NameLists, AreValid, name_of, is_reserved, is_processor_word, is_constant}
-use Rattle.fmp_text.specs.Names.{number_of as number_of_name}
-use Rattle.fmp_text.specs.Names as names
-use Rattle.fmp_text.proofs.Placed.{number_of-name_of, object_name}
+use Rattle.fmp_names.specs.Names.{NameLists, AreValid, name_of, is_reserved, is_processor_word, is_constant}
+use Rattle.fmp_names.specs.Names.{number_of as number_of_name}
+use Rattle.fmp_names.specs.Names as names
+use Rattle.fmp_names.proofs.Placed.{number_of-name_of, object_name}
 use Rattle.fmp_codes.specs.Records.{IsWithin, ValueFits, AnswerFits}
 use Rattle.fmp_trace.specs.Fits.{IsNamed, RunningFits}
 use Rattle.fmp_trace.specs.GuessParts.{signed_in, task_in, object_in, code_in, value_in, coded_in, done_in, word_answer, answer_in, running_in}

@@ -4,7 +4,7 @@ use Rattle.fmp_codes.specs.declared.numbers.Proc.{Proc}
 use Rattle.fmp_codes.specs.declared.records.Record.{Record}
 use Rattle.fmp_bytes.specs.Bytes.{cut_at, pieces_of}
 use Rattle.fmp_bytes.proofs.Cutting.{pieces_left, pieces_of-cut}
-use Rattle.fmp_text.specs.Names.{NameLists}
+use Rattle.fmp_names.specs.Names.{NameLists}
 use Rattle.fmp_trace.specs.Guess.{with_word, with_words}
 use Rattle.fmp_trace.specs.GuessParts.{request_in, requests_in}
 

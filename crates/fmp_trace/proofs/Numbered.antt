@@ -8,7 +8,7 @@ use Rattle.fmp_machine.specs.Numbers.{State}
 use Rattle.fmp_text.specs.declared.fault.TextFault.{TextFault}
 use Rattle.fmp_text.specs.declared.fault.TextKind.TheVariants.{CutShort}
 use Rattle.fmp_trace.specs.Reading.{at_line, Fails}
-use Rattle.fmp_text.specs.Names.{NameLists}
+use Rattle.fmp_names.specs.Names.{NameLists}
 use Rattle.fmp_text.specs.Reading.{◌>>=◌}
 use Rattle.fmp_trace.specs.declared.checking.Verdict.{Verdict}
 use Rattle.fmp_trace.specs.declared.checking.Verdict.TheVariants.{Yes, No}

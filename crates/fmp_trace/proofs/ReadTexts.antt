@@ -13,7 +13,7 @@ use Rattle.fmp_text.specs.declared.fault.TextFault.{TextFault}
 use Rattle.fmp_text.specs.declared.fault.TextKind.{TextKind}
 use Rattle.fmp_text.specs.declared.fault.TextKind.TheVariants.{BadByte, BadWord, UnknownName, WrongArguments, NumberOutOfRange, CutShort, TooMany, Memory}
 use Rattle.fmp_trace.specs.Reading.{at_line}
-use Rattle.fmp_text.specs.Names.{NameLists, AreValid}
+use Rattle.fmp_names.specs.Names.{NameLists, AreValid}
 use Rattle.fmp_text.specs.Reading.{◌>>=◌}
 use Rattle.fmp_trace.specs.Fits.{AllFit}
 use Rattle.fmp_trace.specs.Guess.{guess}

@@ -4,7 +4,7 @@ use Rattle.fmp_codes.specs.declared.records.Record.{Record}
 use Rattle.fmp_text.specs.declared.fault.TextFault.{TextFault}
 use Rattle.fmp_text.specs.Events.{IsMemory}
 use Rattle.fmp_trace.specs.Reading.{GivesOrFails, Fails}
-use Rattle.fmp_text.specs.Names.{NameLists, AreValid}
+use Rattle.fmp_names.specs.Names.{NameLists, AreValid}
 use Rattle.fmp_trace.specs.Prints.{PrintsWithin, FirstFault}
 use Rattle.fmp_trace.specs.Reading.{records_in}
 use Rattle.fmp_trace.proofs.ReadTexts.{read_prints, prints_read, fault_is_first}

@@ -14,7 +14,7 @@ use Rattle.fmp_machine.specs.Step.{step, answers}
 use Rattle.fmp_text.specs.Limits.{most_bytes, most_events}
 use Rattle.fmp_text.specs.declared.fault.TextFault.{TextFault}
 use Rattle.fmp_text.specs.declared.fault.TextKind.TheVariants.{BadWord}
-use Rattle.fmp_text.specs.Names.{NameLists}
+use Rattle.fmp_names.specs.Names.{NameLists}
 use Rattle.fmp_text.specs.Reading.{◌>>=◌}
 use Rattle.fmp_trace.specs.declared.checking.Verdict.{Verdict}
 use Rattle.fmp_trace.specs.declared.checking.Verdict.TheVariants.{Yes, No}

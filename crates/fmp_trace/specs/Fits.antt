@@ -10,7 +10,7 @@ use Rattle.fmp_calls.specs.Arguments.{EventInBits}
 use Rattle.fmp_calls.specs.declared.kinds.NameKind.TheVariants as names
 use Rattle.fmp_calls.specs.declared.kinds.ObjectKind.{ObjectKind}
 use Rattle.fmp_calls.specs.declared.kinds.ObjectKind.TheVariants as objects
-use Rattle.fmp_text.specs.Names.{NameLists, name_of}
+use Rattle.fmp_names.specs.Names.{NameLists, name_of}
 
 -- an object of this kind has the number
 abbrev pub IsNamed : NameLists → ObjectKind → ℕ → Type 0

@@ -12,7 +12,7 @@ use Rattle.fmp_bytes.specs.declared.classes.Class.TheVariants.{Word}
 use Rattle.fmp_bytes.specs.Bytes.{front, after, behind, cut_at, pieces_of}
 use Rattle.fmp_text.specs.Argument.{◌>>=◌}
 use Rattle.fmp_text.specs.Lines.{processor_numbered}
-use Rattle.fmp_text.specs.Names.{NameLists}
+use Rattle.fmp_names.specs.Names.{NameLists}
 use Rattle.fmp_text.specs.Reading.{call_in}
 use Rattle.fmp_trace.specs.GuessParts.{signed_in, answer_in, runner_in, release_in, running_in, requests_in}
 

@@ -21,8 +21,8 @@ use Rattle.fmp_calls.specs.declared.kinds.ObjectKind.TheVariants as objects
 use Rattle.fmp_calls.specs.declared.kinds.NameKind.TheVariants as kinds
 use Rattle.fmp_text.specs.Argument.{◌>>=◌}
 use Rattle.fmp_text.specs.Lines.{processor_numbered}
-use Rattle.fmp_text.specs.Names.{NameLists}
-use Rattle.fmp_text.specs.Names.{number_of as number_of_name}
+use Rattle.fmp_names.specs.Names.{NameLists}
+use Rattle.fmp_names.specs.Names.{number_of as number_of_name}
 
 -- ---- numbers and names
 

@@ -11,7 +11,7 @@ use Rattle.fmp_calls.specs.declared.kinds.ObjectKind.{ObjectKind}
 use Rattle.fmp_calls.specs.declared.kinds.ObjectKind.TheVariants as objects
 use Rattle.fmp_calls.specs.declared.kinds.Value.{Value}
 use Rattle.fmp_calls.specs.declared.kinds.Value.TheVariants as values
-use Rattle.fmp_text.specs.Names.{NameLists, name_of}
+use Rattle.fmp_names.specs.Names.{NameLists, name_of}
 use Rattle.fmp_calls.specs.Table as table
 
 -- the name of an object, or the number where no object has it

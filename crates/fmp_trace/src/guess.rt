@@ -4,7 +4,7 @@
 ghost use Rattle.std.specs.Prelude.{◌≡◌, ◌≤◌, ◌<◌, [], IfSome};
 ghost use Rattle.fmp_bytes.specs.Bytes.{pieces_of};
 ghost use Rattle.fmp_calls.specs.Kinds.{most_of};
-ghost use Rattle.fmp_text.specs.Names.{number_of};
+ghost use Rattle.fmp_names.specs.Names.{number_of};
 ghost use Rattle.std.specs.Option.{option_copied};
 ghost use Rattle.fmp_trace.specs.Guess as spec;
 ghost use Rattle.fmp_trace.specs.GuessParts as parts;

@@ -9,7 +9,7 @@ ghost use Rattle.fmp_machine.specs.Numbers.{numbered};
 ghost use Rattle.fmp_machine.specs.Setup.{Setup};
 ghost use Rattle.fmp_machine.specs.Step as machine;
 ghost use Rattle.fmp_machine.specs.Valid.{IsValid};
-ghost use Rattle.fmp_text.specs.Names.{NameLists, AreValid};
+ghost use Rattle.fmp_names.specs.Names.{NameLists, AreValid};
 ghost use Rattle.fmp_trace.specs.Fits.{AllFit};
 ghost use Rattle.fmp_trace.specs.Prints.{Prints};
 

@@ -3,7 +3,7 @@ use Rattle.std.proofs.lemmas.Grind.{common_steps}
 use Rattle.std.proofs.lemmas.Bool.{le-ltb, lt-ltb}
 use Rattle.std.proofs.lemmas.List.{append-nil}
 use Rattle.fmp_text.specs.Limits.{most_bytes, most_events}
-use Rattle.fmp_text.specs.Names.{NameLists}
+use Rattle.fmp_names.specs.Names.{NameLists}
 use Rattle.fmp_text.specs.Lines.{is_skipped}
 use Rattle.fmp_text.specs.Events.{Reading, at_end, reading_of, reading_from, with_events}
 use Rattle.fmp_text.proofs.Limited.{reading_on, reading_in_bits}

@@ -1,5 +1,5 @@
 use Rattle.std.proofs.Common.{subst}
-use Rattle.fmp_text.specs.Names.{AreValid}
+use Rattle.fmp_names.specs.Names.{AreValid}
 use Rattle.fmp_trace.proofs.CheckedTexts.{is_judged, has_one, is_own, is_answered, is_reading_fault}
 use Rattle.fmp_trace.proofs.checking.check.Goals as goal
 

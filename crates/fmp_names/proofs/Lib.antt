@@ -1,0 +1,4 @@
+pub mod Defined
+pub mod Listed
+pub mod Placed
+pub mod Valid

@@ -1,0 +1,303 @@
+//! The names of a configuration.
+ghost use Rattle.std.specs.Prelude.{◌≡◌, ◌≤◌, ◌++◌, ◌∷◌, [], ◌<◌, map, get_or, slice_set, OnOk, OnErr, IfSome, slice_get, option_map, pos, true, false};
+ghost use Rattle.std.specs.Option.{option_copied};
+ghost use Rattle.std.specs.List.{list_any};
+ghost use Rattle.std.specs.Map.{keys_of};
+ghost use Rattle.indexmap.specs.IndexSet.{index_set_len};
+ghost use Rattle.fmp_calls.specs.declared.kinds.ObjectKind.{ObjectKind};
+ghost use Rattle.fmp_calls.specs.Kinds.{most_of};
+ghost use Rattle.fmp_names.specs.Names as spec;
+
+use crate::constants::constant_in;
+use fmp_bytes::{are_digits, behind, is_identifier};
+use fmp_calls::{NameKind, ObjectKind};
+use indexmap::{IndexMap, IndexSet};
+use std::alloc::{AllocError, Global};
+use std::marker::Model;
+
+/// The greatest number of bytes of a name.
+pub const MOST_NAME_BYTES: usize = 64;
+
+/// The greatest number of defined names.
+pub const MOST_DEFINED: usize = 1024;
+
+/// How many processors there are, the names of the objects and functions, and names that are defined to stand for numbers.
+/// In each kind of objects and among the functions numbers count from 1, in the order in which names were added. Objects and
+/// defined names share one name space, and functions have one of their own.
+#[derive(Drop)]
+pub struct Names {
+    alloc: Global,
+    processors: u8,
+    objects: [IndexSet<Vec<u8>>; 8],
+    functions: IndexSet<Vec<u8>>,
+    defined: IndexMap<Vec<u8>, u32>,
+}
+
+impl Model for Names {
+    ghost use Rattle.fmp_names.specs.Names.{NameLists, AreValid, lists_of};
+
+    ghost Value = { NameLists };
+
+    ghost view = { λ n. lists_of n.processors n.objects n.functions n.defined };
+
+    ghost invariant = { λ n. AreValid (lists_of n.processors n.objects n.functions n.defined) };
+}
+
+/// Whether the text can be a name: an identifier of at most 64 bytes.
+#[tactic(auto, unfolding(crate::specs::Names::is_name))]
+pub fn is_name(text: &[u8]) -> bool
+    ensures { result ≡ spec.is_name text.now }
+{
+    is_identifier(text) && text.len() <= MOST_NAME_BYTES
+}
+
+/// Whether the word stands for a number or a mode in some place of a call.
+#[tactic(auto, unfolding(crate::specs::Names::is_constant))]
+pub fn is_constant(word: &[u8]) -> bool
+    ensures { result ≡ spec.is_constant word.now }
+{
+    constant_in(word).is_some()
+}
+
+#[tactic(auto, unfolding(crate::specs::Names::is_processor_word))]
+fn is_processor_word(word: &[u8]) -> bool
+    ensures { result ≡ spec.is_processor_word word.now }
+{
+    match behind(b'P', word) {
+        Some(digits) => are_digits(10, digits),
+        None => false,
+    }
+}
+
+/// Whether no object and no defined name may be this word: a constant, `idle`, or `P` followed by digits only.
+#[tactic(auto, unfolding(crate::specs::Names::is_reserved))]
+pub fn is_reserved(word: &[u8]) -> bool
+    ensures { result ≡ spec.is_reserved word.now }
+{
+    word == b"idle".as_slice() || is_processor_word(word) || is_constant(word)
+}
+
+#[tactic(auto, using(crate::proofs::Listed::list_any_map))]
+fn has_name(set: &IndexSet<Vec<u8>>, name: &[u8]) -> bool
+    ensures { result ≡ spec.has_name (spec.texts set.now) name.now }
+{
+    set.contains(name)
+}
+
+fn some_has_name(sets: &[IndexSet<Vec<u8>>; 8], name: &[u8]) -> bool
+    ensures { result ≡ list_any (λ set. spec.has_name (spec.texts set) name.now) sets.now }
+{
+    sets.iter().any(|set| has_name(set, name))
+}
+
+fn insert_name(set: &mut IndexSet<Vec<u8>>, name: Vec<u8>) -> Result<(), AllocError>
+    requires { spec.has_name (spec.texts set.old) name.items ≡ false }
+    ensures ok { OnOk result (spec.texts set.new ≡ spec.texts set.old ++ name.items ∷ []) }
+    ensures err { OnErr result (spec.texts set.new ≡ spec.texts set.old) }
+{
+    set.insert(name)?;
+    Ok(())
+}
+
+fn insert_object(
+    objects: &mut [IndexSet<Vec<u8>>; 8],
+    place: usize,
+    name: Vec<u8>,
+) -> Result<(), AllocError>
+    requires within { place < 8 }
+    requires new { spec.has_name (get_or (map spec.texts objects.old) place []) name.items ≡ false }
+    ensures ok { OnOk result (map spec.texts objects.new ≡ slice_set (map spec.texts objects.old) place (get_or (map spec.texts objects.old) place [] ++ name.items ∷ [])) }
+    ensures err { OnErr result (map spec.texts objects.new ≡ map spec.texts objects.old) }
+{
+    insert_name(&mut objects[place], name)
+}
+
+fn insert_definition(
+    defined: &mut IndexMap<Vec<u8>, u32>,
+    name: Vec<u8>,
+    number: u32,
+) -> Result<(), AllocError>
+    requires { spec.has_name (keys_of (spec.definitions defined.old)) name.items ≡ false }
+    ensures ok { OnOk result (spec.definitions defined.new ≡ spec.definitions defined.old ++ (name.items, number) ∷ []) }
+    ensures err { OnErr result (spec.definitions defined.new ≡ spec.definitions defined.old) }
+{
+    defined.insert(name, number)?;
+    Ok(())
+}
+
+impl Names {
+    /// No names yet, for a number of processors.
+    pub fn new(alloc: Global, processors: u8) -> Self
+        requires least { 1 ≤ processors }
+        requires most { processors ≤ 8 }
+        ensures { result ≡ spec.no_names processors }
+    {
+        Names {
+            alloc,
+            processors,
+            objects: [
+                IndexSet::new(alloc),
+                IndexSet::new(alloc),
+                IndexSet::new(alloc),
+                IndexSet::new(alloc),
+                IndexSet::new(alloc),
+                IndexSet::new(alloc),
+                IndexSet::new(alloc),
+                IndexSet::new(alloc),
+            ],
+            functions: IndexSet::new(alloc),
+            defined: IndexMap::new(alloc),
+        }
+    }
+
+    /// Says anew how many processors there are.
+    pub fn set_processors(&mut self, processors: u8)
+        requires least { 1 ≤ processors }
+        requires most { processors ≤ 8 }
+        ensures { self.new ≡ spec.with_processor_count self.old processors }
+    {
+        self.processors = processors;
+    }
+
+    /// What holds of all names, for proofs. It does nothing.
+    pub fn validity(&self)
+        ensures { spec.AreValid self.now }
+    {
+        let _processors = &self.processors;
+    }
+
+    /// Adds a name, which has the next number of its kind. An `Err` changes nothing.
+    pub fn add(&mut self, kind: NameKind, name: &[u8]) -> Result<(), AllocError>
+        requires name { spec.is_name name.now ≡ true }
+        requires free { spec.is_free kind name.now ≡ true }
+        requires new { spec.is_taken self.old kind name.now ≡ false }
+        requires room { spec.has_room self.old kind ≡ true }
+        ensures ok { OnOk result (self.new ≡ spec.with_name self.old kind name.now) }
+        ensures err { OnErr result (self.new ≡ self.old) }
+    {
+        let copy = Vec::from_slice(self.alloc, name)?;
+        match kind {
+            NameKind::Object(kind) => insert_object(&mut self.objects, kind.place(), copy),
+            NameKind::Function => insert_name(&mut self.functions, copy),
+        }
+    }
+
+    /// Adds a name that stands for a number. An `Err` changes nothing.
+    #[tactic(auto, unfolding(crate::specs::Names::is_defined))]
+    pub fn define(&mut self, name: &[u8], number: u32) -> Result<(), AllocError>
+        requires name { spec.is_name name.now ≡ true }
+        requires free { spec.is_reserved name.now ≡ false }
+        requires object { spec.is_object self.old name.now ≡ false }
+        requires new { spec.is_defined self.old name.now ≡ false }
+        requires room { spec.has_room_to_define self.old ≡ true }
+        ensures ok { OnOk result (self.new ≡ spec.with_defined_name self.old name.now number) }
+        ensures err { OnErr result (self.new ≡ self.old) }
+    {
+        let copy = Vec::from_slice(self.alloc, name)?;
+        insert_definition(&mut self.defined, copy, number)
+    }
+
+    /// Whether one more name of this kind is within its limit: 64 tasks, 32 objects of each other kind, any number of functions.
+    pub fn has_room(&self, kind: NameKind) -> bool
+        ensures { result ≡ spec.has_room self.now kind }
+    {
+        match kind {
+            NameKind::Object(object) => self.list(kind).len() < object.limit(),
+            NameKind::Function => true,
+        }
+    }
+
+    /// Whether one more defined name is within the limit of 1024.
+    pub fn has_room_to_define(&self) -> bool
+        ensures { result ≡ spec.has_room_to_define self.now }
+    {
+        self.defined.len() < MOST_DEFINED
+    }
+
+    /// Whether an object of some kind has this name.
+    #[tactic(auto, using(crate::proofs::Listed::list_any_map), unfolding(crate::specs::Names::is_object))]
+    pub fn contains_object(&self, name: &[u8]) -> bool
+        ensures { result ≡ spec.is_object self.now name.now }
+    {
+        some_has_name(&self.objects, name)
+    }
+
+    /// Whether a function has this name.
+    pub fn contains_function(&self, name: &[u8]) -> bool
+        ensures { result ≡ spec.is_taken self.now NameKind.Function name.now }
+    {
+        has_name(&self.functions, name)
+    }
+
+    /// The number that a defined name stands for.
+    pub fn defined(&self, name: &[u8]) -> Option<u32>
+        ensures { result ≡ spec.number_defined self.now name.now }
+    {
+        self.defined.get(name).copied()
+    }
+
+    /// Whether this name stands for a number.
+    pub fn contains_defined(&self, name: &[u8]) -> bool
+        ensures { result ≡ spec.is_defined self.now name.now }
+    {
+        self.defined.contains_key(name)
+    }
+
+    /// How many processors there are.
+    pub fn processors(&self) -> u8
+        ensures value { result ≡ self.now.processors }
+        ensures least { 1 ≤ result }
+        ensures most { result ≤ 8 }
+    {
+        self.processors
+    }
+
+    /// The number of this name of the kind.
+    pub fn number(&self, kind: NameKind, name: &[u8]) -> Option<usize>
+        ensures value { result ≡ spec.number_of self.now kind name.now }
+        ensures least { IfSome result (λ n. 1 ≤ n) }
+        ensures most { (k : ObjectKind) → kind ≡ NameKind.Object k → IfSome result (λ n. n ≤ most_of k) }
+    {
+        let list = self.list(kind);
+        let index = list.get_index_of(name)?;
+        let count = list.len();
+        prove!(index < count);
+        Some(index + 1)
+    }
+
+    /// The number of the object of this kind with this name, as calls write it.
+    pub fn object(&self, kind: ObjectKind, name: &[u8]) -> Option<i32>
+        ensures { result ≡ option_map pos (spec.number_of self.now (NameKind.Object kind) name.now) }
+    {
+        let number = self.number(NameKind::Object(kind), name)?;
+        Some(number as i32)
+    }
+
+    /// The name of the kind with this number.
+    #[tactic(auto, unfolding(crate::specs::Names::name_of))]
+    pub fn name(&self, kind: NameKind, number: usize) -> Option<&[u8]>
+        ensures { option_copied result ≡ spec.name_of self.now kind number }
+    {
+        if number == 0 {
+            return None;
+        }
+        self.nth(kind, number - 1)
+    }
+
+    fn nth(&self, kind: NameKind, index: usize) -> Option<&[u8]>
+        ensures { option_copied result ≡ slice_get (spec.names_of self.now kind) index }
+    {
+        let name = self.list(kind).get_index(index)?;
+        Some(name.as_slice())
+    }
+
+    fn list(&self, kind: NameKind) -> &IndexSet<Vec<u8>>
+        ensures names { spec.texts result.now ≡ spec.names_of self.now kind }
+        ensures most { (k : ObjectKind) → kind ≡ NameKind.Object k → index_set_len result.now ≤ most_of k }
+    {
+        match kind {
+            NameKind::Object(kind) => &self.objects[kind.place()],
+            NameKind::Function => &self.functions,
+        }
+    }
+}
