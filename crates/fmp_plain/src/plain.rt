@@ -6,11 +6,10 @@ ghost use Rattle.fmp_machine.specs.Step.{step};
 ghost use Rattle.fmp_safety.specs.Safe.{Safe};
 ghost use Rattle.fmp_safety.specs.Laws.{FindsNothing, TakesRequest, RunsTop};
 
-use crate::boot::boot;
-use crate::step::step;
 use fmp_codes::{Event, Record};
 use fmp_machine::Config;
 use fmp_plain_rows::Machine;
+use fmp_step::{boot, step};
 use std::alloc::AllocError;
 use std::marker::Model;
 
@@ -22,14 +21,14 @@ pub struct Plain {
 }
 
 impl Model for Plain {
-    ghost use Rattle.std.specs.Prelude.{◌+◌, ◌≤◌};
+    ghost use Rattle.std.specs.Prelude.{◌+◌, ◌*◌, ◌≤◌};
     ghost use Rattle.fmp_plain.specs.Run.{Run};
 
     ghost Value = { Run };
 
     ghost view = { λ a. record { state = a.machine; steps = a.steps } };
 
-    ghost invariant = { λ a. a.machine.order.next ≤ a.steps + 64 };
+    ghost invariant = { λ a. a.machine.order.next ≤ 64 * (a.steps + 1) };
 }
 
 impl Plain {
@@ -39,10 +38,9 @@ impl Plain {
         ensures state { IfOk result (λ m. m ≡ record { state = booted config.now; steps = 0 }) }
         ensures safe { IfOk result (λ m. Safe numbered m.state) }
     {
-        Ok(Plain {
-            machine: boot(config),
-            steps: 0,
-        })
+        let mut machine = Machine::blank(config);
+        boot(&mut machine, config);
+        Ok(Plain { machine, steps: 0 })
     }
 
     /// Plays one event, and tells what it answers and did.

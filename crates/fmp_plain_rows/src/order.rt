@@ -8,9 +8,10 @@ ghost use Rattle.fmp_plain_rows.specs.Better.{better};
 use crate::machine::Machine;
 use fmp_codes::{Proc, Task};
 use fmp_machine::TaskRecord;
+use fmp_rows::Words;
 
 /// Whether a task is active, with no wait and not suspended.
-pub fn is_runnable(task: &TaskRecord) -> bool
+pub(crate) fn is_runnable(task: &TaskRecord) -> bool
     ensures { result ≡ is_runnable task.now }
 {
     task.active && task.wait.is_none() && !task.suspended
@@ -19,7 +20,7 @@ pub fn is_runnable(task: &TaskRecord) -> bool
 impl Machine {
     /// The task that comes first on a processor.
     #[tactic(auto, using(crate::proofs::First::first_in_order), unfolding(fmp_machine::specs::Numbers::numbered))]
-    pub fn top(&self, p: Proc) -> Option<Task>
+    pub(crate) fn first_ready(&self, p: Proc) -> Option<Task>
         ensures { result ≡ top numbered self.now p }
     {
         let mut best: Option<Task> = None;

@@ -1,0 +1,77 @@
+//! The numbers by which the machine keeps what came before what.
+ghost use Rattle.std.specs.Prelude.{◌≡◌, ◌+◌, ◌<◌, ◌≤◌, ◌^◌, ℕ, Option, option_map};
+ghost use Rattle.fmp_machine.specs.World.{task, with_item};
+ghost use Rattle.fmp_machine.specs.Keeping.{order_of, rejoin};
+ghost use Rattle.fmp_machine.specs.Numbers.{numbered};
+ghost use Rattle.fmp_machine.specs.declared.machine.TaskRecord.{TaskRecord as AnyTaskRecord};
+
+use crate::machine::Machine;
+use fmp_codes::Task;
+use fmp_machine::Order;
+use fmp_rows::Words;
+
+impl Machine {
+    /// The next number, which is used up.
+    fn take_number(&mut self) -> u64
+        requires { self.old.order.next + 1 < 2 ^ 64 }
+        ensures number { result ≡ self.old.order.next }
+        ensures state { self.new ≡ record self.old { order = record self.old.order { next = self.old.order.next + 1 } } }
+    {
+        let number = self.next;
+        self.next += 1;
+        number
+    }
+
+    /// Gives a task the next number, so that it comes last of its priority.
+    #[tactic(auto, unfolding(fmp_machine::specs::Numbers::numbered))]
+    pub(crate) fn put_last(&mut self, t: Task)
+        requires { self.old.order.next + 1 < 2 ^ 64 }
+        ensures { self.new ≡ record self.old { order = numbered.put_last self.old.order (task self.old t) t } }
+    {
+        let number = self.take_number();
+        if let Some(place) = self.ready.get_mut(t.index()) {
+            *place = number;
+        }
+    }
+
+    /// Changes how many ticks a wait of a task has left.
+    pub(crate) fn set_wait_left(&mut self, t: Task, left: Option<u64>)
+        ensures { self.new ≡ record self.old { waits_left = with_item self.old.waits_left t.number left } }
+    {
+        if let Some(place) = self.waits_left.get_mut(t.index()) {
+            *place = left;
+        }
+    }
+
+    /// Gives a wait of a task the next number, so that it is the last in its queue and of the timed waits.
+    pub(crate) fn join(&mut self, t: Task)
+        requires { self.old.order.next + 1 < 2 ^ 64 }
+        ensures { self.new ≡ record self.old { order = record self.old.order { begun = with_item self.old.order.begun t.number self.old.order.next; next = self.old.order.next + 1 } } }
+    {
+        let number = self.take_number();
+        if let Some(place) = self.begun.get_mut(t.index()) {
+            *place = number;
+        }
+    }
+
+    /// The order of the queue in which a task waits, if it waits.
+    pub(crate) fn queue_order(&self, t: Task) -> Option<Order>
+        ensures { result ≡ option_map (order_of self.now) (task self.now t).wait }
+    {
+        let wait = self.task(t).wait?;
+        Some(self.order_of(wait))
+    }
+
+    /// In a queue by priority, begins the wait of a task anew.
+    #[tactic(auto, unfolding(fmp_machine::specs::Numbers::numbered))]
+    pub(crate) fn rejoin(&mut self, t: Task, order: Order)
+        requires { self.old.order.next + 1 < 2 ^ 64 }
+        ensures state { (r : AnyTaskRecord) (left : Option ℕ) → self.new ≡ record self.old { order = rejoin numbered self.old.order order r left t } }
+        ensures next { self.new.order.next ≤ self.old.order.next + 1 }
+    {
+        match order {
+            Order::First => {}
+            Order::Priority => self.join(t),
+        }
+    }
+}

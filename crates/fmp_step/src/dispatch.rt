@@ -1,0 +1,110 @@
+//! The end of an event: which processors run another task or are sent a request.
+ghost use Rattle.std.specs.Prelude.{◌≡◌};
+ghost use Rattle.fmp_machine.specs.Step.{tops, is_same, is_requested, requests, latched, dispatched, settle, changed_run};
+
+use arrayvec::ArrayVec;
+use fmp_codes::{Proc, Requests, Task};
+use fmp_machine::Processor;
+use fmp_rows::{Words, is_held};
+
+fn is_same(a: Option<Task>, b: Option<Task>) -> bool
+    ensures { result ≡ is_same a b }
+{
+    match (a, b) {
+        (None, None) => true,
+        (None, Some(_)) => false,
+        (Some(_), None) => false,
+        (Some(a), Some(b)) => a.number == b.number,
+    }
+}
+
+/// The task that runs now, where that is another than before.
+pub(crate) fn changed_run(before: Option<Task>, after: Option<Task>) -> Option<Option<Task>>
+    ensures { result ≡ changed_run before after }
+{
+    if is_same(before, after) {
+        None
+    } else {
+        Some(after)
+    }
+}
+
+/// The top of each processor.
+pub(crate) fn tops<M: Words>(machine: &M) -> ArrayVec<Option<Task>, 8>
+    ensures { result.items ≡ tops M.keeping (M.world machine.now) }
+{
+    let mut tops = ArrayVec::new();
+    for index in 0..machine.processor_count() {
+        tops.push(machine.top(Proc::from_index(index)));
+    }
+    tops
+}
+
+fn is_requested<M: Words>(machine: &M, before: &[Option<Task>], q: Proc, p: Proc) -> bool
+    ensures { result ≡ is_requested M.keeping before.now (M.world machine.now) q p }
+{
+    let top_before = before.get(p.index()).copied().unwrap_or(None);
+    p.number != q.number && !is_same(top_before, machine.top(p))
+}
+
+/// The processors to which an event on q sends a request.
+fn requests<M: Words>(machine: &M, before: &[Option<Task>], q: Proc) -> Requests
+    ensures { result ≡ requests M.keeping before.now (M.world machine.now) q }
+{
+    let mut requests = Requests::new();
+    for index in 0..machine.processor_count() {
+        let p = Proc::from_index(index);
+        if is_requested(machine, before, q, p) {
+            requests.push(p);
+        }
+    }
+    requests
+}
+
+/// Sets the latches of these processors.
+fn latch<M: Words>(machine: &mut M, processors: &[Proc])
+    ensures state { M.world machine.new ≡ latched (M.world machine.old) processors.now }
+    ensures room { M.room machine.new ≡ M.room machine.old }
+{
+    for p in processors {
+        let processor = machine.processor(*p);
+        machine.set_processor(
+            *p,
+            Processor {
+                latch: true,
+                ..processor
+            },
+        );
+    }
+}
+
+/// Lets a processor that is not held run its top.
+fn dispatch<M: Words>(machine: &mut M, q: Proc)
+    ensures state { M.world machine.new ≡ dispatched M.keeping (M.world machine.old) q }
+    ensures room { M.room machine.new ≡ M.room machine.old }
+{
+    if !is_held(machine, q) {
+        let processor = machine.processor(q);
+        let running = machine.top(q);
+        machine.set_processor(
+            q,
+            Processor {
+                running,
+                latch: false,
+                ..processor
+            },
+        );
+    }
+}
+
+/// Ends an event on q, where these were the tops before it.
+pub(crate) fn settle<M: Words>(machine: &mut M, before: &[Option<Task>], q: Proc) -> Requests
+    ensures state { M.world machine.new ≡ settle M.keeping before.now (M.world machine.old) q }
+    ensures requests { result ≡ requests M.keeping before.now (M.world machine.old) q }
+    ensures room { M.room machine.new ≡ M.room machine.old }
+{
+    let requests = requests(machine, before, q);
+    latch(machine, requests.as_slice());
+    dispatch(machine, q);
+    requests
+}

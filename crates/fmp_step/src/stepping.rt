@@ -1,0 +1,129 @@
+//! One step of a machine.
+ghost use Rattle.std.specs.Prelude.{◌≡◌, ◌+◌, ◌≤◌, if◌then◌else◌};
+ghost use Rattle.fmp_machine.specs.World.{processor};
+ghost use Rattle.fmp_machine.specs.Step.{front_of, settled, unchanged, step};
+ghost use Rattle.fmp_step.specs.Fronts.{seen};
+
+use crate::dispatch::{changed_run, settle, tops};
+use arrayvec::ArrayVec;
+use fmp_codes::{Answer, Call, Event, Proc, Record, Runner, Task};
+use fmp_machine::Effect;
+use fmp_rows::{Words, is_held, runner};
+
+/// What is remembered of the state before an event.
+#[derive(Debug, Drop)]
+struct Front {
+    event: Event,
+    processor: Proc,
+    runner: Option<Runner>,
+    running: Option<Task>,
+    tops: ArrayVec<Option<Task>, 8>,
+}
+
+#[tactic(auto, unfolding(fmp_machine::specs::Step::front_of))]
+fn front_of<M: Words>(machine: &M, event: Event, q: Proc) -> Front
+    ensures { seen result ≡ front_of M.keeping (M.world machine.now) event q }
+{
+    Front {
+        event,
+        processor: q,
+        runner: runner(machine, q),
+        running: machine.processor(q).running,
+        tops: tops(machine),
+    }
+}
+
+/// The end of an event that did this.
+#[tactic(auto, unfolding(fmp_machine::specs::Step::settled))]
+fn settled<M: Words>(machine: &mut M, front: Front, effect: Effect) -> Record
+    ensures step { (M.world machine.new, result) ≡ settled M.keeping (seen front) (M.world machine.old, effect) }
+    ensures room { M.room machine.new ≡ M.room machine.old }
+{
+    let requests = settle(machine, front.tops.as_slice(), front.processor);
+    let running = machine.processor(front.processor).running;
+    let Effect {
+        answer,
+        releases,
+        lost,
+    } = effect;
+    Record {
+        event: front.event,
+        runner: front.runner,
+        answer,
+        releases,
+        lost,
+        run_change: changed_run(front.running, running),
+        requests,
+    }
+}
+
+/// The record of an event that changes nothing.
+#[tactic(auto, unfolding(fmp_machine::specs::Step::unchanged))]
+fn unchanged<M: Words>(machine: &M, event: Event, q: Proc, answer: Answer) -> Record
+    ensures { (M.world machine.now, result) ≡ unchanged (M.world machine.now) event q answer }
+{
+    Record::answer(event, runner(machine, q), answer)
+}
+
+/// Plays one event, and tells what it answers and did.
+pub fn step<M: Words>(machine: &mut M, event: Event) -> Record
+    requires { 64 ≤ M.room machine.old }
+    ensures step { (M.world machine.new, result) ≡ step M.keeping (M.world machine.old) event }
+    ensures room { M.room machine.old ≤ M.room machine.new + 64 }
+{
+    match event {
+        Event::Call(p, call) => step_call(machine, p, call),
+        Event::Tick(p) => step_tick(machine, p),
+        Event::Ipi(p) => step_interrupt(machine, p),
+    }
+}
+
+fn step_call<M: Words>(machine: &mut M, p: Proc, call: Call) -> Record
+    requires { 64 ≤ M.room machine.old }
+    ensures step { (M.world machine.new, result) ≡ step M.keeping (M.world machine.old) (Event.Call p call) }
+    ensures room { M.room machine.old ≤ M.room machine.new + 64 }
+{
+    let event = Event::Call(p, call);
+    if runner(machine, p).is_none() {
+        return unchanged(machine, event, p, Answer::Idle);
+    }
+    let front = front_of(machine, event, p);
+    let effect = fmp_rows::call(machine, p, call);
+    settled(machine, front, effect)
+}
+
+fn step_tick<M: Words>(machine: &mut M, p: Proc) -> Record
+    ensures step { (M.world machine.new, result) ≡ step M.keeping (M.world machine.old) (Event.Tick p) }
+    ensures room { M.room machine.new ≡ M.room machine.old }
+{
+    let event = Event::Tick(p);
+    if machine.processor(p).locked || machine.handler(p).is_some() {
+        return unchanged(machine, event, p, Answer::Held);
+    }
+    let front = front_of(machine, event, p);
+    settled(machine, front, Effect::answer(Answer::Taken))
+}
+
+fn step_interrupt<M: Words>(machine: &mut M, p: Proc) -> Record
+    ensures step { (M.world machine.new, result) ≡ step M.keeping (M.world machine.old) (Event.Ipi p) }
+    ensures room { M.room machine.new ≡ M.room machine.old }
+{
+    let event = Event::Ipi(p);
+    if is_held(machine, p) {
+        return unchanged(machine, event, p, Answer::Held);
+    }
+    let front = front_of(machine, event, p);
+    let answer = interrupt_answer(machine, p);
+    settled(machine, front, Effect::answer(answer))
+}
+
+/// Whether a request was pending.
+fn interrupt_answer<M: Words>(machine: &M, p: Proc) -> Answer
+    ensures { result ≡ (if (processor (M.world machine.now) p).latch then Answer.Taken else Answer.Nothing) }
+{
+    if machine.processor(p).latch {
+        Answer::Taken
+    } else {
+        Answer::Nothing
+    }
+}
