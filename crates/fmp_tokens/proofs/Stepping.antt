@@ -1,41 +1,33 @@
 -- Reading a text byte by byte, as a loop does.
-use Rattle.std.proofs.Common.{◌≡◌, ℕ, List, [], ◌∷◌, ◌++◌, refl, sym, ap, ◌∙◌, length, append_assoc, arith}
-use Rattle.std.proofs.lemmas.List.{append-nil}
+use Rattle.std.proofs.Common.{◌≡◌, ℕ, List, [], ◌∷◌, refl, sym, ◌∙◌, length, arith}
 use Rattle.fmp_tokens.specs.declared.tokens.TokenKind.{TokenKind}
-use Rattle.fmp_tokens.specs.declared.tokens.End.TheVariants as ends
+use Rattle.fmp_tokens.specs.declared.tokens.End.{End}
 use Rattle.fmp_tokens.specs.declared.modes.Mode.{Mode}
-use Rattle.fmp_tokens.specs.declared.modes.Step.TheVariants.{Pass, Begin, Bad}
-use Rattle.fmp_tokens.specs.Lexing.{Lexeme, Lexed, step_of, text_of, mode_behind, line_after, with_lexeme, lexed}
+use Rattle.fmp_tokens.specs.declared.modes.Step.TheVariants.{Pass, Give, Stop}
+use Rattle.fmp_tokens.specs.Steps.{step_of, line_after}
+use Rattle.fmp_tokens.specs.Lexing.{Lexed, text_of, with_lexeme, ended, ended_in, lexed}
 
--- the tokens before, and those that follow
-abbrev pub joined : List Lexeme → Lexed → Lexed
-joined front others = record { lexemes = front ++ others.lexemes; end = others.end }
-
-one_more : (front : List Lexeme) (lexeme : Lexeme) (others : Lexed) → joined front (with_lexeme lexeme others) ≡ joined (front ++ lexeme ∷ []) others
-one_more front lexeme others = ap (λ (ls : List Lexeme). record { lexemes = ls; end = others.end }) (simp append_assoc)
-
-module _ (front : List Lexeme) (mode : Mode) (line : ℕ) (whole : List ℕ) (total : Lexed) (b : ℕ) (bytes : List ℕ) where
-  pub passes : (next : Mode) → whole ≡ b ∷ bytes → Pass next ≡ step_of mode b → joined front (lexed mode line whole) ≡ total → joined front (lexed next (line_after line b) bytes) ≡ total
+module _ (mode : Mode) (line : ℕ) (whole : List ℕ) (total : Lexed) (b : ℕ) (bytes : List ℕ) where
+  pub passes : (next : Mode) → whole ≡ b ∷ bytes → Pass next ≡ step_of mode line b bytes → lexed mode line whole ≡ total → lexed next (line_after line b) bytes ≡ total
   unfolding lexed
   passes next e h so_far =
-      let one : joined front (lexed mode line whole) ≡ joined front (lexed next (line_after line b) bytes) = rw (e, ← h) refl in
+      let one : lexed mode line whole ≡ lexed next (line_after line b) bytes = rw (e, ← h) refl in
       sym one ∙ so_far
 
-  pub begins : (kind : TokenKind) → whole ≡ b ∷ bytes → Begin kind ≡ step_of mode b → joined front (lexed mode line whole) ≡ total
-      → joined (front ++ record { kind = kind; text = text_of kind whole; line = line } ∷ []) (lexed (mode_behind kind) (line_after line b) bytes) ≡ total
+  pub gives : (kind : TokenKind) (at : ℕ) (next : Mode) → whole ≡ b ∷ bytes → Give kind at next ≡ step_of mode line b bytes → lexed mode line whole ≡ total
+      → total ≡ with_lexeme (record { kind = kind; text = text_of kind whole; line = at }) (lexed next (line_after line b) bytes)
   unfolding lexed
-  begins kind e h so_far =
-      let lexeme : Lexeme = record { kind = kind; text = text_of kind whole; line = line } in
-      let one : joined front (lexed mode line whole) ≡ joined front (with_lexeme lexeme (lexed (mode_behind kind) (line_after line b) bytes)) = rw (e, ← h) refl in
-      sym (one_more front lexeme (lexed (mode_behind kind) (line_after line b) bytes)) ∙ sym one ∙ so_far
+  gives kind at next e h so_far =
+      let one : lexed mode line whole ≡ with_lexeme (record { kind = kind; text = text_of kind whole; line = at }) (lexed next (line_after line b) bytes) = rw (e, ← h) refl in
+      sym so_far ∙ one
 
-  pub is_bad : whole ≡ b ∷ bytes → Bad ≡ step_of mode b → joined front (lexed mode line whole) ≡ total → record { lexemes = front; end = ends.Bad line } ≡ total
+  pub stops : (end : End) → whole ≡ b ∷ bytes → Stop end ≡ step_of mode line b bytes → lexed mode line whole ≡ total → total ≡ ended end
   unfolding lexed
-  is_bad e h so_far =
-      let one : joined front (lexed mode line whole) ≡ record { lexemes = front ++ []; end = ends.Bad line } = rw (e, ← h) refl in
-      ap (λ (ls : List Lexeme). record { lexemes = ls; end = ends.Bad line }) (sym (append-nil front)) ∙ sym one ∙ so_far
+  stops end e h so_far =
+      let one : lexed mode line whole ≡ ended end = rw (e, ← h) refl in
+      sym so_far ∙ one
 
-pub is_done : (front : List Lexeme) (mode : Mode) (line : ℕ) (whole : List ℕ) (total : Lexed) → length whole ≡ 0 → joined front (lexed mode line whole) ≡ total → record { lexemes = front; end = ends.Done } ≡ total
+pub ends : (mode : Mode) (line : ℕ) (whole : List ℕ) (total : Lexed) → length whole ≡ 0 → lexed mode line whole ≡ total → total ≡ ended_in mode line
 unfolding lexed
-is_done front mode line [] total e so_far = ap (λ (ls : List Lexeme). record { lexemes = ls; end = ends.Done }) (sym (append-nil front)) ∙ so_far
-is_done front mode line (b ∷ bytes) total e so_far = absurd (omega arith)
+ends mode line [] total e so_far = sym so_far
+ends mode line (b ∷ bytes) total e so_far = absurd (omega arith)

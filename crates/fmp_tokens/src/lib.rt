@@ -1,8 +1,29 @@
-//! The tokens of a configuration text.
+//! The tokens of a configuration text, read one by one, with no memory taken.
+//!
+//! Blanks are spaces, tabs, carriage returns and line feeds. A line feed ends a line, and nothing else does: lines are
+//! counted from 1, also by the line feeds in comments and strings.
+//!
+//! A token is an identifier (a letter or `_`, and the letters, digits and `_` behind it), a digit with the letters,
+//! digits and `_` behind it, a string, or one other byte from `!` to `~`. A string goes from `"` to the next `"`, over
+//! line ends too; it holds any bytes, and a backslash takes the next byte along.
+//!
+//! The comments `/* .. */` and `// ..` hold any bytes and count as one blank. They stand in directives too, but not in
+//! strings. The `*` that opens a comment does not close it. A comment `// ..` ends before the next line feed, or with
+//! the text.
+//!
+//! A `#` before which only blanks and comments stand in its line begins a directive, where the line feeds in comments
+//! end no line. The directive ends at the next line feed outside comments that has no backslash directly before it, or
+//! with the text. A backslash and the line feed behind it count as one blank, also where a comment `// ..` ends so. In a
+//! directive there are no strings, and any byte that is no blank and of no word is a token.
+//!
+//! Elsewhere a byte that is no blank and is not from `!` to `~` is bad, and reading ends before it. Where a comment or
+//! a string is not closed, the text is cut short, and the string is no token.
 #![tactic(auto)]
 
+mod lexer;
 mod modes;
 mod tokens;
 
-pub use modes::{Mode, Step, step_of};
-pub use tokens::{End, Token, TokenKind, Tokens, read_tokens};
+pub use lexer::Lexer;
+pub use modes::{Mode, Place, Step};
+pub use tokens::{End, Token, TokenKind};

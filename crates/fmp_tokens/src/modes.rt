@@ -1,87 +1,224 @@
-//! What a byte does, by what stands before it.
+//! What a byte does, by what stands before it and what follows it.
 ghost use Rattle.std.specs.Prelude.{◌≡◌, ◌+◌, ◌<◌, ◌≤◌, ◌^◌};
-ghost use Rattle.fmp_tokens.specs.Lexing as spec;
+ghost use Rattle.fmp_tokens.specs.Steps as spec;
 
-use crate::tokens::TokenKind;
+use crate::tokens::{End, TokenKind};
 use fmp_bytes::Class;
 
-/// What stands before a byte.
+/// What blanks and comments leave as it is.
+#[derive(Clone, Copy, Debug, PartialEq, Eq)]
+pub enum Place {
+    /// Nothing but blanks and comments stands before in the line.
+    LineStart,
+    /// A token stands before in the line.
+    Code,
+    /// A directive has begun.
+    Directive,
+}
+
+/// What stands before a byte. The numbers are the lines in which a string or a comment began.
 #[derive(Clone, Copy, Debug, PartialEq, Eq)]
 pub enum Mode {
-    /// Nothing but blanks since the last line feed.
-    LineStart,
-    /// A whole token, or blanks behind one.
-    Between,
-    /// The first bytes of a token that goes on as long as letters, digits and `_` do.
-    Word,
+    /// A whole token, a blank or a comment.
+    Gap(Place),
+    /// The first bytes of a word, which goes on as long as letters, digits and `_` do.
+    Word(Place),
+    /// The first bytes of a string.
+    Quoted(u32),
+    /// A backslash in a string.
+    Escaped(u32),
+    /// The first bytes of a comment `// ..`.
+    LineComment(Place),
+    /// The `/` of the `/*` that opens a comment.
+    Opening(Place, u32),
+    /// The first bytes of a comment `/* .. */`.
+    Block(Place, u32),
+    /// A `*` in such a comment, which a `/` closes.
+    Star(Place, u32),
+    /// A backslash that takes a line feed along in a directive.
+    Continued,
 }
 
 /// What a byte does.
 #[derive(Clone, Copy, Debug, PartialEq, Eq)]
 pub enum Step {
-    /// It is a blank, or belongs to the token before it.
+    /// It gives no token.
     Pass(Mode),
-    /// A token begins with it.
-    Begin(TokenKind),
-    /// It may not stand there.
-    Bad,
+    /// It gives a token of this kind and line.
+    Give(TokenKind, u32, Mode),
+    /// Reading ends before it.
+    Stop(End),
 }
 
-/// The kind of the token that begins with a byte, and `Bad` where none does.
-#[tactic(auto, unfolding(crate::specs::Lexing::begun))]
-fn begun(byte: u8) -> Step
-    ensures { result ≡ spec.begun byte }
+/// Whether a text begins with a byte.
+fn is_next(byte: u8, text: &[u8]) -> bool
+    ensures { result ≡ spec.is_next byte text.now }
+{
+    matches!(text, [first, ..] if *first == byte)
+}
+
+/// Where a token leaves the reader.
+fn behind(place: Place) -> Place
+    ensures { result ≡ spec.behind place }
+{
+    match place {
+        Place::LineStart | Place::Code => Place::Code,
+        Place::Directive => Place::Directive,
+    }
+}
+
+/// What a line end outside comments and strings does.
+#[tactic(auto, unfolding(crate::specs::Steps::at_line_end))]
+fn at_line_end(place: Place, line: u32) -> Step
+    ensures { result ≡ spec.at_line_end place line }
+{
+    match place {
+        Place::LineStart | Place::Code => Step::Pass(Mode::Gap(Place::LineStart)),
+        Place::Directive => {
+            Step::Give(TokenKind::DirectiveEnd, line, Mode::Gap(Place::LineStart))
+        }
+    }
+}
+
+/// What a byte of no word does outside directives.
+#[tactic(auto, unfolding(crate::specs::Steps::single_in_code))]
+fn single_in_code(line: u32, byte: u8) -> Step
+    ensures { result ≡ spec.single_in_code line byte }
+{
+    if byte == b'"' {
+        Step::Pass(Mode::Quoted(line))
+    } else if byte.is_ascii_graphic() {
+        Step::Give(TokenKind::Symbol, line, Mode::Gap(Place::Code))
+    } else {
+        Step::Stop(End::Bad(line))
+    }
+}
+
+/// What a byte does that is no blank, begins no comment and is of no word.
+#[tactic(auto, unfolding(crate::specs::Steps::single))]
+fn single(place: Place, line: u32, byte: u8, rest: &[u8]) -> Step
+    ensures { result ≡ spec.single place line byte rest.now }
+{
+    match place {
+        Place::LineStart if byte == b'#' => {
+            Step::Give(TokenKind::Directive, line, Mode::Gap(Place::Directive))
+        }
+        Place::LineStart | Place::Code => single_in_code(line, byte),
+        Place::Directive if byte == b'\\' && is_next(b'\n', rest) => Step::Pass(Mode::Continued),
+        Place::Directive => Step::Give(TokenKind::Symbol, line, Mode::Gap(Place::Directive)),
+    }
+}
+
+/// What a byte does that is no blank and begins no comment.
+#[tactic(auto, unfolding(crate::specs::Steps::begun))]
+fn begun(place: Place, line: u32, byte: u8, rest: &[u8]) -> Step
+    ensures { result ≡ spec.begun place line byte rest.now }
 {
     if Class::Letter.has(byte) {
-        Step::Begin(TokenKind::Identifier)
+        Step::Give(TokenKind::Identifier, line, Mode::Word(behind(place)))
     } else if Class::Digit.has(byte) {
-        Step::Begin(TokenKind::Digits)
-    } else if byte.is_ascii_graphic() && !matches!(byte, b'/' | b'"' | b'#') {
-        Step::Begin(TokenKind::Symbol)
+        Step::Give(TokenKind::Digits, line, Mode::Word(behind(place)))
     } else {
-        Step::Bad
+        single(place, line, byte, rest)
     }
 }
 
-/// What a byte does behind whole tokens and blanks.
-#[tactic(auto, unfolding(crate::specs::Lexing::between))]
-fn between(mode: Mode, byte: u8) -> Step
-    ensures { result ≡ spec.between mode byte }
+/// What a byte does between tokens.
+#[inline(always)]
+#[tactic(auto, unfolding(crate::specs::Steps::in_gap))]
+fn in_gap(place: Place, line: u32, byte: u8, rest: &[u8]) -> Step
+    ensures { result ≡ spec.in_gap place line byte rest.now }
 {
     if byte == b'\n' {
-        Step::Pass(Mode::LineStart)
+        at_line_end(place, line)
     } else if Class::Space.has(byte) {
-        Step::Pass(mode)
+        Step::Pass(Mode::Gap(place))
+    } else if byte == b'/' && is_next(b'/', rest) {
+        Step::Pass(Mode::LineComment(place))
+    } else if byte == b'/' && is_next(b'*', rest) {
+        Step::Pass(Mode::Opening(place, line))
     } else {
-        begun(byte)
+        begun(place, line, byte, rest)
     }
 }
 
-/// What a byte does.
-#[tactic(auto, unfolding(crate::specs::Lexing::step_of))]
-pub fn step_of(mode: Mode, byte: u8) -> Step
-    ensures { result ≡ spec.step_of mode byte }
+/// What a byte does in a string that began in this line.
+fn in_string(began: u32, byte: u8) -> Step
+    ensures { result ≡ spec.in_string began byte }
+{
+    match byte {
+        b'"' => Step::Give(TokenKind::Text, began, Mode::Gap(Place::Code)),
+        b'\\' => Step::Pass(Mode::Escaped(began)),
+        _ => Step::Pass(Mode::Quoted(began)),
+    }
+}
+
+/// Whether a byte of a comment `// ..` takes the line feed behind it along.
+fn goes_on(place: Place, byte: u8, rest: &[u8]) -> bool
+    ensures { result ≡ spec.goes_on place byte rest.now }
+{
+    match place {
+        Place::LineStart | Place::Code => false,
+        Place::Directive => byte == b'\\' && is_next(b'\n', rest),
+    }
+}
+
+/// What a byte does in a comment `// ..`.
+#[tactic(auto, unfolding(crate::specs::Steps::in_line_comment))]
+fn in_line_comment(place: Place, line: u32, byte: u8, rest: &[u8]) -> Step
+    ensures { result ≡ spec.in_line_comment place line byte rest.now }
+{
+    if byte == b'\n' {
+        at_line_end(place, line)
+    } else if goes_on(place, byte, rest) {
+        Step::Pass(Mode::Continued)
+    } else {
+        Step::Pass(Mode::LineComment(place))
+    }
+}
+
+/// What a byte does in a comment `/* .. */` that began in this line.
+fn in_block(place: Place, began: u32, byte: u8) -> Step
+    ensures { result ≡ spec.in_block place began byte }
+{
+    if byte == b'*' {
+        Step::Pass(Mode::Star(place, began))
+    } else {
+        Step::Pass(Mode::Block(place, began))
+    }
+}
+
+/// What a byte does behind a `*` in such a comment.
+fn behind_star(place: Place, began: u32, byte: u8) -> Step
+    ensures { result ≡ spec.behind_star place began byte }
+{
+    if byte == b'/' {
+        Step::Pass(Mode::Gap(place))
+    } else {
+        in_block(place, began, byte)
+    }
+}
+
+/// What a byte does in this line, by what stands before it and the bytes behind it.
+#[tactic(auto, unfolding(crate::specs::Steps::step_of))]
+pub(crate) fn step_of(mode: Mode, line: u32, byte: u8, rest: &[u8]) -> Step
+    ensures { result ≡ spec.step_of mode line byte rest.now }
 {
     match mode {
-        Mode::LineStart => between(Mode::LineStart, byte),
-        Mode::Between => between(Mode::Between, byte),
-        Mode::Word if Class::Word.has(byte) => Step::Pass(Mode::Word),
-        Mode::Word => between(Mode::Between, byte),
-    }
-}
-
-/// What stands behind the first byte of a token.
-pub fn behind(kind: TokenKind) -> Mode
-    ensures { result ≡ spec.mode_behind kind }
-{
-    match kind {
-        TokenKind::Identifier | TokenKind::Digits => Mode::Word,
-        TokenKind::Symbol => Mode::Between,
+        Mode::Word(place) if Class::Word.has(byte) => Step::Pass(Mode::Word(place)),
+        Mode::Gap(place) | Mode::Word(place) => in_gap(place, line, byte, rest),
+        Mode::Quoted(began) => in_string(began, byte),
+        Mode::Escaped(began) => Step::Pass(Mode::Quoted(began)),
+        Mode::LineComment(place) => in_line_comment(place, line, byte, rest),
+        Mode::Opening(place, began) => Step::Pass(Mode::Block(place, began)),
+        Mode::Block(place, began) => in_block(place, began, byte),
+        Mode::Star(place, began) => behind_star(place, began, byte),
+        Mode::Continued => Step::Pass(Mode::Gap(Place::Directive)),
     }
 }
 
 /// The line of what follows a byte.
-pub fn line_after(line: u32, byte: u8) -> u32
+pub(crate) fn line_after(line: u32, byte: u8) -> u32
     requires { line + 1 < 2 ^ 32 }
     ensures value { result ≡ spec.line_after line byte }
     ensures bound { result ≤ line + 1 }

@@ -1,0 +1,6 @@
+pub mod Bytes
+pub mod Passing
+pub mod Reading
+pub mod Left
+pub mod Gaps
+pub mod Spelled
