@@ -1,37 +1,30 @@
 -- The first fault of a text that is too long is that of its front, so no more of it need be read.
 use Rattle.std.proofs.Common.{◌≡◌, ℕ, ◌<◌, ◌≤◌, Bool, true, false, nat_lt, List, [], ◌++◌, length, Err, refl, sym, ap, subst, ◌∙◌, inl, inr, arith, append-nil, length-append}
 use Rattle.std.proofs.lemmas.Bool.{lt-ltb, ltb-true, ltb-false}
-use Rattle.fmp_tokens.specs.Lexing.{lexed_text}
-use Rattle.fmp_statements.specs.declared.fault.Fault.{Fault}
 use Rattle.fmp_statements.specs.declared.fault.ConfigKind.TheVariants.{TooMany}
+use Rattle.fmp_statements.specs.Faults.{Fault, fault_of_line}
 use Rattle.fmp_config.specs.declared.fault.ConfigFault.{ConfigFault}
 use Rattle.fmp_config.specs.Limits.{most_bytes}
-use Rattle.fmp_config.specs.Faults.{FaultIs, IsFirstFault, word_at}
-use Rattle.fmp_config.specs.Statements.{config_in}
-use Rattle.fmp_config.proofs.Words.{no_word}
+use Rattle.fmp_config.specs.Faults.{FaultIs, IsFirstFault, IsTold}
+use Rattle.fmp_config.specs.Reading.{config_in}
 
--- the fault of a text that is too long
-abbrev too_long : Fault
-too_long = record { kind = TooMany; line = 0; left = 0 }
-
-refused : (text : List ℕ) → most_bytes < length text → config_in text ≡ Err too_long
+refused : (text : List ℕ) → most_bytes < length text → config_in text ≡ Err (fault_of_line TooMany 0)
 unfolding config_in
 refused text long = let test = lt-ltb most_bytes (length text) long in rw test refl
 
 module _ (all text rest : List ℕ) (split : all ≡ text ++ rest) (whole : length text ≤ most_bytes → rest ≡ []) (told : ConfigFault) where
-  long_front : most_bytes < length text → FaultIs told (lexed_text text).lexemes (config_in text) → FaultIs told (lexed_text all).lexemes (config_in all)
-  long_front long (fault, gives, kind, line, word) =
-      let same : fault ≡ too_long = let e = refused text long in cc in
+  long_front : most_bytes < length text → FaultIs told (config_in text) → FaultIs told (config_in all)
+  long_front long (fault, gives, is) =
+      let same : fault ≡ fault_of_line TooMany 0 = let e = refused text long in cc in
       let longer : most_bytes < length all = rw split (omega (arith, long, length-append text rest)) in
-      let here = word ∙ ap (λ (f : Fault). word_at (lexed_text text).lexemes f.left) same ∙ no_word (lexed_text text).lexemes in
-      (too_long, refused all longer, kind ∙ ap (λ (f : Fault). f.kind) same, line ∙ ap (λ (f : Fault). f.line) same, here ∙ sym (no_word (lexed_text all).lexemes))
+      (fault_of_line TooMany 0, refused all longer, subst (λ (f : Fault). IsTold told f) same is)
 
   same_text : length text ≤ most_bytes → text ≡ all
   same_text short = sym (split ∙ ap (λ (r : List ℕ). text ++ r) (whole short) ∙ append-nil text)
 
-  by_length : (b : Bool) → nat_lt most_bytes (length text) ≡ b → FaultIs told (lexed_text text).lexemes (config_in text) → FaultIs told (lexed_text all).lexemes (config_in all)
+  by_length : (b : Bool) → nat_lt most_bytes (length text) ≡ b → FaultIs told (config_in text) → FaultIs told (config_in all)
   by_length true test is = long_front (ltb-true most_bytes (length text) test) is
-  by_length false test is = subst (λ (t : List ℕ). FaultIs told (lexed_text t).lexemes (config_in t)) (same_text (ltb-false most_bytes (length text) test)) is
+  by_length false test is = subst (λ (t : List ℕ). FaultIs told (config_in t)) (same_text (ltb-false most_bytes (length text) test)) is
 
   -- the first fault of what was read of a text is that of the text, where all of it was read or too much
   pub IsFirstFault-front : IsFirstFault text told → IsFirstFault all told

@@ -1,5 +1,13 @@
-pub mod Fronts
-pub mod Sound
-pub mod Told
-pub mod Turns
+pub mod Steps
+pub mod Ranges
+pub mod Places
+pub mod Whole
 pub mod Words
+pub mod Defined
+pub mod Created
+pub mod Turned
+pub mod Fronts
+pub mod Judged
+pub mod Taken
+pub mod Started
+pub mod Reached

@@ -1,5 +1,8 @@
-pub mod Limits
+pub mod Drafts
+pub mod Numbers
+pub mod Judging
 pub mod Reading
-pub mod Statements
+pub mod Readers
 pub mod Faults
-pub mod Draft
+pub mod Limits
+pub mod Sound

@@ -1,87 +1,106 @@
--- Reading a configuration from left to right, with the first fault.
-use Rattle.std.specs.Prelude.{ℕ, Bool, List, [], ◌∷◌, length, Option, Some, None, Result, Ok, Err, nat_lt, if◌then◌else◌}
+-- Reading a configuration token by token, with the first fault.
+use Rattle.std.specs.Prelude.{ℕ, Bool, ◌&&◌, List, length, Option, Some, None, is_some, Result, Ok, Err, nat_lt, if◌then◌else◌}
 use Rattle.std.specs.Option.{ok_or, option_map_or}
-use Rattle.fmp_codes.specs.declared.numbers.Proc.{Proc}
-use Rattle.fmp_calls.specs.declared.kinds.NameKind.TheVariants.{Object}
-use Rattle.fmp_calls.specs.declared.kinds.ObjectKind.TheVariants as objects
-use Rattle.fmp_text.specs.Names.{has_room}
-use Rattle.fmp_tokens.specs.Lexing.{Lexeme}
-use Rattle.fmp_statements.specs.declared.fault.Fault.{Fault}
-use Rattle.fmp_statements.specs.declared.fault.ConfigKind.TheVariants.{Syntax, UnknownClass, NameTaken, TooMany, BadClass}
-use Rattle.fmp_statements.specs.declared.fields.Value.{Value}
-use Rattle.fmp_statements.specs.declared.fields.Value.TheVariants as values
-use Rattle.fmp_statements.specs.declared.numbers.Listed.{Listed}
-use Rattle.fmp_statements.specs.declared.table.StatementName.TheVariants.{CreTsk}
-use Rattle.fmp_statements.specs.Cursor.{after_first, first_text}
-use Rattle.fmp_statements.specs.Faults.{fault_at, fault_in}
-use Rattle.fmp_statements.specs.Fields.{fields_in}
-use Rattle.fmp_statements.specs.Forms.{Form, field, rest_of}
-use Rattle.fmp_statements.specs.Numbers.{list_in, numeral_in, processor_of}
-use Rattle.fmp_statements.specs.Table.{kinds_of}
-use Rattle.fmp_statements.specs.Walk.{◌>>=◌}
+use Rattle.fmp_tokens.specs.Lexing.{Lexeme, Lexed, lexed_text}
+use Rattle.fmp_tokens.specs.declared.tokens.End.{End}
+use Rattle.fmp_tokens.specs.declared.tokens.End.TheVariants as ends
+use Rattle.fmp_statements.specs.declared.directive.Directive.{Directive}
+use Rattle.fmp_statements.specs.declared.directive.Directive.TheVariants as directives
+use Rattle.fmp_statements.specs.declared.fault.ConfigKind.TheVariants as faults
+use Rattle.fmp_statements.specs.declared.table.StatementName.{StatementName}
+use Rattle.fmp_statements.specs.Directives.{next_directive}
+use Rattle.fmp_statements.specs.Faults.{Fault, fault_at, fault_of_line, ◌>>=◌}
+use Rattle.fmp_statements.specs.Folds.{each}
+use Rattle.fmp_statements.specs.Forms.{Form, begun, form_step, is_complete}
+use Rattle.fmp_statements.specs.Parts.{depth_of}
+use Rattle.fmp_statements.specs.Table.{statement_of}
+use Rattle.fmp_statements.specs.Words.{word_of, is_mark, is_identifier_kind, is_directive_kind, is_end_kind}
 use Rattle.fmp_config.specs.declared.draft.OpenClass.{OpenClass}
-use Rattle.fmp_machine.specs.declared.parts.TaskFields.{TaskFields}
-use Rattle.fmp_machine.specs.declared.setup.Class.{Class as ClassSetup}
-use Rattle.fmp_machine.specs.Building.{class_named, is_refused}
+use Rattle.fmp_config.specs.Drafts.{Draft, blank_draft, is_start}
+use Rattle.fmp_config.specs.Judging.{place_fault, ended, judged}
+use Rattle.fmp_config.specs.Limits.{most_bytes}
 use Rattle.fmp_machine.specs.Setup.{Setup}
-use Rattle.fmp_machine.specs.Valid.{is_class_of}
 
--- what was read, and the class whose statements follow
+-- what was read, the statement and the directive whose tokens follow
 pub record State : Type 0 where
-  pub setup : Setup
-  pub open_class : Option OpenClass
+  pub draft : Draft
+  pub form : Option Form
+  pub directive : Directive
 
--- the tokens of a part of a statement, whose parts begin behind its first word
-unfoldable pub part : List Lexeme → Form → ℕ → List Lexeme
-part statement form n = field form n (after_first statement)
+abbrev pub at_start : State
+at_start = record { draft = blank_draft; form = None; directive = directives.Outside }
 
--- how many tokens are left behind a statement
-unfoldable pub left_behind : List Lexeme → Form → ℕ
-left_behind statement form = length (rest_of form (after_first statement))
+-- the open parentheses of the statement whose tokens follow
+abbrev pub depth_of_form : Option Form → ℕ
+depth_of_form None = 0
+depth_of_form (Some f) = depth_of f.scan
 
--- a name that is to be new, where there is room for one more
-unfoldable pub new_name : Setup → Bool → List Lexeme → List Lexeme → Result (Unit {0}) Fault
-new_name c room statement id =
-    if is_refused c (first_text id) then Err (fault_at NameTaken id) else (if room then Ok tt else Err (fault_in TooMany statement id))
+abbrev pub depth_in : State → ℕ
+depth_in s = depth_of_form s.form
 
--- a class that is one of this machine
-unfoldable pub sound_class : ℕ → List Lexeme → List Lexeme → ClassSetup → Result ClassSetup Fault
-sound_class processors statement initial class = if is_class_of processors class then Ok class else Err (fault_in BadClass statement initial)
+-- the statement that begins with a token
+unfoldable pub statement_at : Lexeme → Result StatementName Fault
+statement_at t =
+    if is_identifier_kind t.kind then ok_or (statement_of t.text) (fault_at faults.Unsupported (word_of t)) else Err (fault_at faults.Syntax (word_of t))
 
--- the class of an initial processor and a list
-unfoldable pub listed_class : ℕ → List Lexeme → List Lexeme → Proc → Listed → Result ClassSetup Fault
-listed_class processors statement initial p listed =
-    option_map_or (λ fault. Err fault) listed.refused (sound_class processors statement initial (record { initial = p; members = listed.members }))
+-- a statement that may stand where it stands
+unfoldable pub placed : Draft → Lexeme → StatementName → Result StatementName Fault
+placed d t name = option_map_or (λ kind. Err (fault_at kind (word_of t))) (place_fault d name) (Ok name)
 
-unfoldable pub class_of : ℕ → List Lexeme → List Lexeme → List Lexeme → Result ClassSetup Fault
-class_of processors statement initial list = do
-  number ← numeral_in initial
-  listed ← list_in processors statement list
-  p ← ok_or (processor_of processors number) (fault_in BadClass statement initial)
-  listed_class processors statement initial p listed
+-- the end of the open class
+unfoldable pub ends_class : Draft → Lexeme → Bool
+ends_class d t = is_some d.open_class && is_mark 125 t
 
--- a class that is defined
-unfoldable pub defined : Setup → List Lexeme → Form → Result ClassSetup Fault
-defined c statement form = do
-  unit ← new_name c (nat_lt (length c.classes) 32) statement (part statement form 1)
-  class_of c.processors statement (part statement form 3) (part statement form 6)
+-- a token between statements
+unfoldable pub first_token : State → Lexeme → Result State Fault
+first_token s t =
+    if ends_class s.draft t then Ok (record s { draft = record s.draft { open_class = None } })
+    else (statement_at t >>= λ name. placed s.draft t name >>= λ name. Ok (record s { form = Some (begun name t.line) }))
 
--- a class that is opened
-unfoldable pub opened : Setup → List Lexeme → Form → Result ClassSetup Fault
-opened c statement form = ok_or (class_named c (first_text (part statement form 1))) (fault_at UnknownClass (part statement form 1))
+-- a statement with one token more, which may be its last
+unfoldable pub form_read : State → Form → Result State Fault
+form_read s f = if is_complete f then (judged s.draft f.name f >>= λ d. Ok (record s { draft = d; form = None })) else Ok (record s { form = Some f })
 
-abbrev pub fields_of : Value → Value → Option TaskFields
-fields_of (values.Attributes a) (values.Priority p) = Some (record { starts = a.starts; priority = p })
-fields_of _ _ = None
+unfoldable pub form_token : State → Form → Lexeme → Result State Fault
+form_token s f t = form_step f t >>= λ next. form_read s next
 
--- what the values of its fields say of a task
-abbrev pub task_fields : List Value → Option TaskFields
-task_fields (attributes ∷ exinf ∷ main ∷ priority ∷ stksz ∷ stk ∷ []) = fields_of attributes priority
-task_fields _ = None
+-- a token outside directives
+unfoldable pub code_token : State → Lexeme → Result State Fault
+code_token s t =
+    if is_directive_kind t.kind then Ok (record s { directive = directives.Marked t.line })
+    else option_map_or (λ f. form_token s f t) s.form (first_token s t)
 
--- a task that is created
-unfoldable pub created : Setup → List Lexeme → Form → Result TaskFields Fault
-created c statement form = do
-  unit ← new_name c (has_room c.names (Object objects.Task)) statement (part statement form 1)
-  fields ← fields_in (kinds_of CreTsk) 4 form (after_first statement)
-  ok_or (task_fields fields) (fault_at Syntax statement)
+-- a token of a directive
+unfoldable pub directive_token : State → Directive → Lexeme → Result State Fault
+directive_token s directive t =
+    if is_end_kind t.kind then (ended s.draft directive >>= λ d. Ok (record s { draft = d; directive = directives.Outside }))
+    else (next_directive directive t >>= λ next. Ok (record s { directive = next }))
+
+-- a token
+abbrev pub token_in : State → Directive → Lexeme → Result State Fault
+token_in s directives.Outside t = code_token s t
+token_in s directive t = directive_token s directive t
+
+unfoldable pub take_token : State → Lexeme → Result State Fault
+take_token s t = token_in s s.directive t
+
+-- ---- the end
+
+-- a class that is open, or no number of processors
+unfoldable pub closed : Draft → Result Setup Fault
+closed d =
+    option_map_or (λ o. Err (fault_of_line faults.CutShort o.line)) d.open_class
+    (if is_start d.phase then Err (fault_of_line faults.NoProcessors 1) else Ok d.setup)
+
+-- the tokens end
+unfoldable pub finished : State → End → Result Setup Fault
+finished s (ends.Bad line) = Err (fault_of_line faults.Syntax line)
+finished s (ends.CutShort line) = Err (fault_of_line faults.CutShort line)
+finished s ends.Done = option_map_or (λ f. Err (fault_of_line faults.CutShort f.line)) s.form (closed s.draft)
+
+unfoldable pub setup_in : Lexed → Result Setup Fault
+setup_in lexed = each take_token at_start lexed.lexemes >>= λ s. finished s lexed.end
+
+-- the configuration of a text, or its first fault
+unfoldable pub config_in : List ℕ → Result Setup Fault
+config_in text = if nat_lt most_bytes (length text) then Err (fault_of_line faults.TooMany 0) else setup_in (lexed_text text)

@@ -1,17 +1,35 @@
-//! What was read of a configuration, statement by statement.
-ghost use Rattle.std.specs.Prelude.{◌≡◌, ◌≤◌, length, OnOk};
-ghost use Rattle.fmp_config.specs.Draft.{IsSound, state_of};
-ghost use Rattle.fmp_config.specs.Faults.{Reads};
-ghost use Rattle.fmp_config.specs.Statements as spec;
+//! What was read of a configuration, and how it grows by whole statements and directives.
+ghost use Rattle.std.specs.Prelude.{◌≡◌, ◌≤◌, true, false, OnOk, IfOk};
+ghost use Rattle.fmp_machine.specs.Building.{is_refused, kind_of};
+ghost use Rattle.fmp_names.specs.Names.{has_room};
+ghost use Rattle.fmp_calls.specs.declared.kinds.NameKind.TheVariants.{Object};
+ghost use Rattle.fmp_config.specs.Judging as spec;
+ghost use Rattle.fmp_config.specs.Sound.{Fit};
+ghost use Rattle.fmp_machine.specs.Parts.{setup_of};
 
-use crate::fault::ReadError;
-use crate::judge::{FUNCTION, NAME, created, defined, left_behind, opened, part};
-use fmp_machine::{Class, Parts};
-use fmp_statements::{
-    ConfigKind, StatementName, after_first, fault_at, first_text, form_in, from_place,
-    is_mark_next, line_of, statement_name,
+use crate::numbers::{Numbers, class_of, number_within, numbers_of};
+use fmp_calls::{NameKind, ObjectKind};
+use fmp_codes::{Pri, Proc};
+use fmp_machine::{
+    Class, CyclicFields, DataQueueSetup, EventflagSetup, Fields, Limits, Order, Parts, PoolSetup,
+    SemaphoreSetup, TaskFields, Timer,
 };
-use fmp_tokens::{End, Token};
+use fmp_statements::{
+    Attributes, ConfigKind, Directive, Fault, Form, Range, ReadError, StatementName, Word, allowed,
+    attributes_in,
+};
+use std::alloc::Global;
+
+/// How far a text has come.
+#[derive(Clone, Copy, Debug, PartialEq, Eq)]
+pub enum Phase {
+    /// Before the number of processors.
+    Start,
+    /// Before the first class is opened.
+    Head,
+    /// Behind that.
+    Body,
+}
 
 /// A class whose statements follow, and the line where it begins.
 #[derive(Clone, Copy, Debug, PartialEq, Eq)]
@@ -20,165 +38,424 @@ pub struct OpenClass {
     pub class: Class,
 }
 
-/// The parts that were read, and the class whose statements follow.
+/// The greatest number of classes.
+const MOST_CLASSES: usize = 32;
+
+/// The parts that were read, the class whose statements follow, how far the text has come, and which statements stood.
 #[derive(Drop)]
 pub struct Draft {
     pub parts: Parts,
     pub open_class: Option<OpenClass>,
+    phase: Phase,
+    timer_stood: bool,
+    limits_stood: bool,
+}
+
+/// A name that is to be new, where there is room for one more.
+#[tactic(auto, unfolding(crate::specs::Judging::new_name))]
+fn new_name<'a>(parts: &Parts, room: bool, line: u32, name: &Word<'a>) -> Result<(), Fault<'a>>
+    ensures value { result ≡ spec.new_name (setup_of parts.now) room line name.now }
+    ensures new { OnOk result (is_refused (setup_of parts.now) name.now.text ≡ false) }
+    ensures room { OnOk result (room ≡ true) }
+{
+    if parts.is_refused(name.text()) {
+        Err(Fault::at(ConfigKind::NameTaken, name))
+    } else if room {
+        Ok(())
+    } else {
+        Err(Fault::within(ConfigKind::TooMany, line, name))
+    }
+}
+
+fn counts_fit(kind: ObjectKind, numbers: Numbers) -> bool
+    ensures { result ≡ spec.counts_fit kind numbers }
+{
+    match kind {
+        ObjectKind::Semaphore => numbers.first <= numbers.second,
+        _ => true,
+    }
+}
+
+#[tactic(auto, unfolding(crate::specs::Judging::fitting_counts))]
+fn fitting_counts<'a>(kind: ObjectKind, numbers: Numbers, first: &Word<'a>) -> Result<(), Fault<'a>>
+    ensures value { result ≡ spec.fitting_counts kind numbers first.now }
+    ensures fit { OnOk result (spec.counts_fit kind numbers ≡ true) }
+{
+    if counts_fit(kind, numbers) {
+        Ok(())
+    } else {
+        Err(Fault::at(ConfigKind::OutOfRange, first))
+    }
+}
+
+/// Whether a class has this processor alone.
+fn is_alone(master: Proc, class: &Class) -> bool
+    ensures { result ≡ spec.is_alone master class.now }
+{
+    let mut members = [false; 8];
+    members[master.index()] = true;
+    same(&class.members, &members)
+}
+
+/// Whether two lists are the same.
+fn same(a: &[bool], b: &[bool]) -> bool
+    ensures { result ≡ spec.same a.now b.now }
+{
+    match a {
+        [] => b.is_empty(),
+        [first, a @ ..] => match b {
+            [] => false,
+            [second, b @ ..] => first == second && same(a, b),
+        },
+    }
+}
+
+fn is_served(timer: Timer, class: &Class) -> bool
+    ensures { result ≡ spec.is_served timer class.now }
+{
+    match timer {
+        Timer::Local => true,
+        Timer::Global(master) => is_alone(master, class),
+    }
+}
+
+fn is_handled(timer: Timer, class: &Class, kind: ObjectKind) -> bool
+    ensures { result ≡ spec.is_handled timer class.now kind }
+{
+    match kind {
+        ObjectKind::Cyclic | ObjectKind::Alarm => is_served(timer, class),
+        _ => true,
+    }
+}
+
+/// Refuses a handler of a class that has other processors than the one whose ticks count.
+#[tactic(auto, unfolding(crate::specs::Judging::served))]
+fn served<'a>(
+    timer: Timer,
+    class: &Class,
+    kind: ObjectKind,
+    line: u32,
+    name: &Word<'a>,
+) -> Result<(), Fault<'a>>
+    ensures { result ≡ spec.served timer class.now kind line name.now }
+{
+    if is_handled(timer, class, kind) {
+        Ok(())
+    } else {
+        Err(Fault::within(ConfigKind::ForeignHandler, line, name))
+    }
+}
+
+fn order_of(attributes: Attributes) -> Order
+    ensures { result ≡ spec.order_of attributes }
+{
+    if attributes.by_priority {
+        Order::Priority
+    } else {
+        Order::First
+    }
+}
+
+/// What the attributes and numbers of an object say.
+fn fields_of(kind: ObjectKind, attributes: Attributes, numbers: Numbers) -> Fields
+    requires { Fit kind numbers }
+    ensures value { result ≡ spec.fields_of kind attributes numbers }
+    ensures kind { kind_of result ≡ kind }
+{
+    let order = order_of(attributes);
+    match kind {
+        ObjectKind::Task => Fields::Task(TaskFields {
+            starts: attributes.starts,
+            priority: Pri::new(numbers.first as u8),
+        }),
+        ObjectKind::Semaphore => Fields::Semaphore(SemaphoreSetup {
+            order,
+            initial: numbers.first as u16,
+            most: numbers.second as u16,
+        }),
+        ObjectKind::Eventflag => Fields::Eventflag(EventflagSetup {
+            order,
+            many: attributes.many,
+            clears: attributes.clears,
+            initial: numbers.first as u32,
+        }),
+        ObjectKind::DataQueue => Fields::DataQueue(DataQueueSetup {
+            order,
+            capacity: numbers.first as u16,
+        }),
+        ObjectKind::Pool => Fields::Pool(PoolSetup {
+            order,
+            blocks: numbers.first as u8,
+        }),
+        ObjectKind::Cyclic => Fields::Cyclic(CyclicFields {
+            period: numbers.first as u32,
+            phase: numbers.second as u32,
+            starts: attributes.starts,
+        }),
+        ObjectKind::Alarm => Fields::Alarm,
+        ObjectKind::SpinLock => Fields::SpinLock,
+    }
+}
+
+/// The fields of an object that is created in a class, or the first fault.
+#[tactic(auto, using(crate::proofs::Ranges::fit), unfolding(crate::specs::Judging::fields_in))]
+fn fields_in<'a>(
+    parts: &Parts,
+    class: &Class,
+    kind: ObjectKind,
+    form: &Form<'a>,
+) -> Result<Fields, Fault<'a>>
+    requires { (setup_of parts.now).limits.priorities ≤ 32 }
+    ensures value { result ≡ spec.fields_in (setup_of parts.now) class.now kind form.now }
+    ensures new { OnOk result (is_refused (setup_of parts.now) form.now.pieces.name.text ≡ false) }
+    ensures room { OnOk result (has_room (setup_of parts.now).names (Object kind) ≡ true) }
+    ensures kind { IfOk result (λ f. kind_of f ≡ kind) }
+{
+    let (line, pieces) = (form.line(), form.pieces());
+    new_name(
+        parts,
+        parts.names.has_room(NameKind::Object(kind)),
+        line,
+        pieces.name(),
+    )?;
+    served(parts.timer, class, kind, line, pieces.name())?;
+    let attributes = attributes_in(allowed(kind), pieces.series())?;
+    let numbers = numbers_of(parts, StatementName::Create(kind), pieces)?;
+    fitting_counts(kind, numbers, pieces.first())?;
+    Ok(fields_of(kind, attributes, numbers))
+}
+
+/// The processors whose ticks count: each for itself, or the one that is named.
+#[tactic(auto, unfolding(crate::specs::Judging::timer_of))]
+fn timer_of<'a>(parts: &Parts, word: &Word<'a>) -> Result<Timer, Fault<'a>>
+    ensures { result ≡ spec.timer_of (setup_of parts.now) word.now }
+{
+    if word.text().is_empty() {
+        return Ok(Timer::Local);
+    }
+    let range = Range {
+        least: 1,
+        most: u64::from(parts.names.processors()),
+    };
+    let number = number_within(&parts.names, range, word)?;
+    Ok(Timer::Global(Proc::new(number as u8)))
 }
 
 impl Draft {
-    ghost use Rattle.std.specs.Prelude.{◌≡◌, OnOk};
-    ghost use Rattle.fmp_config.specs.Draft.{IsSound, state_of};
-    ghost use Rattle.fmp_machine.specs.Building.{IsSoundClass};
-    ghost use Rattle.fmp_config.specs.Faults.{Reads};
-    ghost use Rattle.fmp_config.specs.Statements as spec;
+    ghost use Rattle.std.specs.Prelude.{◌≡◌, true, None};
+    ghost use Rattle.fmp_config.specs.Drafts as drafts;
+    ghost use Rattle.fmp_config.specs.Drafts.{draft_of};
+    ghost use Rattle.fmp_config.specs.Judging as spec;
+    ghost use Rattle.fmp_config.specs.Sound.{IsSound, IsSoundDirective, IsWhole, MayStandFor};
+    ghost use Rattle.fmp_machine.specs.Building.{IsSoundClass, has_function};
+    ghost use Rattle.fmp_names.specs.Names.{is_name};
+    ghost use Rattle.fmp_statements.specs.Outcomes.{Leads};
 
-    #[tactic(auto, unfolding(crate::specs::Statements::define_class))]
-    fn define_class(&mut self, statement: &[Token<'_>], end: End) -> Result<usize, ReadError>
-        requires { IsSound (state_of self.old) }
-        ensures exact { Reads result (state_of self.new) (spec.define_class (state_of self.old) statement.now end) }
-        ensures sound { OnOk result (IsSound (state_of self.new)) }
+    /// Nothing was read.
+    pub fn blank(alloc: Global) -> Self
+        ensures { draft_of result ≡ drafts.blank_draft }
     {
-        let form = form_in(StatementName::DefClass, statement, end)?;
-        let class = defined(&self.parts, statement, &form)?;
-        let name = first_text(part(statement, &form, NAME));
-        self.parts.add_class(name, class)?;
-        Ok(left_behind(statement, &form))
-    }
-
-    #[tactic(auto, unfolding(crate::specs::Statements::begin_class))]
-    fn begin_class(&mut self, statement: &[Token<'_>], end: End) -> Result<usize, ReadError>
-        requires { IsSound (state_of self.old) }
-        ensures exact { Reads result (state_of self.new) (spec.begin_class (state_of self.old) statement.now end) }
-        ensures sound { OnOk result (IsSound (state_of self.new)) }
-    {
-        let form = form_in(StatementName::Class, statement, end)?;
-        let class = opened(&self.parts, statement, &form)?;
-        let line = line_of(statement);
-        self.open_class = Some(OpenClass { line, class });
-        Ok(left_behind(statement, &form))
-    }
-
-    #[tactic(auto, unfolding(crate::specs::Statements::create_task))]
-    fn create_task(
-        &mut self,
-        class: Class,
-        statement: &[Token<'_>],
-        end: End,
-    ) -> Result<usize, ReadError>
-        requires sound { IsSound (state_of self.old) }
-        requires class { IsSoundClass (state_of self.old).setup class }
-        ensures exact { Reads result (state_of self.new) (spec.create_task (state_of self.old) class statement.now end) }
-        ensures sound { OnOk result (IsSound (state_of self.new)) }
-    {
-        let form = form_in(StatementName::CreTsk, statement, end)?;
-        let fields = created(&self.parts, statement, &form)?;
-        let name = first_text(part(statement, &form, NAME));
-        let function = first_text(part(statement, &form, FUNCTION));
-        self.parts.add_task(class, name, function, fields)?;
-        Ok(left_behind(statement, &form))
-    }
-
-    #[tactic(auto, unfolding(crate::specs::Statements::outside))]
-    fn outside(
-        &mut self,
-        name: StatementName,
-        statement: &[Token<'_>],
-        end: End,
-    ) -> Result<usize, ReadError>
-        requires { IsSound (state_of self.old) }
-        ensures exact { Reads result (state_of self.new) (spec.outside (state_of self.old) name statement.now end) }
-        ensures sound { OnOk result (IsSound (state_of self.new)) }
-    {
-        match name {
-            StatementName::Processors => Err(fault_at(ConfigKind::TooMany, statement).into()),
-            StatementName::DefClass => self.define_class(statement, end),
-            StatementName::Class => self.begin_class(statement, end),
-            StatementName::CreTsk => Err(fault_at(ConfigKind::OutsideClass, statement).into()),
+        Draft {
+            parts: Parts::new(alloc, 1),
+            open_class: None,
+            phase: Phase::Start,
+            timer_stood: false,
+            limits_stood: false,
         }
     }
 
-    #[tactic(auto, unfolding(crate::specs::Statements::inside))]
-    fn inside(
-        &mut self,
-        class: Class,
-        name: StatementName,
-        statement: &[Token<'_>],
-        end: End,
-    ) -> Result<usize, ReadError>
-        requires sound { IsSound (state_of self.old) }
-        requires class { IsSoundClass (state_of self.old).setup class }
-        ensures exact { Reads result (state_of self.new) (spec.inside (state_of self.old) class name statement.now end) }
-        ensures sound { OnOk result (IsSound (state_of self.new)) }
+    /// Whether the number of processors is still to come.
+    pub fn is_at_start(&self) -> bool
+        ensures { result ≡ drafts.is_start (draft_of self.now).phase }
     {
+        matches!(self.phase, Phase::Start)
+    }
+
+    /// Outside a class, behind the number of processors: the kind of fault of a statement that may not stand there.
+    fn fault_outside(&self, name: StatementName) -> Option<ConfigKind>
+        ensures { result ≡ spec.fault_outside (draft_of self.now) name }
+    {
+        let in_body = matches!(self.phase, Phase::Body);
         match name {
-            StatementName::CreTsk => self.create_task(class, statement, end),
-            StatementName::Processors | StatementName::DefClass | StatementName::Class => {
-                Err(fault_at(ConfigKind::Syntax, statement).into())
+            StatementName::Processors => Some(ConfigKind::TooMany),
+            StatementName::Timer if self.timer_stood => Some(ConfigKind::TooMany),
+            StatementName::Limits if self.limits_stood => Some(ConfigKind::TooMany),
+            StatementName::Timer | StatementName::Limits if in_body => Some(ConfigKind::Syntax),
+            StatementName::Create(_) => Some(ConfigKind::OutsideClass),
+            _ => None,
+        }
+    }
+
+    /// The kind of fault of a statement that may not stand where it stands.
+    #[tactic(auto, unfolding(crate::specs::Judging::place_fault))]
+    pub fn place_fault(&self, name: StatementName) -> Option<ConfigKind>
+        ensures { result ≡ spec.place_fault (draft_of self.now) name }
+    {
+        if self.is_at_start() {
+            fault_before(name)
+        } else if self.open_class.is_some() {
+            fault_inside(name)
+        } else {
+            self.fault_outside(name)
+        }
+    }
+
+    /// Lets a name stand for a number, from a directive that begins in a line. The same once more changes nothing.
+    #[tactic(auto, unfolding(crate::specs::Judging::define))]
+    fn define<'a>(&mut self, line: u32, name: &Word<'a>, number: u64) -> Result<(), ReadError<'a>>
+        requires { MayStandFor name.now number }
+        ensures { Leads result (draft_of self.new) (spec.define (draft_of self.old) line name.now number) }
+    {
+        if let Some(known) = self.parts.names.defined(name.text()) {
+            if u64::from(known) == number {
+                return Ok(());
             }
+            return Err(Fault::at(ConfigKind::NameTaken, name).into());
+        }
+        let room = self.parts.names.has_room_to_define();
+        new_name(&self.parts, room, line, name)?;
+        self.parts.define(name.text(), number as u32)?;
+        Ok(())
+    }
+
+    /// Ends a directive.
+    #[tactic(auto, unfolding(crate::specs::Judging::ended))]
+    pub fn end_directive<'a>(&mut self, directive: &Directive<'a>) -> Result<(), ReadError<'a>>
+        requires { IsSoundDirective directive.now }
+        ensures { Leads result (draft_of self.new) (spec.ended (draft_of self.old) directive.now) }
+    {
+        match directive {
+            Directive::Marked(line) => Err(Fault::of_line(ConfigKind::Syntax, *line).into()),
+            Directive::Defining(line, name, number) => self.define(*line, name, *number),
+            _ => Ok(()),
         }
     }
 
-    #[tactic(auto, unfolding(crate::specs::Statements::ends_class))]
-    fn ends_class(&self, tokens: &[Token<'_>]) -> bool
-        ensures { result ≡ spec.ends_class (state_of self.now) tokens.now }
+    #[tactic(auto, unfolding(crate::specs::Judging::create_in))]
+    fn create_in<'a>(
+        &mut self,
+        class: Class,
+        kind: ObjectKind,
+        form: &Form<'a>,
+    ) -> Result<(), ReadError<'a>>
+        requires sound { IsSound (draft_of self.old) }
+        requires name { is_name form.now.pieces.name.text ≡ true }
+        requires function { has_function kind ≡ true → is_name form.now.pieces.function.text ≡ true }
+        ensures { Leads result (draft_of self.new) (spec.create_in (draft_of self.old) class kind form.now) }
     {
-        self.open_class.is_some() && is_mark_next(b'}', tokens)
+        let fields = fields_in(&self.parts, &class, kind, form)?;
+        let (name, function) = (form.pieces().name().text(), form.pieces().function().text());
+        self.parts.add_object(class, name, function, fields)?;
+        Ok(())
     }
 
-    /// Reads the statement that begins with the first token, or ends the class with it, and gives how many tokens are left.
-    #[tactic(auto, unfolding(crate::specs::Statements::statement_at))]
-    fn statement(&mut self, tokens: &[Token<'_>], end: End) -> Result<usize, ReadError>
-        requires { IsSound (state_of self.old) }
-        ensures exact { Reads result (state_of self.new) (spec.statement_at (state_of self.old) tokens.now end) }
-        ensures sound { OnOk result (IsSound (state_of self.new)) }
+    #[tactic(auto, unfolding(crate::specs::Judging::create))]
+    fn create<'a>(&mut self, kind: ObjectKind, form: &Form<'a>) -> Result<(), ReadError<'a>>
+        requires sound { IsSound (draft_of self.old) }
+        requires name { is_name form.now.pieces.name.text ≡ true }
+        requires function { has_function kind ≡ true → is_name form.now.pieces.function.text ≡ true }
+        ensures { Leads result (draft_of self.new) (spec.create (draft_of self.old) kind form.now) }
     {
-        if self.ends_class(tokens) {
-            self.open_class = None;
-            return Ok(after_first(tokens).len());
-        }
-        let name = statement_name(tokens)?;
         match self.open_class {
-            None => self.outside(name, tokens, end),
-            Some(open) => self.inside(open.class, name, tokens, end),
+            Some(open) => self.create_in(open.class, kind, form),
+            None => Err(Fault::of_line(ConfigKind::OutsideClass, form.line()).into()),
+        }
+    }
+
+    #[tactic(auto, unfolding(crate::specs::Judging::count_processors))]
+    fn count_processors<'a>(&mut self, form: &Form<'a>) -> Result<(), ReadError<'a>>
+        ensures { Leads result (draft_of self.new) (spec.count_processors (draft_of self.old) form.now) }
+    {
+        let numbers = numbers_of(&self.parts, StatementName::Processors, form.pieces())?;
+        self.parts.set_processors(numbers.first as u8);
+        self.phase = Phase::Head;
+        Ok(())
+    }
+
+    #[tactic(auto, unfolding(crate::specs::Judging::choose_timer))]
+    fn choose_timer<'a>(&mut self, form: &Form<'a>) -> Result<(), ReadError<'a>>
+        ensures { Leads result (draft_of self.new) (spec.choose_timer (draft_of self.old) form.now) }
+    {
+        let timer = timer_of(&self.parts, form.pieces().first())?;
+        self.parts.set_timer(timer);
+        self.timer_stood = true;
+        Ok(())
+    }
+
+    #[tactic(auto, unfolding(crate::specs::Judging::set_limits))]
+    fn set_limits<'a>(&mut self, form: &Form<'a>) -> Result<(), ReadError<'a>>
+        ensures { Leads result (draft_of self.new) (spec.set_limits (draft_of self.old) form.now) }
+    {
+        let numbers = numbers_of(&self.parts, StatementName::Limits, form.pieces())?;
+        self.parts.set_limits(Limits {
+            wakeups: numbers.first as u16,
+            priorities: numbers.second as u8,
+        });
+        self.limits_stood = true;
+        Ok(())
+    }
+
+    #[tactic(auto, unfolding(crate::specs::Judging::define_class))]
+    fn define_class<'a>(&mut self, form: &Form<'a>) -> Result<(), ReadError<'a>>
+        ensures { Leads result (draft_of self.new) (spec.define_class (draft_of self.old) form.now) }
+    {
+        let (line, pieces) = (form.line(), form.pieces());
+        let room = self.parts.classes.len() < MOST_CLASSES;
+        new_name(&self.parts, room, line, pieces.name())?;
+        let class = class_of(&self.parts, line, pieces)?;
+        self.parts.add_class(pieces.name().text(), class)?;
+        Ok(())
+    }
+
+    #[tactic(auto, unfolding(crate::specs::Judging::begin_class))]
+    fn begin_class<'a>(&mut self, form: &Form<'a>) -> Result<(), ReadError<'a>>
+        ensures { Leads result (draft_of self.new) (spec.begin_class (draft_of self.old) form.now) }
+    {
+        let name = form.pieces().name();
+        let Some(class) = self.parts.class_named(name.text()) else {
+            return Err(Fault::at(ConfigKind::UnknownClass, name).into());
+        };
+        let line = form.line();
+        self.open_class = Some(OpenClass { line, class });
+        self.phase = Phase::Body;
+        Ok(())
+    }
+
+    /// Takes in what a whole statement says, or tells its first fault.
+    #[tactic(auto, unfolding(crate::specs::Judging::judged))]
+    pub fn judge<'a>(&mut self, form: &Form<'a>) -> Result<(), ReadError<'a>>
+        requires sound { IsSound (draft_of self.old) }
+        requires form { IsWhole form.now }
+        ensures { Leads result (draft_of self.new) (spec.judged (draft_of self.old) form.now.name form.now) }
+    {
+        match form.name() {
+            StatementName::Include => Ok(()),
+            StatementName::Processors => self.count_processors(form),
+            StatementName::Timer => self.choose_timer(form),
+            StatementName::Limits => self.set_limits(form),
+            StatementName::DefClass => self.define_class(form),
+            StatementName::Class => self.begin_class(form),
+            StatementName::Create(kind) => self.create(kind, form),
         }
     }
 }
 
-/// Reads the statement that begins with the first token, where no more tokens are left than so many.
-#[tactic(auto, unfolding(crate::specs::Statements::next_read))]
-fn next_read(
-    draft: &mut Draft,
-    due: usize,
-    tokens: &[Token<'_>],
-    end: End,
-) -> Result<usize, ReadError>
-    requires { IsSound (state_of draft.old) }
-    ensures exact { Reads result (state_of draft.new) (spec.next_read end (state_of draft.old, due) tokens.now) }
-    ensures sound { OnOk result (IsSound (state_of draft.new)) }
+/// In a class: the kind of fault of a statement that may not stand there.
+fn fault_inside(name: StatementName) -> Option<ConfigKind>
+    ensures { result ≡ spec.fault_inside name }
 {
-    if tokens.len() <= due {
-        draft.statement(tokens, end)
-    } else {
-        Ok(due)
+    match name {
+        StatementName::Include | StatementName::Create(_) => None,
+        _ => Some(ConfigKind::Syntax),
     }
 }
 
-/// Reads the statements that begin where so many tokens are left.
-pub fn read_statements(
-    draft: &mut Draft,
-    first: usize,
-    tokens: &[Token<'_>],
-    end: End,
-) -> Result<usize, ReadError>
-    requires { IsSound (state_of draft.old) }
-    ensures exact { Reads result (state_of draft.new) (spec.all_statements end (state_of draft.old, first) tokens.now) }
-    ensures sound { OnOk result (IsSound (state_of draft.new)) }
+/// Before the number of processors: the kind of fault of a statement that may not stand there.
+fn fault_before(name: StatementName) -> Option<ConfigKind>
+    ensures { result ≡ spec.fault_before name }
 {
-    let mut due = first;
-    for place in 0..tokens.len() {
-        due = next_read(draft, due, from_place(place, tokens), end)?;
+    match name {
+        StatementName::Include | StatementName::Processors => None,
+        _ => Some(ConfigKind::NoProcessors),
     }
-    Ok(due)
 }

@@ -1,87 +1,136 @@
--- The class of a definition: what is read is spelled, and what is spelled is read.
-use Rattle.std.proofs.Common.{◌≡◌, ℕ, ◌≤◌, Bool, true, eqb, List, ◌∷◌, ◌++◌, length, Option, Some, None, Result, Ok, Err, refl, sym, ap, ◌∙◌}
-use Rattle.std.specs.Prelude.{codes}
-use Rattle.std.specs.List.{list_all, list_any}
-use Rattle.std.specs.Option.{ok_or, option_map_or}
-use Rattle.fmp_bytes.specs.Spelling.{SpellsUnsigned}
+-- Classes: what is read is spelled, and what is spelled is read.
+use Rattle.std.proofs.Common.{◌≡◌, ℕ, ◌-◌, ◌≤◌, ◌<◌, Bool, true, false, leb, eqb, List, [], ◌∷◌, map, Ok, refl, sym, ap, ◌∙◌, arith}
+use Rattle.std.specs.Prelude.{slice_set, replicate}
+use Rattle.std.specs.List.{list_all, list_any, AllByRecursion}
+use Rattle.std.specs.Option.{ok_or}
+use Rattle.std.proofs.lemmas.Bool.{and_parts, and_from, leb-true}
 use Rattle.fmp_codes.specs.Numbers.{as_proc}
 use Rattle.fmp_codes.specs.declared.numbers.Proc.{Proc}
-use Rattle.fmp_text.proofs.Parsed.{ok_or_parts}
-use Rattle.fmp_tokens.specs.Lexing.{Lexeme}
-use Rattle.fmp_statements.specs.declared.fault.Fault.{Fault}
-use Rattle.fmp_statements.specs.declared.fault.ConfigKind.TheVariants.{OutOfRange, BadClass}
-use Rattle.fmp_statements.specs.declared.scan.Item.TheVariants as items
-use Rattle.fmp_statements.specs.Cursor.{first_text}
-use Rattle.fmp_statements.specs.Faults.{fault_at, fault_in}
-use Rattle.fmp_statements.specs.Numbers.{numeral, numeral_in, processor_of, list_in}
-use Rattle.fmp_statements.specs.Scan.{is_item}
+use Rattle.fmp_statements.specs.declared.fault.ConfigKind.TheVariants.{BadClass}
+use Rattle.fmp_statements.specs.Faults.{fault_in}
+use Rattle.fmp_statements.specs.Folds.{each}
+use Rattle.fmp_statements.specs.Pieces.{Pieces}
+use Rattle.fmp_statements.specs.Words.{Word}
+use Rattle.fmp_config.specs.Numbers.{value_at, processor_of, processor_at, number_step, member_step, all_numbers, members_in, sound_class, class_of}
 use Rattle.fmp_machine.specs.declared.setup.Class.{Class}
-use Rattle.fmp_config.specs.Reading.{class_of, listed_class, sound_class}
+use Rattle.fmp_machine.specs.Setup.{Setup}
 use Rattle.fmp_machine.specs.Valid.{is_class_of}
-use Rattle.fmp_config_laws.specs.Parts.{separated, SpellNumbers}
-use Rattle.fmp_config_laws.specs.Meaning.{is_processor, members_of}
-use Rattle.fmp_config_laws.proofs.Lexemes.{lexeme_of, Are, first_of}
-use Rattle.fmp_config_laws.proofs.Listed.{of_members, processor_of-is, processor_of-parts, list_in-spelled, list_is_spelled}
-use Rattle.fmp_config_laws.proofs.Members.{marked-members, class-begins}
-use Rattle.fmp_config_laws.proofs.Numerals.{numeral-spelled, numeral_is_spelled}
-use Rattle.fmp_config_laws.proofs.Results.{ok_is, err_is, bind_parts, passed}
+use Rattle.fmp_config_laws.specs.Meaning.{SpellsNumber, SpellNumbers, is_processor, members_of}
+use Rattle.fmp_config_laws.proofs.Results.{ok_is, bind_parts, passed, ok_or_parts, tested_some, each-cons, each_parts, each-none}
+use Rattle.fmp_config_laws.proofs.Numerals.{AreNames, is_signed, most_numeral, value_at-spelled, value_at_is_spelled}
+use Rattle.fmp_config_laws.proofs.Members.{marked, same_place, marked-members, class-begins}
 
-pub first_text_is : (ls : List Lexeme) (token : List ℕ) (tokens : List (List ℕ)) → Are ls (token ∷ tokens) → first_text ls ≡ token
-first_text_is ls token tokens are = let f = first_of ls token tokens are in ap first_text f.parts ∙ f.text
+module _ (c : Setup) (few : c.processors ≤ 8) (named : AreNames c.names) where
+  small : (n : ℕ) → is_processor c.processors n ≡ true → n < most_numeral
+  small n is = let high = leb-true n c.processors (and_parts (leb 1 n) (leb n c.processors) is).1 in omega (arith, high, few)
 
--- the class of these numbers
-abbrev pub class_with : ℕ → List ℕ → Class
-class_with initial members = record { initial = as_proc initial; members = members_of members }
+  -- ---- one processor
 
-module _ (processors : ℕ) (few : processors ≤ 8) (statement initial_at list_at : List Lexeme) (initial : List ℕ) (behind : List (List ℕ)) (members rest : List (List ℕ))
-    (initial_are : Are initial_at (initial ∷ behind)) (list_are : Are list_at (separated (codes ",") members ++ (codes "}" ∷ rest))) (some : 1 ≤ length members) where
-  pub class_read : (n : ℕ) (numbers : List ℕ) → SpellsUnsigned initial n → SpellNumbers members numbers → is_processor processors n ≡ true → list_all (is_processor processors) numbers ≡ true
-      → list_any (λ m. eqb m n) numbers ≡ true → class_of processors statement initial_at list_at ≡ Ok (class_with n numbers)
-  unfolding class_of listed_class sound_class numeral_in
-  class_read n numbers s list_s is all begins =
-      let sound = class-begins processors n numbers few is all ∙ begins in
-      let first = first_text_is initial_at initial behind initial_are in
-      let read = numeral-spelled initial n s in
-      let listed = list_in-spelled processors few statement members numbers rest list_at some list_s all list_are ∙ ap (λ (ms : List Bool). Ok (of_members ms)) (marked-members processors numbers few all) in
-      let processor = processor_of-is processors n is in
-      rw (first, read, listed, processor, sound) refl
+  processor_at-spelled : (line : ℕ) (word : Word) (n : ℕ) → SpellsNumber c.names word.text n → is_processor c.processors n ≡ true → processor_at c line word ≡ Ok (as_proc n)
+  unfolding processor_at processor_of
+  processor_at-spelled line word n s is =
+      let read = value_at-spelled c.names word n s in
+      let parts = and_parts (leb 1 n) (leb n c.processors) is in
+      let a = parts.0 in
+      let b = parts.1 in
+      rw read (rw (a, b) refl)
 
-  -- what a class says, where it was read
-  pub record ClassWas (class : Class) : Type 0 where
-    pub number : ℕ
-    pub numbers : List ℕ
-    pub initial_is : SpellsUnsigned initial number
-    pub members_are : SpellNumbers members numbers
-    pub processor_is : is_processor processors number ≡ true
-    pub all : list_all (is_processor processors) numbers ≡ true
-    pub begins : list_any (λ m. eqb m number) numbers ≡ true
-    pub same : class ≡ class_with number numbers
+  pub processor_at_is_spelled : (line : ℕ) (word : Word) (p : Proc) → processor_at c line word ≡ Ok p → is_signed word.text ≡ false
+      → (n : ℕ) × SpellsNumber c.names word.text n × (is_processor c.processors n ≡ true) × (as_proc n ≡ p)
+  unfolding processor_at processor_of
+  processor_at_is_spelled line word p e unsigned =
+      let q = bind_parts (value_at c.names word) (λ n. ok_or (processor_of c.processors n) (fault_in BadClass line word)) p e in
+      let t = tested_some (is_processor c.processors q.0) (as_proc q.0) p (ok_or_parts (processor_of c.processors q.0) (fault_in BadClass line word) p q.2) in
+      (q.0, value_at_is_spelled c.names named word q.0 q.1 unsigned (small q.0 t.0), t.0, t.1)
 
-  listed_parts : (refused : Option Fault) (r : Result Class Fault) (class : Class) → option_map_or (λ fault. Err fault) refused r ≡ Ok class → (refused ≡ None) × (r ≡ Ok class)
-  listed_parts None r class e = (refl, e)
-  listed_parts (Some fault) r class e = absurd (err_is {A = Class} fault class e)
+  -- ---- a list of them
 
-  pub class_was : (class : Class) → is_item items.Number (lexeme_of initial) ≡ true → list_all (λ t. is_item items.Number (lexeme_of t)) members ≡ true → class_of processors statement initial_at list_at ≡ Ok class → ClassWas class
-  unfolding class_of listed_class sound_class numeral_in
-  class_was class item all_items e =
-      let first = first_text_is initial_at initial behind initial_are in
-      let a = bind_parts (ok_or (numeral (first_text initial_at)) (fault_at OutOfRange initial_at)) _ class e in
-      let b = bind_parts (list_in processors statement list_at) _ class a.2 in
-      let c = bind_parts (ok_or (processor_of processors a.0) (fault_in BadClass statement initial_at)) _ class b.2 in
-      let d = listed_parts b.0.refused _ class c.2 in
-      let t = passed (is_class_of processors (record { initial = c.0; members = b.0.members })) _ _ class d.1 in
-      let s = list_is_spelled processors few statement members rest b.0 list_at some all_items list_are b.1 d.0 in
-      let p = processor_of-parts processors a.0 c.0 (ok_or_parts _ _ c.0 c.1) in
-      let read : numeral initial ≡ Some a.0 = ap numeral (sym first) ∙ ok_or_parts _ _ a.0 a.1 in
-      let ms : b.0.members ≡ members_of s.0 = s.4 ∙ marked-members processors s.0 few s.2 in
-      let is : record { initial = c.0; members = b.0.members } ≡ class_with p.0 s.0 = ap (λ (q : Proc). record { initial = q; members = b.0.members }) p.3 ∙ ap (λ (m : List Bool). record { initial = as_proc p.0; members = m }) ms in
+  members-spelled : (line : ℕ) (words : List Word) (numbers : List ℕ) (members : List Bool) → SpellNumbers c.names (map (λ w. w.text) words) numbers → list_all (is_processor c.processors) numbers ≡ true
+      → each (member_step c line) members words ≡ Ok (marked members numbers)
+  unfolding member_step
+  members-spelled line [] [] members s all = each-none (member_step c line) members
+  members-spelled line [] (n ∷ numbers) members s all = absurd s
+  members-spelled line (w ∷ words) [] members s all = absurd s
+  members-spelled line (w ∷ words) (n ∷ numbers) members s all =
+      let each_is = and_parts (is_processor c.processors n) (list_all (is_processor c.processors) numbers) all in
+      let here = processor_at-spelled line w n s.0 each_is.0 in
+      let step : member_step c line members w ≡ Ok (slice_set members ((as_proc n).number - 1) true) = rw here refl in
+      let place = ap (λ (i : ℕ). Ok (slice_set members i true)) (same_place c.processors n few each_is.0) in
+      each-cons (member_step c line) members (slice_set members (n - 1) true) w words (step ∙ place) ∙ members-spelled line words numbers (slice_set members (n - 1) true) s.1 each_is.1
+
+  numbers-spelled : (words : List Word) (numbers : List ℕ) → SpellNumbers c.names (map (λ w. w.text) words) numbers → each (number_step c) tt words ≡ Ok tt
+  unfolding number_step
+  numbers-spelled [] [] s = each-none (number_step c) tt
+  numbers-spelled [] (n ∷ numbers) s = absurd s
+  numbers-spelled (w ∷ words) [] s = absurd s
+  numbers-spelled (w ∷ words) (n ∷ numbers) s =
+      let here = value_at-spelled c.names w n s.0 in
+      let step : number_step c tt w ≡ Ok tt = rw here refl in
+      each-cons (number_step c) tt tt w words step ∙ numbers-spelled words numbers s.1
+
+  abbrev pub Spelled : List (List ℕ) → List Bool → List Bool → Type 0
+  Spelled words before after = (numbers : List ℕ) × SpellNumbers c.names words numbers × (list_all (is_processor c.processors) numbers ≡ true) × (marked before numbers ≡ after)
+
+  members_are_spelled : (line : ℕ) (words : List Word) (before after : List Bool) → each (member_step c line) before words ≡ Ok after → AllByRecursion (λ w. is_signed w ≡ false) (map (λ w. w.text) words)
+      → Spelled (map (λ w. w.text) words) before after
+  unfolding member_step
+  members_are_spelled line [] before after e unsigned = ([], tt, refl, ok_is before after (sym (each-none (member_step c line) before) ∙ e))
+  members_are_spelled line (w ∷ words) before after e unsigned =
+      let p = each_parts (member_step c line) before after w words e in
+      let q = bind_parts (processor_at c line w) (λ p. Ok (slice_set before (p.number - 1) true)) p.0 p.1 in
+      let n = processor_at_is_spelled line w q.0 q.1 unsigned.0 in
+      let place = ap (λ (p : Proc). slice_set before (p.number - 1) true) n.3 in
+      let same : slice_set before (n.0 - 1) true ≡ p.0 = ap (λ (i : ℕ). slice_set before i true) (sym (same_place c.processors n.0 few n.2)) ∙ place ∙ ok_is (slice_set before (q.0.number - 1) true) p.0 q.2 in
+      let rest = members_are_spelled line words (slice_set before (n.0 - 1) true) after (ap (λ (ms : List Bool). each (member_step c line) ms words) same ∙ p.2) unsigned.1 in
+      (n.0 ∷ rest.0, (n.1, rest.1), and_from (is_processor c.processors n.0) (list_all (is_processor c.processors) rest.0) n.2 rest.2, rest.3)
+
+  -- ---- the class of a definition
+
+  abbrev pub class : ℕ → List ℕ → Class
+  class initial members = record { initial = as_proc initial; members = members_of members }
+
+  pub class_of-spelled : (line : ℕ) (pieces : Pieces) (initial : ℕ) (members : List ℕ) → SpellsNumber c.names pieces.first.text initial → SpellNumbers c.names (map (λ w. w.text) pieces.series) members
+      → is_processor c.processors initial ≡ true → list_all (is_processor c.processors) members ≡ true → list_any (λ n. eqb n initial) members ≡ true → class_of c line pieces ≡ Ok (class initial members)
+  unfolding class_of sound_class all_numbers members_in
+  class_of-spelled line pieces initial members first series initial_is members_are begins =
+      let number = value_at-spelled c.names pieces.first initial first in
+      let unit = numbers-spelled pieces.series members series in
+      let processor = processor_at-spelled line pieces.first initial first initial_is in
+      let listed = members-spelled line pieces.series members (replicate 8 false) series members_are ∙ ap (λ (ms : List Bool). Ok ms) (marked-members c.processors members few members_are) in
+      let sound : is_class_of c.processors (class initial members) ≡ true = class-begins c.processors initial members few initial_is members_are ∙ begins in
+      rw (number, unit, processor, listed, sound) refl
+
+  pub record DefinedBy (pieces : Pieces) (found : Class) : Type 0 where
+    pub initial : ℕ
+    pub members : List ℕ
+    pub initial_is : SpellsNumber c.names pieces.first.text initial
+    pub members_are : SpellNumbers c.names (map (λ w. w.text) pieces.series) members
+    pub initial_within : is_processor c.processors initial ≡ true
+    pub members_within : list_all (is_processor c.processors) members ≡ true
+    pub begins_within : list_any (λ n. eqb n initial) members ≡ true
+    pub is : class initial members ≡ found
+
+  pub class_of_is_spelled : (line : ℕ) (pieces : Pieces) (found : Class) → class_of c line pieces ≡ Ok found → is_signed pieces.first.text ≡ false → AllByRecursion (λ w. is_signed w ≡ false) (map (λ w. w.text) pieces.series)
+      → DefinedBy pieces found
+  unfolding class_of sound_class all_numbers members_in
+  class_of_is_spelled line pieces found e unsigned all_unsigned =
+      let a = bind_parts (value_at c.names pieces.first) _ found e in
+      let b = bind_parts (each (number_step c) tt pieces.series) _ found a.2 in
+      let i = bind_parts (processor_at c line pieces.first) _ found b.2 in
+      let m = bind_parts (each (member_step c line) (replicate 8 false) pieces.series) _ found i.2 in
+      let t = passed (is_class_of c.processors (record { initial = i.0; members = m.0 })) (Ok (record { initial = i.0; members = m.0 })) (fault_in BadClass line pieces.first) found m.2 in
+      let n = processor_at_is_spelled line pieces.first i.0 i.1 unsigned in
+      let l = members_are_spelled line pieces.series (replicate 8 false) m.0 m.1 all_unsigned in
+      let listed : members_of l.0 ≡ m.0 = sym (marked-members c.processors l.0 few l.2) ∙ l.3 in
+      let initial_is = n.3 in
+      let same : class n.0 l.0 ≡ record { initial = i.0; members = m.0 } = rw (initial_is, listed) refl in
       record {
-        number = p.0;
-        numbers = s.0;
-        initial_is = numeral_is_spelled initial a.0 p.0 item read p.1;
-        members_are = s.1;
-        processor_is = p.2;
-        all = s.2;
-        begins = sym (class-begins processors p.0 s.0 few p.2 s.2) ∙ ap (is_class_of processors) (sym is) ∙ t.0;
-        same = sym (ok_is _ class t.1) ∙ is;
+        initial = n.0;
+        members = l.0;
+        initial_is = n.1;
+        members_are = l.1;
+        initial_within = n.2;
+        members_within = l.2;
+        begins_within = sym (class-begins c.processors n.0 l.0 few n.2 l.2) ∙ ap (is_class_of c.processors) same ∙ t.0;
+        is = same ∙ ok_is (record { initial = i.0; members = m.0 }) found t.1;
       }

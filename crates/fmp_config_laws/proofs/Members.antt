@@ -6,7 +6,18 @@ use Rattle.std.proofs.lemmas.Bool.{and_parts, leb-true, ltb-true, ne_eqb}
 use Rattle.fmp_codes.specs.Numbers.{as_proc}
 use Rattle.fmp_machine.specs.Valid.{is_class_of}
 use Rattle.fmp_config_laws.specs.Meaning.{is_processor, members_of}
-use Rattle.fmp_config_laws.proofs.Listed.{marked, same_place}
+
+-- the members with these processors too
+abbrev pub marked : List Bool → List ℕ → List Bool
+marked members [] = members
+marked members (n ∷ ns) = marked (slice_set members (n - 1) true) ns
+
+pub same_place : (processors n : ℕ) → processors ≤ 8 → is_processor processors n ≡ true → (as_proc n).number - 1 ≡ n - 1
+same_place processors n few is =
+    let p = and_parts (leb 1 n) (leb n processors) is in
+    let low = leb-true 1 n p.0 in
+    let high = leb-true n processors p.1 in
+    omega arith
 
 -- a test of each of the eight processors
 abbrev pub tested : (ℕ → Bool) → List Bool

@@ -1,108 +1,140 @@
--- Numerals: what is read is spelled, and what is spelled is read.
-use Rattle.std.proofs.Common.{◌≡◌, ℕ, ◌≤◌, ◌<◌, Bool, true, false, ◌&&◌, cond, leb, inl, inr, List, [], ◌∷◌, length, Option, Some, None, Ok, refl, sym, ap, ◌∙◌, arith, decimal}
-use Rattle.std.specs.Option.{ok_or}
-use Rattle.std.proofs.lemmas.Bool.{cases_Bool, false≢true, and_parts, leb-true, le-leb}
-use Rattle.std.proofs.lemmas.Bool.Decides.{nat_tests}
-use Rattle.std.proofs.lemmas.Str.Parse.{digit_from_value}
-use Rattle.std.proofs.lemmas.Fmt.{decimal_is_IsNumeral}
-use Rattle.std.specs.Str.Parse.{AllDigits}
-use Rattle.fmp_bytes.specs.declared.classes.Class.TheVariants.{Letter, Digit}
-use Rattle.fmp_bytes.specs.declared.numerals.Number.{Number}
-use Rattle.fmp_bytes.specs.Bytes.{is_of}
-use Rattle.fmp_bytes.specs.Numerals.{number_of}
-use Rattle.fmp_bytes.specs.Spelling.{SpellsUnsigned, SpellsNumber}
-use Rattle.fmp_bytes.proofs.Spelled.{number_of-spelled, number_is_spelled}
-use Rattle.fmp_text.specs.Names.{is_name}
-use Rattle.fmp_text.proofs.Parsed.{and_then_parts, ok_or_parts}
-use Rattle.fmp_tokens.specs.declared.tokens.TokenKind.TheVariants.{Digits}
-use Rattle.fmp_tokens.specs.Lexing.{Lexeme}
+-- Numbers: what is read is spelled, and what is spelled is read.
+use Rattle.std.proofs.Common.{◌≡◌, ℕ, ◌-◌, ◌^◌, ◌≤◌, ◌<◌, Bool, true, false, eqb, cond, inl, inr, List, [], ◌∷◌, Option, Some, None, Ok, unwrap_or, leb, refl, sym, ap, ◌∙◌, arith, length}
+use Rattle.std.specs.Option.{option_or}
+use Rattle.std.proofs.lemmas.Bool.{and_parts, leb-true, le-leb, false≢true}
+use Rattle.fmp_bytes.specs.Bytes.{behind, is_identifier}
+use Rattle.fmp_bytes.specs.Numerals.{number_of, unsigned_of, hexadecimal_of}
+use Rattle.fmp_bytes.specs.Spelling.{SpellsUnsigned, SpellsNumber as SpellsSigned}
+use Rattle.fmp_bytes.proofs.Spelled.{number_of-spelled, number_of-identifier, number_is_spelled}
+use Rattle.fmp_names.specs.Names.{NameLists, is_name, number_defined}
 use Rattle.fmp_statements.specs.declared.fault.ConfigKind.TheVariants.{OutOfRange}
-use Rattle.fmp_statements.specs.declared.scan.Item.TheVariants as items
-use Rattle.fmp_statements.specs.Cursor.{first_text}
+use Rattle.fmp_statements.specs.declared.table.Range.{Range}
 use Rattle.fmp_statements.specs.Faults.{fault_at}
-use Rattle.fmp_statements.specs.Numbers.{numeral, numeral_in, number_in, between}
-use Rattle.fmp_statements.specs.Scan.{is_item}
-use Rattle.fmp_config_laws.proofs.Lexemes.{lexeme_of, kind_of, kind_of-digits}
-use Rattle.fmp_config_laws.proofs.Results.{some_is, none_is, bind_parts}
+use Rattle.fmp_statements.specs.Numbers.{numeral}
+use Rattle.fmp_statements.specs.Words.{Word}
+use Rattle.fmp_config.specs.Numbers.{value_of, value_at, is_within, number_within, number_at}
+use Rattle.fmp_config_laws.specs.Meaning.{SpellsNumber, SaysNumber}
+use Rattle.fmp_config_laws.proofs.Results.{none_is, some_is, bind_parts, passed, and_then_parts, ok_or_parts, ok_is}
 
--- ---- a token
+-- a `-` and more
+abbrev pub is_signed : List ℕ → Bool
+is_signed [] = false
+is_signed (a ∷ []) = false
+is_signed (a ∷ b ∷ bytes) = eqb a 45
 
-digit_token : (c : ℕ) (cs : List ℕ) → 48 ≤ c → c ≤ 57 → kind_of (c ∷ cs) ≡ Digits
-unfolding is_of
-digit_token c cs least most =
-    let letter : is_of Letter c ≡ false = grind (arith, nat_tests) in
-    let digit : is_of Digit c ≡ true = grind (arith, nat_tests) in
-    kind_of-digits c cs letter digit
+-- less than any numeral that counts as less than it is
+abbrev pub most_numeral : ℕ
+most_numeral = 2 ^ 64 - 1
 
-digits_token : (text : List ℕ) → 0 < length text → AllDigits 10 text → kind_of text ≡ Digits
-digits_token [] some all = absurd (omega (arith, some))
-digits_token (c ∷ cs) some all = let range = digit_from_value c all.0 in digit_token c cs range.0 range.1
+-- ---- numerals
 
-numeral_token : (text : List ℕ) (n : ℕ) → SpellsUnsigned text n → kind_of text ≡ Digits
-unfolding is_of
-numeral_token text n s =
-    elim s.1 [
-      | inl e ↦ let numeral = decimal_is_IsNumeral n s.0 in ap kind_of e ∙ digits_token (decimal n) numeral.0.0 numeral.0.1
-      | inr x ↦ ap kind_of x.parts
-    ]
-
-pub number_item : (text : List ℕ) (n : ℕ) → SpellsUnsigned text n → is_item items.Number (lexeme_of text) ≡ true
-unfolding is_item
-number_item text n s = let kind = numeral_token text n s in rw kind refl
-
--- ---- its number
-
-pub numeral-spelled : (text : List ℕ) (n : ℕ) → SpellsUnsigned text n → numeral text ≡ Some (record { negative = false; magnitude = Some n; zero_led = false })
+pub numeral-spelled : (text : List ℕ) (n : ℕ) → SpellsUnsigned text n → numeral text ≡ Some n
 unfolding numeral
 numeral-spelled text n s = rw (number_of-spelled text false n s) refl
 
-no_sign : (text unsigned : List ℕ) → text ≡ 45 ∷ unsigned → is_item items.Number (lexeme_of text) ≡ true → ⊥
-unfolding is_item is_of is_name
-no_sign text unsigned e is = let is2 = rw e at is in false≢true is2
+nothing : numeral [] ≡ None
+unfolding numeral number_of behind unsigned_of hexadecimal_of
+nothing = refl
 
-unsigned_spelled : (text : List ℕ) (negative : Bool) (n : ℕ) → SpellsNumber text negative n → is_item items.Number (lexeme_of text) ≡ true → SpellsUnsigned text n
-unsigned_spelled text true n s is = absurd (no_sign text s.0 s.1 is)
-unsigned_spelled text false n s is = s
+-- no numeral has no bytes
+pub no_bytes : (text : List ℕ) (n : ℕ) → SpellsUnsigned text n → text ≡ [] → ⊥
+no_bytes text n s e = none_is n (sym nothing ∙ ap numeral (sym e) ∙ numeral-spelled text n s)
 
-not_led : (led : Bool) (number other : Number) → cond led None (Some number) ≡ Some other → (led ≡ false) × (number ≡ other)
-not_led true number other e = absurd (none_is other e)
-not_led false number other e = (refl, some_is number other e)
+some_bytes : (text unsigned : List ℕ) (n : ℕ) → text ≡ 45 ∷ unsigned → SpellsUnsigned unsigned n → is_signed text ≡ true
+some_bytes text [] n e s = absurd (no_bytes [] n s refl)
+some_bytes text (b ∷ bytes) n e s = ap is_signed e
 
-pub numeral_is_spelled : (text : List ℕ) (number : Number) (n : ℕ) → is_item items.Number (lexeme_of text) ≡ true → numeral text ≡ Some number → number.magnitude ≡ Some n → SpellsUnsigned text n
+unsigned_spelled : (text : List ℕ) (negative : Bool) (n : ℕ) → SpellsSigned text negative n → is_signed text ≡ false → SpellsUnsigned text n
+unsigned_spelled text true n s plus = absurd (false≢true (sym plus ∙ some_bytes text s.0 n s.1 s.2))
+unsigned_spelled text false n s plus = s
+
+not_led : (led : Bool) (m : Option ℕ) (most n : ℕ) → cond led None (Some (unwrap_or m most)) ≡ Some n → n < most → (led ≡ false) × (m ≡ Some n)
+not_led true m most n e less = absurd (none_is n e)
+not_led false None most n e less = absurd (let same = some_is most n e in omega (arith, same, less))
+not_led false (Some m) most n e less = (refl, e)
+
+pub numeral_is_spelled : (text : List ℕ) (n : ℕ) → is_signed text ≡ false → numeral text ≡ Some n → n < most_numeral → SpellsUnsigned text n
 unfolding numeral
-numeral_is_spelled text number n is e size =
-    let p = and_then_parts (number_of text) (λ r. cond r.zero_led None (Some r)) number e in
-    let q = not_led p.0.zero_led p.0 number p.2 in
-    unsigned_spelled text p.0.negative n (number_is_spelled text p.0 n p.1 q.0 (ap (λ (r : Number). r.magnitude) q.1 ∙ size)) is
+numeral_is_spelled text n plus e less =
+    let p = and_then_parts (number_of text) (λ r. cond r.zero_led None (Some (unwrap_or r.magnitude most_numeral))) n e in
+    let q = not_led p.0.zero_led p.0.magnitude most_numeral n p.2 less in
+    unsigned_spelled text p.0.negative n (number_is_spelled text p.0 n p.1 q.0 q.1) plus
 
--- ---- at the front of the tokens
+-- ---- words
 
-pub between-is : (least most n : ℕ) → least ≤ n → n ≤ most → between least most (Some n) ≡ Some n
-unfolding between
-between-is least most n low high = let a = le-leb least n low in let b = le-leb n most high in rw (a, b) refl
+no_numeral : (text : List ℕ) → is_name text ≡ true → numeral text ≡ None
+unfolding is_name numeral
+no_numeral text is = let none = number_of-identifier text (and_parts (is_identifier text) (leb (length text) 64) is).0 in rw none refl
 
-pub between_parts : (least most : ℕ) (m : Option ℕ) (n : ℕ) → between least most m ≡ Some n → (m ≡ Some n) × (least ≤ n) × (n ≤ most)
-unfolding between
-between_parts least most None n e = absurd (none_is n e)
-between_parts least most (Some m) n e =
-    elim (cases_Bool (leb least m && leb m most)) [
-      | inl t ↦
-          let p = and_parts (leb least m) (leb m most) t in
-          let same : m ≡ n = some_is m n (rw t at e) in
-          (ap (λ (x : ℕ). Some x) same, omega (arith, leb-true least m p.0, same), omega (arith, leb-true m most p.1, same))
-      | inr f ↦ absurd (none_is n (rw f at e))
+-- what stands for a number is a name
+abbrev pub AreNames : NameLists → Type 0
+AreNames names = (word : List ℕ) (n : ℕ) → number_defined names word ≡ Some n → is_name word ≡ true
+
+pub name_some : (text : List ℕ) → is_name text ≡ true → text ≡ [] → ⊥
+unfolding is_name
+name_some text is e = false≢true (ap is_name (sym e) ∙ is)
+
+pub number_some : (names : NameLists) (text : List ℕ) (n : ℕ) → SpellsNumber names text n → text ≡ [] → ⊥
+number_some names text n s =
+    elim s [
+      | inl u ↦ no_bytes text n u
+      | inr d ↦ name_some text d.0
     ]
 
-pub number_in-spelled : (least most : ℕ) (ls : List Lexeme) (text : List ℕ) (n : ℕ) → first_text ls ≡ text → SpellsUnsigned text n → least ≤ n → n ≤ most → number_in least most ls ≡ Ok n
-unfolding number_in numeral_in
-number_in-spelled least most ls text n first s low high =
-    let read = numeral-spelled text n s in
-    rw (first, read, between-is least most n low high) refl
+module _ (names : NameLists) where
+  value_of-spelled : (text : List ℕ) (n : ℕ) → SpellsNumber names text n → value_of names text ≡ Some n
+  unfolding value_of
+  value_of-spelled text n s =
+      elim s [
+        | inl u ↦ let read = numeral-spelled text n u in rw read refl
+        | inr d ↦ let none = no_numeral text d.0 in let found = d.1 in rw (none, found) refl
+      ]
 
-pub number_is_spelled_in : (least most : ℕ) (ls : List Lexeme) (text : List ℕ) (n : ℕ) → first_text ls ≡ text → is_item items.Number (lexeme_of text) ≡ true → number_in least most ls ≡ Ok n → SpellsUnsigned text n × (least ≤ n) × (n ≤ most)
-unfolding number_in numeral_in
-number_is_spelled_in least most ls text n first is e =
-    let p = bind_parts (ok_or (numeral (first_text ls)) (fault_at OutOfRange ls)) (λ r. ok_or (between least most r.magnitude) (fault_at OutOfRange ls)) n e in
-    let q = between_parts least most p.0.magnitude n (ok_or_parts (between least most p.0.magnitude) (fault_at OutOfRange ls) n p.2) in
-    let read : numeral text ≡ Some p.0 = ap numeral (sym first) ∙ ok_or_parts (numeral (first_text ls)) (fault_at OutOfRange ls) p.0 p.1 in
-    (numeral_is_spelled text p.0 n is read q.0, q.1, q.2)
+  value_was_spelled : AreNames names → (text : List ℕ) (n : ℕ) (m : Option ℕ) → numeral text ≡ m → option_or m (number_defined names text) ≡ Some n → is_signed text ≡ false → n < most_numeral → SpellsNumber names text n
+  value_was_spelled named text n None none e plus less = inr (named text n e, e)
+  value_was_spelled named text n (Some m) some e plus less = inl (numeral_is_spelled text n plus (some ∙ e) less)
+
+  value_is_spelled : AreNames names → (text : List ℕ) (n : ℕ) → value_of names text ≡ Some n → is_signed text ≡ false → n < most_numeral → SpellsNumber names text n
+  unfolding value_of
+  value_is_spelled named text n e plus less = value_was_spelled named text n (numeral text) refl e plus less
+
+  pub value_at-spelled : (word : Word) (n : ℕ) → SpellsNumber names word.text n → value_at names word ≡ Ok n
+  unfolding value_at
+  value_at-spelled word n s = let read = value_of-spelled word.text n s in rw read refl
+
+  pub value_at_is_spelled : AreNames names → (word : Word) (n : ℕ) → value_at names word ≡ Ok n → is_signed word.text ≡ false → n < most_numeral → SpellsNumber names word.text n
+  unfolding value_at
+  value_at_is_spelled named word n e plus less = value_is_spelled named word.text n (ok_or_parts (value_of names word.text) (fault_at OutOfRange word) n e) plus less
+
+  -- ---- numbers of a range
+
+  pub number_within-spelled : (range : Range) (word : Word) (n : ℕ) → SpellsNumber names word.text n → range.least ≤ n → n ≤ range.most → number_within names range word ≡ Ok n
+  unfolding number_within
+  number_within-spelled range word n s low high =
+      let read = value_at-spelled word n s in
+      let a = le-leb range.least n low in
+      let b = le-leb n range.most high in
+      rw read (rw (a, b) refl)
+
+  pub number_within_parts : (range : Range) (word : Word) (n : ℕ) → number_within names range word ≡ Ok n → (value_at names word ≡ Ok n) × (range.least ≤ n) × (n ≤ range.most)
+  unfolding number_within
+  number_within_parts range word n e =
+      let p = bind_parts (value_at names word) _ n e in
+      let q = passed (is_within range p.0) (Ok p.0) (fault_at OutOfRange word) n p.2 in
+      let same : p.0 ≡ n = ok_is p.0 n q.1 in
+      let tests = and_parts (leb range.least p.0) (leb p.0 range.most) q.0 in
+      let low = leb-true range.least p.0 tests.0 in
+      let high = leb-true p.0 range.most tests.1 in
+      (p.1 ∙ ap (λ (x : ℕ). Ok x) same, omega (arith, low, same), omega (arith, high, same))
+
+  pub number_at-spelled : (range : Option Range) (word : Word) (n : ℕ) → SaysNumber names range word.text n → number_at names range word ≡ Ok n
+  unfolding number_at
+  number_at-spelled None word n s = ap (λ (x : ℕ). Ok x) (sym s)
+  number_at-spelled (Some range) word n s = number_within-spelled range word n s.0 s.1 s.2
+
+  pub number_at_is_spelled : AreNames names → (range : Option Range) (word : Word) (n : ℕ) → number_at names range word ≡ Ok n → is_signed word.text ≡ false → n < most_numeral → SaysNumber names range word.text n
+  unfolding number_at
+  number_at_is_spelled named None word n e plus less = sym (ok_is 0 n e)
+  number_at_is_spelled named (Some range) word n e plus less =
+      let p = number_within_parts range word n e in
+      (value_at_is_spelled named word n p.0 plus less, p.1, p.2)

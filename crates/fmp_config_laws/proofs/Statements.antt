@@ -1,147 +1,164 @@
--- The first word, the form and the name of a statement.
-use Rattle.std.proofs.Common.{◌≡◌, ℕ, ◌<◌, Bool, true, false, cond, List, [], ◌∷◌, ◌++◌, length, drop, get_or, find, Some, Ok, Err, refl, sym, ap, subst, ◌∙◌, arith}
-use Rattle.std.specs.List.{list_all}
+-- All statements: what they say is judged so, and what is judged they say.
+use Rattle.std.proofs.Common.{◌≡◌, ℕ, ◌⊎◌, Bool, true, false, leb, ltb, eqb, cond, inl, inr, List, [], ◌∷◌, length, Some, Ok, refl, sym, ap, ◌∙◌, arith}
 use Rattle.std.specs.Option.{ok_or}
-use Rattle.std.specs.Str.{bytes_eq}
-use Rattle.std.proofs.lemmas.Bool.{and_from}
-use Rattle.std.proofs.lemmas.Slice.Eq.{bytes_eq-Decides}
-use Rattle.std.proofs.Math.Seq.{drop-append_seam}
-use Rattle.fmp_bytes.specs.Bytes.{is_of}
-use Rattle.fmp_text.specs.Names.{is_name}
-use Rattle.fmp_calls.proofs.Found.{found_passes}
-use Rattle.fmp_text.proofs.Parsed.{ok_or_parts}
-use Rattle.fmp_tokens.specs.Lexing.{Lexeme}
-use Rattle.fmp_tokens.specs.declared.tokens.End.{End}
-use Rattle.fmp_tokens.specs.declared.tokens.TokenKind.TheVariants.{Identifier}
-use Rattle.fmp_statements.specs.declared.fault.ConfigKind.TheVariants.{Syntax, Unsupported, NameTaken, TooMany}
-use Rattle.fmp_statements.specs.declared.scan.Item.TheVariants as items
+use Rattle.std.proofs.lemmas.Bool.{and_parts, and_from, leb-true, le-leb, ltb-true, lt-ltb, eqb-true, ne_eqb}
+use Rattle.fmp_codes.specs.Numbers.{as_proc}
+use Rattle.fmp_statements.specs.declared.fault.ConfigKind.TheVariants.{UnknownClass}
+use Rattle.fmp_statements.specs.declared.table.Range.{Range}
 use Rattle.fmp_statements.specs.declared.table.StatementName.{StatementName}
-use Rattle.fmp_statements.specs.declared.table.StatementName.TheVariants.{Processors, DefClass, Class, CreTsk}
-use Rattle.fmp_statements.specs.declared.table.TheConstants.{STATEMENT_NAMES}
-use Rattle.fmp_statements.specs.Cursor.{after_first, first_text, is_word, is_word_next}
-use Rattle.fmp_statements.specs.Faults.{fault_at, fault_in}
-use Rattle.fmp_statements.specs.Forms.{Form, form_of, field, rest_of}
-use Rattle.fmp_statements.specs.Scan.{is_item}
-use Rattle.fmp_statements.specs.Table.{text_of, shapes_of, statement_name, form_in}
-use Rattle.fmp_statements.proofs.Found.{find-text_of}
-use Rattle.fmp_machine.specs.Building.{is_refused}
-use Rattle.fmp_config.specs.Reading.{part, left_behind, new_name}
+use Rattle.fmp_statements.specs.declared.table.StatementName.TheVariants as statements
+use Rattle.fmp_statements.specs.Faults.{fault_at, ◌>>=◌}
+use Rattle.fmp_statements.specs.Forms.{Form}
+use Rattle.fmp_statements.specs.Words.{Word}
+use Rattle.fmp_config.specs.declared.draft.Phase.TheVariants as phases
+use Rattle.fmp_config.specs.Drafts.{Draft}
+use Rattle.fmp_config.specs.Judging.{new_name, count_processors, timer_of, choose_timer, set_limits, define_class, begin_class, judged}
+use Rattle.fmp_config.specs.Numbers.{number_within, numbers_of, class_of}
+use Rattle.fmp_machine.specs.declared.setup.Class.{Class}
+use Rattle.fmp_machine.specs.declared.setup.Timer.{Timer}
+use Rattle.fmp_machine.specs.declared.setup.Timer.TheVariants as timer
+use Rattle.fmp_machine.specs.Building.{class_named, with_class, with_timer, with_limits, with_processors}
 use Rattle.fmp_machine.specs.Setup.{Setup}
-use Rattle.fmp_config_laws.specs.Parts.{SpellNumbers}
-use Rattle.fmp_config_laws.proofs.Lexemes.{lexeme_of, kind_of, lexemes, Are, first_of, are_dropped, are_length}
-use Rattle.fmp_config_laws.proofs.Classes.{first_text_is}
-use Rattle.fmp_config_laws.proofs.Formed.{joined, places_from, Fits, Cut, form_of-unlined, form_taken, form_scanned, from_part, Chosen, chosen}
-use Rattle.fmp_config_laws.proofs.Numerals.{number_item}
-use Rattle.fmp_config_laws.proofs.Results.{ok_is, passed, refused}
+use Rattle.fmp_config_laws.specs.Meaning.{Stage, SpellsNumber, is_processor, DefinesClass, ChoosesTimer, Says}
+use Rattle.fmp_config_laws.proofs.Results.{ok_is, bind_parts, ok_or_parts}
+use Rattle.fmp_config_laws.proofs.Numerals.{number_some, is_signed, value_at_is_spelled, number_within-spelled, number_within_parts}
+use Rattle.fmp_config_laws.proofs.Classes.{class_of-spelled, class_of_is_spelled}
+use Rattle.fmp_config_laws.proofs.Stages.{phrase_of, stage_of, AreUnsigned, IsBounded, numbers_of-spelled, numbers_read}
+use Rattle.fmp_config_laws.proofs.Judged.{LeadsTo, new_name-is, new_name_parts, creates-says, created_says}
 
--- ---- items
+-- ---- the timer
 
-pub name_item : (token : List ℕ) → is_name token ≡ true → is_item items.Name (lexeme_of token) ≡ true
-unfolding is_item
-name_item token is = is
+no_bytes : (text : List ℕ) → length text ≡ 0 → text ≡ []
+no_bytes [] e = refl
+no_bytes (b ∷ bytes) e = absurd (omega (arith, e))
 
-pub item_name : (token : List ℕ) → is_item items.Name (lexeme_of token) ≡ true → is_name token ≡ true
-unfolding is_item
-item_name token is = is
+module _ (c : Setup) (bounded : IsBounded c) (word : Word) where
+  abbrev pub processors : Range
+  processors = record { least = 1; most = c.processors }
 
-pub numbers_items : (tokens : List (List ℕ)) (numbers : List ℕ) → SpellNumbers tokens numbers → list_all (λ t. is_item items.Number (lexeme_of t)) tokens ≡ true
-numbers_items [] numbers s = refl
-numbers_items (token ∷ tokens) [] s = absurd s
-numbers_items (token ∷ tokens) (n ∷ numbers) s = and_from (is_item items.Number (lexeme_of token)) _ (number_item token n s.0) (numbers_items tokens numbers s.1)
+  timer_of-local : word.text ≡ [] → timer_of c word ≡ Ok timer.Local
+  unfolding timer_of
+  timer_of-local none = rw none refl
 
--- ---- the first word
+  timer_of-global : (n : ℕ) → SpellsNumber c.names word.text n → is_processor c.processors n ≡ true → timer_of c word ≡ Ok (timer.Global (as_proc n))
+  unfolding timer_of
+  timer_of-global n s is =
+      let test : eqb (length word.text) 0 ≡ false = ne_eqb (length word.text) 0 (λ e. number_some c.names word.text n s (no_bytes word.text e)) in
+      let parts = and_parts (leb 1 n) (leb n c.processors) is in
+      let read = number_within-spelled c.names processors word n s (leb-true 1 n parts.0) (leb-true n c.processors parts.1) in
+      rw test (rw read refl)
 
-word_kind : (name : StatementName) → kind_of (text_of name) ≡ Identifier
-unfolding is_of
-word_kind Processors = refl
-word_kind DefClass = refl
-word_kind Class = refl
-word_kind CreTsk = refl
+  abbrev pub TimerIs : Timer → Type 0
+  TimerIs t = ((word.text ≡ []) × (timer.Local ≡ t)) ⊎ ((n : ℕ) × SpellsNumber c.names word.text n × (is_processor c.processors n ≡ true) × (timer.Global (as_proc n) ≡ t))
 
-pub statement_named : (name : StatementName) (ls : List Lexeme) (tokens : List (List ℕ)) → Are ls (text_of name ∷ tokens) → statement_name ls ≡ Ok name
-unfolding statement_name
-statement_named name ls tokens are =
-    let f = first_of ls (text_of name) tokens are in
-    let word : is_word_next (f.first ∷ f.others) ≡ true = ap is_word (f.kind ∙ word_kind name) in
-    let found : find (λ n. bytes_eq (text_of n) f.first.text) STATEMENT_NAMES ≡ Some name = ap (λ (t : List ℕ). find (λ n. bytes_eq (text_of n) t) STATEMENT_NAMES) f.text ∙ find-text_of name in
-    ap statement_name f.parts ∙ rw (word, found) refl
+  timer_parts : (t : Timer) (none : Bool) → eqb (length word.text) 0 ≡ none → is_signed word.text ≡ false
+      → cond none (Ok timer.Local) (number_within c.names processors word >>= λ n. Ok (timer.Global (as_proc n))) ≡ Ok t → TimerIs t
+  timer_parts t true test unsigned e = inl (no_bytes word.text (eqb-true (length word.text) 0 test), ok_is timer.Local t e)
+  timer_parts t false test unsigned e =
+      let p = bind_parts (number_within c.names processors word) (λ n. Ok (timer.Global (as_proc n))) t e in
+      let q = number_within_parts c.names processors word p.0 p.1 in
+      let low = q.1 in
+      let high = q.2 in
+      let few = bounded.processors in
+      inr (p.0, value_at_is_spelled c.names bounded.named word p.0 q.0 unsigned (omega (arith, high, few)), and_from (leb 1 p.0) (leb p.0 c.processors) (le-leb 1 p.0 low) (le-leb p.0 c.processors high), ok_is (timer.Global (as_proc p.0)) t p.2)
 
-pub name_stands : (name : StatementName) (ls : List Lexeme) (token : List ℕ) (tokens : List (List ℕ)) → Are ls (token ∷ tokens) → statement_name ls ≡ Ok name → token ≡ text_of name
-unfolding statement_name
-name_stands name ls token tokens are e =
-    let p = passed (is_word_next ls) (ok_or (find (λ n. bytes_eq (text_of n) (first_text ls)) STATEMENT_NAMES) (fault_at Unsupported ls)) (fault_at Syntax ls) name e in
-    let found = found_passes (λ n. bytes_eq (text_of n) (first_text ls)) STATEMENT_NAMES name (ok_or_parts _ (fault_at Unsupported ls) name p.1) in
-    sym (first_text_is ls token tokens are) ∙ sym ((bytes_eq-Decides (text_of name) (first_text ls)).0 found)
+  timer_is : (t : Timer) → timer_of c word ≡ Ok t → is_signed word.text ≡ false → TimerIs t
+  unfolding timer_of
+  timer_is t e unsigned = timer_parts t (eqb (length word.text) 0) refl unsigned e
 
--- ---- the form
+-- ---- what is said is judged so
 
-behind : (ls : List Lexeme) (token : List ℕ) (tokens : List (List ℕ)) → Are ls (token ∷ tokens) → Are (after_first ls) tokens
-behind ls token tokens are = let f = first_of ls token tokens are in subst (λ (xs : List Lexeme). Are (after_first xs) tokens) (sym f.parts) f.rest
+module _ (d : Draft) (bounded : IsBounded d.setup) (f : Form) (next : Stage) where
+  timer-says : ChoosesTimer (stage_of d) (phrase_of f.pieces) next → LeadsTo (choose_timer d f) next
+  unfolding choose_timer
+  timer-says s =
+      elim s [
+        | inl none ↦ let read = timer_of-local d.setup bounded f.pieces.first none.0 in (record d { setup = with_timer d.setup timer.Local; timer_stood = true }, rw read refl, none.1)
+        | inr some ↦
+            let read = timer_of-global d.setup bounded f.pieces.first some.0 some.1 some.2 in
+            (record d { setup = with_timer d.setup (timer.Global (as_proc some.0)); timer_stood = true }, rw read refl, some.3)
+      ]
 
-same_form : (name : StatementName) (ls : List Lexeme) (token : List ℕ) (tokens : List (List ℕ)) → Are ls (token ∷ tokens) → form_of 0 (shapes_of name) (after_first ls) ≡ form_of 0 (shapes_of name) (lexemes tokens)
-same_form name ls token tokens are = let b = behind ls token tokens are in sym (form_of-unlined (shapes_of name) 0 (after_first ls)) ∙ ap (form_of 0 (shapes_of name)) b.same
+  class-says : DefinesClass (stage_of d) (phrase_of f.pieces) next → LeadsTo (define_class d f) next
+  unfolding define_class
+  class-says s =
+      let new = new_name-is d.setup (ltb (length d.setup.classes) 32) f.line f.pieces.name s.name_is_new (lt-ltb (length d.setup.classes) 32 s.few) in
+      let class = class_of-spelled d.setup bounded.processors bounded.named f.line f.pieces s.initial s.members s.initial_is s.members_are s.initial_within s.members_within s.begins_within in
+      (_, rw (new, class) refl, s.says)
 
--- a form was read, and its parts are these pieces
-pub record Stands (name : StatementName) (ls : List Lexeme) (end : End) (tokens : List (List ℕ)) (pieces : List (List (List ℕ))) (rest : List (List ℕ)) : Type 0 where
-  pub form : Form
-  pub read : form_in name ls end ≡ Ok form
-  pub cut : Cut form 0 tokens pieces rest
+  pub says_judged : (name : StatementName) → Says (stage_of d) name (phrase_of f.pieces) next → LeadsTo (judged d name f) next
+  unfolding judged count_processors set_limits begin_class
+  says_judged statements.Include s = (d, refl, s)
+  says_judged statements.Processors s = let read = numbers_of-spelled d.setup statements.Processors f.pieces s.0 s.1 in (_, rw read refl, s.2)
+  says_judged statements.Timer s = timer-says s
+  says_judged statements.Limits s = let read = numbers_of-spelled d.setup statements.Limits f.pieces s.0 s.1 in (_, rw read refl, s.2)
+  says_judged statements.DefClass s = class-says s
+  says_judged statements.Class s = let found = s.1 in (record d { open_class = Some (record { line = f.line; class = s.0 }); phase = phases.Body }, rw found refl, s.2)
+  says_judged (statements.Create kind) s = creates-says d kind f next s
 
-pub form_stands : (name : StatementName) (ls : List Lexeme) (end : End) (token : List ℕ) (pieces : List (List (List ℕ))) (rest : List (List ℕ)) → Are ls (token ∷ (joined pieces ++ rest)) → Fits (shapes_of name) pieces rest
-    → Stands name ls end (joined pieces ++ rest) pieces rest
-unfolding form_in
-form_stands name ls end token pieces rest are fits =
-    let cut = form_taken (shapes_of name) pieces rest 0 (joined pieces ++ rest) fits refl in
-    let same = same_form name ls token (joined pieces ++ rest) are in
-    let met = ap (λ (f : Form). f.fits) same ∙ cut.fits in
-    record { form = form_of 0 (shapes_of name) (after_first ls); read = rw met refl; cut = subst (λ (f : Form). Cut f 0 (joined pieces ++ rest) pieces rest) (sym same) cut }
+-- ---- what is judged is said
 
--- the parts of a form that was read
-abbrev pub Was : Form → List (List ℕ) → List (List (List ℕ)) → Type 0
-Was form tokens pieces = (rest : List (List ℕ)) × Cut form 0 tokens pieces rest
+module _ (d after : Draft) (bounded : IsBounded d.setup) (f : Form) (unsigned : AreUnsigned (phrase_of f.pieces)) where
+  timer_says : choose_timer d f ≡ Ok after → ChoosesTimer (stage_of d) (phrase_of f.pieces) (stage_of after)
+  unfolding choose_timer
+  timer_says e =
+      let p = bind_parts (timer_of d.setup f.pieces.first) (λ t. Ok (record d { setup = with_timer d.setup t; timer_stood = true })) after e in
+      let same = ok_is (record d { setup = with_timer d.setup p.0; timer_stood = true }) after p.2 in
+      elim (timer_is d.setup bounded f.pieces.first p.0 p.1 unsigned.first) [
+        | inl none ↦ inl (none.0, ap stage_of (sym same) ∙ ap (λ (t : Timer). stage_of (record d { setup = with_timer d.setup t; timer_stood = true })) (sym none.1))
+        | inr some ↦ inr (some.0, some.1, some.2, ap stage_of (sym same) ∙ ap (λ (t : Timer). stage_of (record d { setup = with_timer d.setup t; timer_stood = true })) (sym some.3))
+      ]
 
-pub form_was : (name : StatementName) (ls : List Lexeme) (end : End) (token : List ℕ) (tokens : List (List ℕ)) (form : Form) → Are ls (token ∷ tokens) → form_in name ls end ≡ Ok form → Chosen (shapes_of name) (Was form tokens)
-unfolding form_in
-form_was name ls end token tokens form are e =
-    let p = passed (form_of 0 (shapes_of name) (after_first ls)).fits (Ok (form_of 0 (shapes_of name) (after_first ls))) _ form e in
-    let same = same_form name ls token tokens are in
-    let f = form_scanned (shapes_of name) 0 tokens (ap (λ (x : Form). x.fits) (sym same) ∙ p.0) in
-    let is : form_of 0 (shapes_of name) (lexemes tokens) ≡ form = sym same ∙ ok_is _ form p.1 in
-    chosen (shapes_of name) f.pieces (Was form tokens) f.are (f.rest, subst (λ (x : Form). Cut x 0 tokens f.pieces f.rest) is f.cut)
+  class_says : define_class d f ≡ Ok after → DefinesClass (stage_of d) (phrase_of f.pieces) (stage_of after)
+  unfolding define_class
+  class_says e =
+      let new = bind_parts (new_name d.setup (ltb (length d.setup.classes) 32) f.line f.pieces.name) _ after e in
+      let class = bind_parts (class_of d.setup f.line f.pieces) (λ class. Ok (record d { setup = with_class d.setup f.pieces.name.text class })) after new.2 in
+      let fresh = new_name_parts d.setup (ltb (length d.setup.classes) 32) f.line f.pieces.name new.1 in
+      let s = class_of_is_spelled d.setup bounded.processors bounded.named f.line f.pieces class.0 class.1 unsigned.first unsigned.series in
+      record {
+        initial = s.initial;
+        members = s.members;
+        name_is_new = fresh.0;
+        few = ltb-true (length d.setup.classes) 32 fresh.1;
+        initial_is = s.initial_is;
+        members_are = s.members_are;
+        initial_within = s.initial_within;
+        members_within = s.members_within;
+        begins_within = s.begins_within;
+        says = ap stage_of (sym (ok_is _ after class.2)) ∙ ap (λ (x : Class). stage_of (record d { setup = with_class d.setup f.pieces.name.text x })) (sym s.is);
+      }
 
--- ---- the parts
+  processors_say : count_processors d f ≡ Ok after → Says (stage_of d) statements.Processors (phrase_of f.pieces) (stage_of after)
+  unfolding count_processors
+  processors_say e =
+      let p = bind_parts (numbers_of d.setup statements.Processors f.pieces) (λ n. Ok (record d { setup = with_processors d.setup n.first; phase = phases.Head })) after e in
+      let read = numbers_read d.setup bounded.named statements.Processors f.pieces p.0 p.1 unsigned in
+      let first = read.first_within in
+      let second = read.second_within in
+      (p.0, read.spelled (omega (arith, first)) (omega (arith, second)), ap stage_of (sym (ok_is _ after p.2)))
 
-module _ (statement : List Lexeme) (token : List ℕ) (tokens : List (List ℕ)) (are : Are statement (token ∷ tokens)) (form : Form) (pieces : List (List (List ℕ))) (rest : List (List ℕ)) (cut : Cut form 0 tokens pieces rest) where
-  pub part_are : (n : ℕ) → n < length pieces → Are (part statement form n) (joined (drop n pieces) ++ rest)
-  unfolding part field
-  part_are n lt =
-      let place = ap (λ (ps : List ℕ). get_or ps n 0) cut.places in
-      let there = from_part pieces rest 0 tokens n lt cut.parts in
-      let b = behind statement token tokens are in
-      subst (λ (i : ℕ). Are (drop i (after_first statement)) (joined (drop n pieces) ++ rest)) (sym place) (subst (λ (ts : List (List ℕ)). Are (drop (get_or (places_from 0 pieces) n 0) (after_first statement)) ts) there (are_dropped (after_first statement) tokens (get_or (places_from 0 pieces) n 0) b))
+  limits_say : set_limits d f ≡ Ok after → Says (stage_of d) statements.Limits (phrase_of f.pieces) (stage_of after)
+  unfolding set_limits
+  limits_say e =
+      let p = bind_parts (numbers_of d.setup statements.Limits f.pieces) (λ n. Ok (record d { setup = with_limits d.setup (record { wakeups = n.first; priorities = n.second }); limits_stood = true })) after e in
+      let read = numbers_read d.setup bounded.named statements.Limits f.pieces p.0 p.1 unsigned in
+      let first = read.first_within in
+      let second = read.second_within in
+      (p.0, read.spelled (omega (arith, first)) (omega (arith, second)), ap stage_of (sym (ok_is _ after p.2)))
 
-  rest_are : Are (rest_of form (after_first statement)) rest
-  unfolding rest_of
-  rest_are =
-      let b = behind statement token tokens are in
-      let count : form.count ≡ length (joined pieces) = (let h = cut.count in omega (arith, h)) in
-      let parts = cut.parts in
-      let there : drop form.count tokens ≡ rest = ap (λ (i : ℕ). drop i tokens) count ∙ ap (drop (length (joined pieces))) parts ∙ drop-append_seam (joined pieces) rest in
-      subst (λ (ts : List (List ℕ)). Are (drop form.count (after_first statement)) ts) there (are_dropped (after_first statement) tokens form.count b)
+  begins_say : begin_class d f ≡ Ok after → Says (stage_of d) statements.Class (phrase_of f.pieces) (stage_of after)
+  unfolding begin_class
+  begins_say e =
+      let p = bind_parts (ok_or (class_named d.setup f.pieces.name.text) (fault_at UnknownClass f.pieces.name)) (λ class. Ok (record d { open_class = Some (record { line = f.line; class = class }); phase = phases.Body })) after e in
+      (p.0, ok_or_parts (class_named d.setup f.pieces.name.text) (fault_at UnknownClass f.pieces.name) p.0 p.1, ap stage_of (sym (ok_is _ after p.2)))
 
-  pub left_is : left_behind statement form ≡ length rest
-  unfolding left_behind
-  left_is = are_length (rest_of form (after_first statement)) rest rest_are
-
--- ---- new names
-
-pub new_name-free : (c : Setup) (room : Bool) (statement id : List Lexeme) (name : List ℕ) → first_text id ≡ name → is_refused c name ≡ false → room ≡ true → new_name c room statement id ≡ Ok tt
-unfolding new_name
-new_name-free c room statement id name first free some = let here = ap (is_refused c) first ∙ free in rw (here, some) refl
-
-pub new_name-parts : (c : Setup) (room : Bool) (statement id : List Lexeme) (name : List ℕ) (u : Unit {0}) → first_text id ≡ name → new_name c room statement id ≡ Ok u → (is_refused c name ≡ false) × (room ≡ true)
-unfolding new_name
-new_name-parts c room statement id name u first e =
-    let p = refused (is_refused c (first_text id)) (cond room (Ok tt) (Err (fault_in TooMany statement id))) (fault_at NameTaken id) u e in
-    let q = passed room (Ok tt) (fault_in TooMany statement id) u p.1 in
-    (ap (is_refused c) (sym first) ∙ p.0, q.0)
+  pub judged_says : (name : StatementName) → judged d name f ≡ Ok after → Says (stage_of d) name (phrase_of f.pieces) (stage_of after)
+  unfolding judged
+  judged_says statements.Include e = ap stage_of (sym (ok_is d after e))
+  judged_says statements.Processors e = processors_say e
+  judged_says statements.Timer e = timer_says e
+  judged_says statements.Limits e = limits_say e
+  judged_says statements.DefClass e = class_says e
+  judged_says statements.Class e = begins_say e
+  judged_says (statements.Create kind) e = created_says d kind f bounded after e unsigned

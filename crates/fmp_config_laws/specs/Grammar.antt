@@ -1,18 +1,22 @@
 -- The grammar of configuration texts, apart from how they are read: which texts say which configuration.
-use Rattle.std.specs.Prelude.{ℕ, ◌≤◌, List}
-use Rattle.fmp_machine.specs.Building.{of_processors}
+use Rattle.std.specs.Prelude.{◌≡◌, ℕ, false, List, None}
+use Rattle.fmp_config.specs.Drafts.{is_start}
 use Rattle.fmp_machine.specs.Setup.{Setup}
-use Rattle.fmp_config_laws.specs.Tokens.{SpellsTokens}
-use Rattle.fmp_config_laws.specs.Statements.{Item, SpellsStatements}
-use Rattle.fmp_config_laws.specs.Meaning.{AddsItems}
+use Rattle.fmp_token_laws.specs.Tokens.{Glyph, SpellsTokens}
+use Rattle.fmp_config_laws.specs.Elements.{Element, SpellsElements}
+use Rattle.fmp_config_laws.specs.Clauses.{Clause, SpellsClauses}
+use Rattle.fmp_config_laws.specs.Meaning.{Stage, no_stage, SayClauses}
 
--- a text of tokens that spell the number of processors, 1 to 8, and items that lead to the configuration
+-- a text of tokens that are directives and clauses, which lead to the configuration, with the number of processors among them and no class left open
 pub record Configures (text : List ℕ) (c : Setup) : Type 0 where
-  pub tokens : List (List ℕ)
-  pub processors : ℕ
-  pub items : List Item
-  pub spelled : SpellsTokens tokens text
-  pub stated : SpellsStatements tokens processors items
-  pub least : 1 ≤ processors
-  pub most : processors ≤ 8
-  pub says : AddsItems (of_processors processors) items c
+  pub glyphs : List Glyph
+  pub elements : List Element
+  pub clauses : List Clause
+  pub last : Stage
+  pub tokens_are : SpellsTokens glyphs text
+  pub elements_are : SpellsElements elements glyphs
+  pub clauses_are : SpellsClauses elements clauses
+  pub say : SayClauses no_stage clauses last
+  pub closed : last.class ≡ None
+  pub counted : is_start last.phase ≡ false
+  pub setup : last.setup ≡ c

@@ -1,5 +1,5 @@
-pub mod Tokens
-pub mod Parts
-pub mod Statements
+pub mod Elements
+pub mod Phrases
+pub mod Clauses
 pub mod Meaning
 pub mod Grammar

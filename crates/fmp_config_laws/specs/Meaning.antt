@@ -1,62 +1,169 @@
 -- What statements say: how a configuration grows by them, and which may follow it.
-use Rattle.std.specs.Prelude.{◌≡◌, ℕ, ◌≤◌, ◌<◌, Bool, true, false, ◌&&◌, List, [], ◌∷◌, length, map, Some, nat_le, ◌==◌}
+use Rattle.std.specs.Prelude.{◌≡◌, ℕ, ◌≤◌, ◌<◌, ◌⊎◌, Bool, true, false, not, ◌&&◌, ◌||◌, List, [], ◌∷◌, length, map, Option, Some, None, is_some, nat_le, ◌==◌, All, Contains}
 use Rattle.std.specs.List.{list_all, list_any}
-use Rattle.fmp_codes.specs.Numbers.{as_proc, as_pri}
+use Rattle.fmp_bytes.specs.Spelling.{SpellsUnsigned}
+use Rattle.fmp_codes.specs.Numbers.{as_proc}
+use Rattle.fmp_calls.specs.declared.kinds.NameKind.TheVariants.{Object}
+use Rattle.fmp_calls.specs.declared.kinds.ObjectKind.{ObjectKind}
+use Rattle.fmp_names.specs.Names.{NameLists, is_name, number_defined, has_room, has_room_to_define}
 use Rattle.fmp_statements.specs.declared.attributes.Attribute.{Attribute}
-use Rattle.fmp_statements.specs.declared.attributes.Attribute.TheVariants.{Null, Activate}
+use Rattle.fmp_statements.specs.declared.attributes.Attributes.{Attributes}
+use Rattle.fmp_statements.specs.declared.table.Range.{Range}
+use Rattle.fmp_statements.specs.declared.table.StatementName.{StatementName}
+use Rattle.fmp_statements.specs.declared.table.StatementName.TheVariants as statements
+use Rattle.fmp_statements.specs.Attributes.{text_of, no_attributes, with_attribute}
+use Rattle.fmp_statements.specs.Table.{allowed_of, first_range, second_range}
+use Rattle.fmp_config.specs.declared.draft.Phase.{Phase}
+use Rattle.fmp_config.specs.declared.draft.Phase.TheVariants as phases
+use Rattle.fmp_config.specs.declared.numbers.Numbers.{Numbers}
+use Rattle.fmp_config.specs.Drafts.{is_start}
+use Rattle.fmp_config.specs.Judging.{counts_fit, is_handled, fields_of}
 use Rattle.fmp_machine.specs.declared.setup.Class.{Class}
-use Rattle.fmp_machine.specs.Building.{class_named, is_refused, with_class, with_task}
+use Rattle.fmp_machine.specs.declared.setup.Timer.TheVariants as timer
+use Rattle.fmp_machine.specs.Building.{of_processors, class_named, is_refused, with_class, with_object, with_defined, with_timer, with_limits, with_processors}
 use Rattle.fmp_machine.specs.Setup.{Setup}
-use Rattle.fmp_config_laws.specs.Statements.{ClassDefinition, TaskCreation, Item, Definition, Block}
+use Rattle.fmp_config_laws.specs.Elements.{Definition}
+use Rattle.fmp_config_laws.specs.Phrases.{Phrase}
+use Rattle.fmp_config_laws.specs.Clauses.{Clause, Statement, EndOfClass, Defining, Skipping}
+
+-- the configuration so far, the class whose statements follow, how far the text has come, and which statements stood
+pub record Stage : Type 0 where
+  pub setup : Setup
+  pub class : Option Class
+  pub phase : Phase
+  pub timer_stood : Bool
+  pub limits_stood : Bool
+
+-- nothing is said yet
+abbrev pub no_stage : Stage
+no_stage = record { setup = of_processors 1; class = None; phase = phases.Start; timer_stood = false; limits_stood = false }
+
+-- behind the number of processors, before the first class is opened
+abbrev pub is_head : Phase → Bool
+is_head phases.Head = true
+is_head _ = false
+
+-- ---- definitions
+
+-- a name with the same number says nothing; else the name is new, and one of at most 1024
+abbrev pub Adds : Stage → Definition → Stage → Type 0
+Adds s d next =
+    ((number_defined s.setup.names d.name ≡ Some d.number) × (next ≡ s))
+    ⊎ ((number_defined s.setup.names d.name ≡ None) × (is_refused s.setup d.name ≡ false) × (has_room_to_define s.setup.names ≡ true)
+    × (next ≡ record s { setup = with_defined s.setup d.name d.number }))
+
+abbrev pub AddsAll : Stage → List Definition → Stage → Type 0
+AddsAll s [] next = next ≡ s
+AddsAll s (d ∷ definitions) next = (between : Stage) × Adds s d between × AddsAll between definitions next
+
+-- ---- numbers
+
+-- a numeral, or a name that stands for the number
+abbrev pub SpellsNumber : NameLists → List ℕ → ℕ → Type 0
+SpellsNumber names word n = SpellsUnsigned word n ⊎ ((is_name word ≡ true) × (number_defined names word ≡ Some n))
+
+-- a number of the range, or 0 where there is none
+abbrev pub SaysNumber : NameLists → Option Range → List ℕ → ℕ → Type 0
+SaysNumber names None word n = n ≡ 0
+SaysNumber names (Some range) word n = SpellsNumber names word n × (range.least ≤ n) × (n ≤ range.most)
+
+pub record SayNumbers (c : Setup) (name : StatementName) (phrase : Phrase) (n : Numbers) : Type 0 where
+  pub first : SaysNumber c.names (first_range name c.processors c.limits.priorities) phrase.first n.first
+  pub second : SaysNumber c.names (second_range name) phrase.second n.second
+
+-- each word stands for its number
+abbrev pub SpellNumbers : NameLists → List (List ℕ) → List ℕ → Type 0
+SpellNumbers names [] [] = Unit {0}
+SpellNumbers names (word ∷ words) (n ∷ numbers) = SpellsNumber names word n × SpellNumbers names words numbers
+SpellNumbers names _ _ = ⊥
+
+-- ---- classes
 
 -- which of the eight processors are among these
 abbrev pub members_of : List ℕ → List Bool
 members_of numbers = map (λ p. list_any (λ n. n == p) numbers) (1 ∷ 2 ∷ 3 ∷ 4 ∷ 5 ∷ 6 ∷ 7 ∷ 8 ∷ [])
 
--- the class that is defined so
-abbrev pub class_of : ClassDefinition → Class
-class_of class = record { initial = as_proc class.initial; members = members_of class.members }
-
--- a number of a processor of this machine
 abbrev pub is_processor : ℕ → ℕ → Bool
 is_processor processors n = nat_le 1 n && nat_le n processors
 
 -- a class may follow: its name is new, it is one of at most 32, its processors are of this machine, and it begins on one of them
-pub record MayDefine (c : Setup) (class : ClassDefinition) : Type 0 where
-  pub name_is_new : is_refused c class.name ≡ false
-  pub few : length c.classes < 32
-  pub initial_is : is_processor c.processors class.initial ≡ true
-  pub members_are : list_all (is_processor c.processors) class.members ≡ true
-  pub begins_within : list_any (λ n. n == class.initial) class.members ≡ true
+pub record DefinesClass (s : Stage) (phrase : Phrase) (next : Stage) : Type 0 where
+  pub initial : ℕ
+  pub members : List ℕ
+  pub name_is_new : is_refused s.setup phrase.name ≡ false
+  pub few : length s.setup.classes < 32
+  pub initial_is : SpellsNumber s.setup.names phrase.first initial
+  pub members_are : SpellNumbers s.setup.names phrase.series members
+  pub initial_within : is_processor s.setup.processors initial ≡ true
+  pub members_within : list_all (is_processor s.setup.processors) members ≡ true
+  pub begins_within : list_any (λ n. n == initial) members ≡ true
+  pub says : next ≡ record s { setup = with_class s.setup phrase.name (record { initial = as_proc initial; members = members_of members }) }
 
--- the configuration with the class
-abbrev pub after_definition : Setup → ClassDefinition → Setup
-after_definition c class = with_class c class.name (class_of class)
+-- ---- objects
 
--- a task may follow: its name is new, it is one of at most 64, and it has one of the 16 priorities
-pub record MayCreate (c : Setup) (task : TaskCreation) : Type 0 where
-  pub name_is_new : is_refused c task.name ≡ false
-  pub few : length c.tasks < 64
-  pub least : 1 ≤ task.priority
-  pub most : task.priority ≤ 16
+-- what attributes say together
+abbrev pub together : Attributes → List Attribute → Attributes
+together found [] = found
+together found (a ∷ attributes) = together (with_attribute found a) attributes
 
--- the attribute by which a task is started at boot
-abbrev pub is_start : Attribute → Bool
-is_start Null = false
-is_start Activate = true
+-- an object may follow in a class: its name is new and within its kind's limit, a handler is of the processor whose ticks count, its attributes are
+-- allowed, its numbers are in their ranges
+pub record CreatesObject (s : Stage) (kind : ObjectKind) (phrase : Phrase) (next : Stage) : Type 0 where
+  pub class : Class
+  pub attributes : List Attribute
+  pub numbers : Numbers
+  pub class_is : s.class ≡ Some class
+  pub name_is_new : is_refused s.setup phrase.name ≡ false
+  pub room : has_room s.setup.names (Object kind) ≡ true
+  pub handled : is_handled s.setup.timer class kind ≡ true
+  pub attributes_are : map text_of attributes ≡ phrase.series
+  pub allowed : All (λ a. Contains (allowed_of kind) a) attributes
+  pub numbers_are : SayNumbers s.setup (statements.Create kind) phrase numbers
+  pub counts : counts_fit kind numbers ≡ true
+  pub says : next ≡ record s { setup = with_object s.setup class phrase.name phrase.function (fields_of kind (together no_attributes attributes) numbers) }
 
--- the configuration with the task, which is of this class
-abbrev pub after_creation : Setup → Class → TaskCreation → Setup
-after_creation c class task = with_task c class task.name task.function (record { starts = list_any is_start task.attributes; priority = as_pri task.priority })
+-- ---- statements
 
--- the tasks of a class lead from one configuration to the other
-abbrev pub AddsTasks : Setup → Class → List TaskCreation → Setup → Type 0
-AddsTasks c class [] next = next ≡ c
-AddsTasks c class (task ∷ tasks) next = MayCreate c task × AddsTasks (after_creation c class task) class tasks next
+-- behind the number of processors a statement other than `INCLUDE` stands in a class where it creates an object, and else outside;
+-- there is one number of processors, one timer and one statement of limits, the two before the first class is opened
+abbrev pub may_stand : Stage → StatementName → Bool
+may_stand s statements.Include = true
+may_stand s statements.Processors = is_start s.phase
+may_stand s statements.Timer = is_head s.phase && not (s.timer_stood || is_some s.class)
+may_stand s statements.Limits = is_head s.phase && not (s.limits_stood || is_some s.class)
+may_stand s statements.DefClass = not (is_start s.phase || is_some s.class)
+may_stand s statements.Class = not (is_start s.phase || is_some s.class)
+may_stand s (statements.Create kind) = not (is_start s.phase) && is_some s.class
 
--- and so do items. The class of a block is one that is defined before it
-abbrev pub AddsItems : Setup → List Item → Setup → Type 0
-AddsItems c [] next = next ≡ c
-AddsItems c (Definition class ∷ items) next = MayDefine c class × AddsItems (after_definition c class) items next
-AddsItems c (Block name tasks ∷ items) next =
-    (class : Class) × (behind : Setup) × (class_named c name ≡ Some class) × AddsTasks c class tasks behind × AddsItems behind items next
+-- `LOCAL`, or the processor whose ticks count
+abbrev pub ChoosesTimer : Stage → Phrase → Stage → Type 0
+ChoosesTimer s phrase next =
+    ((phrase.first ≡ []) × (next ≡ record s { setup = with_timer s.setup timer.Local; timer_stood = true }))
+    ⊎ ((n : ℕ) × SpellsNumber s.setup.names phrase.first n × (is_processor s.setup.processors n ≡ true)
+    × (next ≡ record s { setup = with_timer s.setup (timer.Global (as_proc n)); timer_stood = true }))
+
+-- what a statement says where these words are its words
+abbrev pub Says : Stage → StatementName → Phrase → Stage → Type 0
+Says s statements.Include phrase next = next ≡ s
+Says s statements.Processors phrase next =
+    (n : Numbers) × SayNumbers s.setup statements.Processors phrase n × (next ≡ record s { setup = with_processors s.setup n.first; phase = phases.Head })
+Says s statements.Timer phrase next = ChoosesTimer s phrase next
+Says s statements.Limits phrase next =
+    (n : Numbers) × SayNumbers s.setup statements.Limits phrase n
+    × (next ≡ record s { setup = with_limits s.setup (record { wakeups = n.first; priorities = n.second }); limits_stood = true })
+Says s statements.DefClass phrase next = DefinesClass s phrase next
+Says s statements.Class phrase next =
+    (class : Class) × (class_named s.setup phrase.name ≡ Some class) × (next ≡ record s { class = Some class; phase = phases.Body })
+Says s (statements.Create kind) phrase next = CreatesObject s kind phrase next
+
+-- a statement may stand where it begins, and says what it says behind the definitions among its words
+abbrev pub SaysClause : Stage → Clause → Stage → Type 0
+SaysClause s (Statement name phrase definitions) next = (between : Stage) × (may_stand s name ≡ true) × AddsAll s definitions between × Says between name phrase next
+SaysClause s EndOfClass next = (is_some s.class ≡ true) × (next ≡ record s { class = None })
+SaysClause s (Defining d) next = Adds s d next
+SaysClause s Skipping next = next ≡ s
+
+-- clauses lead from one stage to the other
+abbrev pub SayClauses : Stage → List Clause → Stage → Type 0
+SayClauses s [] next = next ≡ s
+SayClauses s (clause ∷ clauses) next = (between : Stage) × SaysClause s clause between × SayClauses between clauses next

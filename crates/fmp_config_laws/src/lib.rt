@@ -1,9 +1,6 @@
-//! Laws of the grammar of configurations: what is spelled is read, and what is read is spelled.
+//! The grammar of configuration texts, apart from how they are read, and that both agree.
 #![tactic(auto)]
 
 mod laws;
 
-pub use laws::{
-    configured_texts_are_read, read_texts_configure, read_tokens_are_spelled,
-    spelled_tokens_are_read, texts_configure_one_machine,
-};
+pub use laws::{configured_texts_are_read, read_texts_configure, texts_configure_one_machine};

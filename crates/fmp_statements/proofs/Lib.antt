@@ -1,3 +1,3 @@
 pub mod Found
-pub mod Walking
-pub mod Named
+pub mod Promised
+pub mod Turns

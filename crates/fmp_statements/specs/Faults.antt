@@ -1,12 +1,15 @@
 -- Faults, and how their kinds are printed.
-use Rattle.std.specs.Prelude.{ℕ, List, [], ◌∷◌, length, codes}
-use Rattle.fmp_tokens.specs.Lexing.{Lexeme}
-use Rattle.fmp_tokens.specs.declared.tokens.End.{End}
-use Rattle.fmp_tokens.specs.declared.tokens.End.TheVariants as ends
-use Rattle.fmp_statements.specs.declared.fault.Fault.{Fault}
+use Rattle.std.specs.Prelude.{ℕ, Bool, true, false, List, [], Result, Ok, Err, codes}
 use Rattle.fmp_statements.specs.declared.fault.ConfigKind.{ConfigKind}
-use Rattle.fmp_statements.specs.declared.fault.ConfigKind.TheVariants.{Syntax, CutShort, Unsupported, OutsideClass, UnknownClass, NameTaken, OutOfRange, BadAttribute, TooMany, NoProcessors, BadClass, Memory}
-use Rattle.fmp_statements.specs.Cursor.{line_of}
+use Rattle.fmp_statements.specs.declared.fault.ConfigKind.TheVariants.{Syntax, CutShort, Unsupported, OutsideClass, UnknownClass, NameTaken, OutOfRange, BadAttribute, TooMany, NoProcessors, BadClass, Memory, ForeignHandler}
+use Rattle.fmp_statements.specs.Words.{Word}
+
+-- a fault: its kind, its line, and the bytes of the token at fault, none where no token is; a mark says that it is the name of a directive
+pub record Fault : Type 0 where
+  pub kind : ConfigKind
+  pub line : ℕ
+  pub marked : Bool
+  pub word : List ℕ
 
 -- a fault's number
 abbrev pub code_of : ConfigKind → List ℕ
@@ -22,6 +25,7 @@ code_of TooMany = codes "F9"
 code_of NoProcessors = codes "F10"
 code_of BadClass = codes "F11"
 code_of Memory = codes "F12"
+code_of ForeignHandler = codes "F13"
 
 -- a fault in words
 abbrev pub words_of : ConfigKind → List ℕ
@@ -37,21 +41,26 @@ words_of TooMany = codes "too many"
 words_of NoProcessors = codes "no PROCESSORS line"
 words_of BadClass = codes "bad class"
 words_of Memory = codes "want of memory"
+words_of ForeignHandler = codes "handler outside the time master"
 
--- a fault of the first of these tokens
-unfoldable pub fault_at : ConfigKind → List Lexeme → Fault
-fault_at kind tokens = record { kind = kind; line = line_of tokens; left = length tokens }
+-- a fault of a word, in the word's line
+abbrev pub fault_at : ConfigKind → Word → Fault
+fault_at kind word = record { kind = kind; line = word.line; marked = false; word = word.text }
 
--- the same with the line of its statement
-unfoldable pub fault_in : ConfigKind → List Lexeme → List Lexeme → Fault
-fault_in kind statement tokens = record { kind = kind; line = line_of statement; left = length tokens }
+-- a fault of a word, in the line of its statement or directive
+abbrev pub fault_in : ConfigKind → ℕ → Word → Fault
+fault_in kind line word = record { kind = kind; line = line; marked = false; word = word.text }
 
--- the tokens run out in what began in this line: the text ends, or a bad byte follows
-unfoldable pub run_out : ℕ → End → Fault
-run_out line ends.Done = record { kind = CutShort; line = line; left = 0 }
-run_out line (ends.Bad bad) = record { kind = Syntax; line = bad; left = 0 }
+-- a fault in a line, of no word
+abbrev pub fault_of_line : ConfigKind → ℕ → Fault
+fault_of_line kind line = record { kind = kind; line = line; marked = false; word = [] }
 
--- a statement whose form breaks off before these tokens
-unfoldable pub misfit : List Lexeme → List Lexeme → End → Fault
-misfit statement [] end = run_out (line_of statement) end
-misfit statement (t ∷ ts) end = fault_at Syntax (t ∷ ts)
+-- a directive of another name than those that are read
+abbrev pub unknown_directive : ℕ → List ℕ → Fault
+unknown_directive line name = record { kind = Unsupported; line = line; marked = true; word = name }
+
+-- reading goes on with what was read, and ends at the first fault
+infixl 10 ◌>>=◌
+abbrev pub ◌>>=◌ : {A B E : Type 0} → Result A E → (A → Result B E) → Result B E
+(Ok x) >>= f = f x
+(Err e) >>= f = Err e

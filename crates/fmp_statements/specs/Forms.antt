@@ -1,32 +1,49 @@
--- The form of a statement: parts of given shapes, one after the other.
-use Rattle.std.specs.Prelude.{ℕ, ◌+◌, Bool, true, false, List, [], ◌∷◌, drop, get_or, if◌then◌else◌}
+-- A statement whose tokens are being read.
+use Rattle.std.specs.Prelude.{ℕ, Bool, true, false, ◌&&◌, List, [], ◌∷◌, Result, Ok, Err, Option, Some, None, length, ◌==◌, if◌then◌else◌}
+use Rattle.std.specs.Option.{option_map_or}
 use Rattle.fmp_tokens.specs.Lexing.{Lexeme}
-use Rattle.fmp_statements.specs.declared.scan.Shape.{Shape}
-use Rattle.fmp_statements.specs.declared.scan.Reach.{Reach}
-use Rattle.fmp_statements.specs.Scan.{scan, scan_of}
+use Rattle.fmp_statements.specs.declared.fault.ConfigKind.TheVariants.{Syntax}
+use Rattle.fmp_statements.specs.declared.parts.Part.{Part}
+use Rattle.fmp_statements.specs.declared.parts.Scan.{Scan}
+use Rattle.fmp_statements.specs.declared.parts.Scan.TheVariants.{Nothing}
+use Rattle.fmp_statements.specs.declared.table.StatementName.{StatementName}
+use Rattle.fmp_statements.specs.Faults.{Fault, fault_at}
+use Rattle.fmp_statements.specs.Parts.{scan_of, next_of, may_end, is_nothing}
+use Rattle.fmp_statements.specs.Pieces.{Pieces, no_pieces, kept_from}
+use Rattle.fmp_statements.specs.Table.{parts_of}
+use Rattle.fmp_statements.specs.Words.{word_of}
 
--- the places of the parts that were met, how many tokens they have, and whether all were met
+-- a statement: its name, the line of its first word, the part that is being read, the parts behind it, and the words that were read
 pub record Form : Type 0 where
-  pub places : List ℕ
-  pub count : ℕ
-  pub fits : Bool
+  pub name : StatementName
+  pub line : ℕ
+  pub scan : Scan
+  pub rest : List Part
+  pub pieces : Pieces
 
--- a part at this place, and the others
-abbrev pub with_part : ℕ → Reach → Form → Form
-with_part place reach others =
-    if reach.fits then record others { places = place ∷ others.places }
-    else record { places = []; count = place + reach.count; fits = false }
+-- behind its first word
+abbrev pub begun : StatementName → ℕ → Form
+begun name line = record { name = name; line = line; scan = Nothing; rest = parts_of name; pieces = no_pieces }
 
--- the parts of these shapes from a place of the tokens on
-unfoldable pub form_of : ℕ → List Shape → List Lexeme → Form
-form_of place [] tokens = record { places = []; count = place; fits = true }
-form_of place (shape ∷ shapes) tokens =
-    with_part place (scan (scan_of shape) (drop place tokens)) (form_of (place + (scan (scan_of shape) (drop place tokens)).count) shapes tokens)
+-- nothing more has to follow
+unfoldable pub is_complete : Form → Bool
+is_complete f = length f.rest == 0 && is_nothing f.scan
 
--- the tokens from a part on
-unfoldable pub field : Form → ℕ → List Lexeme → List Lexeme
-field form part tokens = drop (get_or form.places part 0) tokens
+-- from one place of a part to another with a token
+abbrev pub advanced : Form → Scan → Scan → Lexeme → Form
+advanced f from to t = record f { scan = to; pieces = kept_from from (word_of t) f.pieces }
 
--- what is left behind the parts that were met
-unfoldable pub rest_of : Form → List Lexeme → List Lexeme
-rest_of form tokens = drop form.count tokens
+-- a token that fits nothing
+abbrev pub misfit : Lexeme → Fault
+misfit t = fault_at Syntax (word_of t)
+
+-- a token of the first of these parts
+unfoldable pub next_part : Form → List Part → Lexeme → Result Form Fault
+next_part f [] t = Err (misfit t)
+next_part f (part ∷ rest) t =
+    option_map_or (λ next. Ok (advanced (record f { rest = rest }) (scan_of part) next t)) (next_of (scan_of part) t) (Err (misfit t))
+
+-- a token of the part that is being read, or where that can end of the next one
+unfoldable pub form_step : Form → Lexeme → Result Form Fault
+form_step f t =
+    option_map_or (λ next. Ok (advanced f f.scan next t)) (next_of f.scan t) (if may_end f.scan then next_part f f.rest t else Err (misfit t))

@@ -1,9 +1,12 @@
 pub mod Attributes
-pub mod Cursor
+pub mod Directives
 pub mod Faults
-pub mod Fields
+pub mod Folds
 pub mod Forms
+pub mod Named
 pub mod Numbers
-pub mod Scan
+pub mod Outcomes
+pub mod Parts
+pub mod Pieces
 pub mod Table
-pub mod Walk
+pub mod Words

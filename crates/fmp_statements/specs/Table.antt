@@ -1,55 +1,91 @@
--- The table of the statements.
-use Rattle.std.specs.Prelude.{ℕ, List, [], ◌∷◌, find, Result, Ok, Err, codes, if◌then◌else◌}
-use Rattle.std.specs.Option.{ok_or}
+-- The table of the statements: words, parts, attributes and ranges.
+use Rattle.std.specs.Prelude.{ℕ, ◌-◌, ◌^◌, List, [], ◌∷◌, find, Option, Some, None, codes}
 use Rattle.std.specs.Str.{bytes_eq}
-use Rattle.fmp_tokens.specs.Lexing.{Lexeme}
-use Rattle.fmp_tokens.specs.declared.tokens.End.{End}
-use Rattle.fmp_statements.specs.declared.fault.Fault.{Fault}
-use Rattle.fmp_statements.specs.declared.fault.ConfigKind.TheVariants.{Syntax, Unsupported}
-use Rattle.fmp_statements.specs.declared.scan.Item.TheVariants.{Name, Number}
-use Rattle.fmp_statements.specs.declared.scan.Shape.{Shape}
-use Rattle.fmp_statements.specs.declared.scan.Shape.TheVariants.{Mark, One, Series, Free}
+use Rattle.fmp_calls.specs.declared.kinds.ObjectKind.{ObjectKind}
+use Rattle.fmp_calls.specs.declared.kinds.ObjectKind.TheVariants.{Task, Semaphore, Eventflag, DataQueue, Pool, Cyclic, Alarm, SpinLock}
+use Rattle.fmp_statements.specs.declared.attributes.Attribute.{Attribute}
+use Rattle.fmp_statements.specs.declared.parts.Part.{Part}
+use Rattle.fmp_statements.specs.declared.table.Range.{Range}
 use Rattle.fmp_statements.specs.declared.table.StatementName.{StatementName}
-use Rattle.fmp_statements.specs.declared.table.StatementName.TheVariants.{Processors, DefClass, Class, CreTsk}
-use Rattle.fmp_statements.specs.declared.table.TheConstants.{STATEMENT_NAMES}
-use Rattle.fmp_statements.specs.Cursor.{first_text, after_first, is_word_next}
-use Rattle.fmp_statements.specs.Faults.{fault_at, misfit}
-use Rattle.fmp_statements.specs.Forms.{Form, form_of, rest_of}
-use Rattle.fmp_statements.specs.declared.fields.FieldKind.{FieldKind}
-use Rattle.fmp_statements.specs.declared.fields.FieldKind.TheVariants as field
-use Rattle.fmp_statements.specs.declared.attributes.Allowed.TheVariants as allowed
+use Rattle.fmp_statements.specs.declared.table.StatementName.TheVariants.{Include, Processors, Timer, Limits, DefClass, Class, Create}
+use Rattle.fmp_statements.specs.declared.table.TheConstants as table
 
 -- the word that begins a statement
 abbrev pub text_of : StatementName → List ℕ
+text_of Include = codes "INCLUDE"
 text_of Processors = codes "PROCESSORS"
+text_of Timer = codes "TIMER"
+text_of Limits = codes "LIMITS"
 text_of DefClass = codes "DEF_CLASS"
 text_of Class = codes "CLASS"
-text_of CreTsk = codes "CRE_TSK"
+text_of (Create Task) = codes "CRE_TSK"
+text_of (Create Semaphore) = codes "CRE_SEM"
+text_of (Create Eventflag) = codes "CRE_FLG"
+text_of (Create DataQueue) = codes "CRE_DTQ"
+text_of (Create Pool) = codes "CRE_MPF"
+text_of (Create Cyclic) = codes "CRE_CYC"
+text_of (Create Alarm) = codes "CRE_ALM"
+text_of (Create SpinLock) = codes "CRE_SPN"
 
--- `(n);`, `(id, initial, {p, ..});`, `(id) {` and `(id, {attr, exinf, main, itskpri, stksz, stk});`
-abbrev pub shapes_of : StatementName → List Shape
-shapes_of Processors = Mark 40 ∷ One Number ∷ Mark 41 ∷ Mark 59 ∷ []
-shapes_of DefClass = Mark 40 ∷ One Name ∷ Mark 44 ∷ One Number ∷ Mark 44 ∷ Mark 123 ∷ Series 44 Number ∷ Mark 125 ∷ Mark 41 ∷ Mark 59 ∷ []
-shapes_of Class = Mark 40 ∷ One Name ∷ Mark 41 ∷ Mark 123 ∷ []
-shapes_of CreTsk =
-    Mark 40 ∷ One Name ∷ Mark 44 ∷ Mark 123 ∷ Series 124 Name ∷ Mark 44 ∷ Free ∷ Mark 44 ∷ One Name ∷ Mark 44 ∷ One Number
-    ∷ Mark 44 ∷ Free ∷ Mark 44 ∷ Free ∷ Mark 125 ∷ Mark 41 ∷ Mark 59 ∷ []
+-- the parts that follow it
+abbrev pub parts_of : StatementName → List Part
+parts_of Include = table.INCLUDE
+parts_of Processors = table.PROCESSORS
+parts_of Timer = table.TIMER
+parts_of Limits = table.LIMITS
+parts_of DefClass = table.DEF_CLASS
+parts_of Class = table.CLASS
+parts_of (Create Task) = table.TASK
+parts_of (Create Semaphore) = table.SEMAPHORE
+parts_of (Create Eventflag) = table.EVENTFLAG
+parts_of (Create DataQueue) = table.DATA_QUEUE
+parts_of (Create Pool) = table.POOL
+parts_of (Create Cyclic) = table.CYCLIC
+parts_of (Create Alarm) = table.ALARM
+parts_of (Create SpinLock) = table.SPIN_LOCK
 
--- the kinds of the fields between braces
-abbrev pub kinds_of : StatementName → List FieldKind
-kinds_of Processors = []
-kinds_of DefClass = []
-kinds_of Class = []
-kinds_of CreTsk = field.Attributes allowed.Task ∷ field.Free ∷ field.Function ∷ field.Priority ∷ field.Free ∷ field.Free ∷ []
+-- the attributes that a statement allows which creates such an object
+abbrev pub allowed_of : ObjectKind → List Attribute
+allowed_of Task = table.STARTED_TASK
+allowed_of Semaphore = table.ORDERED
+allowed_of Eventflag = table.FLAGGED
+allowed_of DataQueue = table.ORDERED
+allowed_of Pool = table.ORDERED
+allowed_of Cyclic = table.STARTED_CYCLIC
+allowed_of Alarm = table.PLAIN
+allowed_of SpinLock = table.PLAIN
 
--- the statement that begins with the first token
-unfoldable pub statement_name : List Lexeme → Result StatementName Fault
-statement_name tokens =
-    if is_word_next tokens then ok_or (find (λ name. bytes_eq (text_of name) (first_text tokens)) STATEMENT_NAMES) (fault_at Unsupported tokens)
-    else Err (fault_at Syntax tokens)
+abbrev pub from_to : ℕ → ℕ → Option Range
+from_to least most = Some (record { least = least; most = most })
 
--- the form of the statement that begins with the first token
-unfoldable pub form_in : StatementName → List Lexeme → End → Result Form Fault
-form_in name tokens end =
-    if (form_of 0 (shapes_of name) (after_first tokens)).fits then Ok (form_of 0 (shapes_of name) (after_first tokens))
-    else Err (misfit tokens (rest_of (form_of 0 (shapes_of name) (after_first tokens)) (after_first tokens)) end)
+-- any number: what is more than this counts as this
+abbrev pub any_number : Option Range
+any_number = from_to 0 (2 ^ 64 - 1)
+
+-- the range of the first number of a statement that has one, on so many processors and with so many priorities
+abbrev pub first_range : StatementName → ℕ → ℕ → Option Range
+first_range Include processors priorities = None
+first_range Processors processors priorities = from_to 1 8
+first_range Timer processors priorities = from_to 1 processors
+first_range Limits processors priorities = from_to 1 255
+first_range DefClass processors priorities = any_number
+first_range Class processors priorities = None
+first_range (Create Task) processors priorities = from_to 1 priorities
+first_range (Create Semaphore) processors priorities = any_number
+first_range (Create Eventflag) processors priorities = from_to 0 4294967295
+first_range (Create DataQueue) processors priorities = from_to 0 1024
+first_range (Create Pool) processors priorities = from_to 1 64
+first_range (Create Cyclic) processors priorities = from_to 1 2147483647
+first_range (Create Alarm) processors priorities = None
+first_range (Create SpinLock) processors priorities = None
+
+-- the range of the second number of a statement that has one
+abbrev pub second_range : StatementName → Option Range
+second_range Limits = from_to 16 32
+second_range (Create Semaphore) = from_to 1 65535
+second_range (Create Cyclic) = from_to 0 2147483647
+second_range _ = None
+
+-- the statement of a word
+unfoldable pub statement_of : List ℕ → Option StatementName
+statement_of word = find (λ name. bytes_eq (text_of name) word) table.STATEMENT_NAMES

@@ -3,10 +3,8 @@ ghost use Rattle.std.specs.Prelude.{◌≡◌, find};
 ghost use Rattle.std.specs.Str.{bytes_eq};
 ghost use Rattle.fmp_statements.specs.Attributes as spec;
 
-use crate::cursor::{first_text, from_place, is_mark_next};
-use crate::fault::{ConfigKind, Fault, fault_at};
-use fmp_text::is_name;
-use fmp_tokens::Token;
+use crate::fault::{ConfigKind, Fault};
+use crate::word::Word;
 
 /// An attribute.
 #[derive(Clone, Copy, Debug, PartialEq, Eq)]
@@ -15,13 +13,18 @@ pub enum Attribute {
     Null,
     /// `TA_ACT`: the task is started at boot.
     Activate,
-}
-
-/// Which attributes a statement allows.
-#[derive(Clone, Copy, Debug, PartialEq, Eq)]
-pub enum Allowed {
-    /// Those of a task.
-    Task,
+    /// `TA_STA`: the cyclic handler is started at boot.
+    Start,
+    /// `TA_TFIFO`: tasks wait first come first, as they do without an attribute.
+    InOrder,
+    /// `TA_TPRI`: tasks wait by priority.
+    ByPriority,
+    /// `TA_WSGL`: at most one task waits, as is so without an attribute.
+    Single,
+    /// `TA_WMUL`: several tasks may wait.
+    Many,
+    /// `TA_CLR`: a release clears the eventflag.
+    Clear,
 }
 
 /// What the attributes of an object say together.
@@ -29,9 +32,20 @@ pub enum Allowed {
 pub struct Attributes {
     /// It is started at boot.
     pub starts: bool,
+    /// Tasks wait by priority.
+    pub by_priority: bool,
+    /// Several tasks may wait.
+    pub many: bool,
+    /// A release clears it.
+    pub clears: bool,
 }
 
-const OF_TASK: [Attribute; 2] = [Attribute::Null, Attribute::Activate];
+const NONE: Attributes = Attributes {
+    starts: false,
+    by_priority: false,
+    many: false,
+    clears: false,
+};
 
 impl Attribute {
     ghost use Rattle.std.specs.Prelude.{◌≡◌};
@@ -44,33 +58,14 @@ impl Attribute {
         match self {
             Attribute::Null => b"TA_NULL",
             Attribute::Activate => b"TA_ACT",
+            Attribute::Start => b"TA_STA",
+            Attribute::InOrder => b"TA_TFIFO",
+            Attribute::ByPriority => b"TA_TPRI",
+            Attribute::Single => b"TA_WSGL",
+            Attribute::Many => b"TA_WMUL",
+            Attribute::Clear => b"TA_CLR",
         }
     }
-}
-
-impl Allowed {
-    ghost use Rattle.std.specs.Prelude.{◌≡◌};
-    ghost use Rattle.fmp_statements.specs.Attributes.{allowed_of};
-
-    /// The attributes.
-    pub fn list(self) -> &'static [Attribute]
-        ensures { result.now ≡ allowed_of self }
-    {
-        match self {
-            Allowed::Task => &OF_TASK,
-        }
-    }
-}
-
-/// The allowed attribute that is written so.
-fn attribute_of(allowed: Allowed, word: &[u8]) -> Option<Attribute>
-    ensures { result ≡ find (λ a. bytes_eq (spec.text_of a) word.now) (spec.allowed_of allowed) }
-{
-    allowed
-        .list()
-        .iter()
-        .copied()
-        .find(|attribute| attribute.text() == word)
 }
 
 impl Attributes {
@@ -82,43 +77,62 @@ impl Attributes {
         ensures { result ≡ with_attribute self attribute }
     {
         match attribute {
-            Attribute::Null => self,
-            Attribute::Activate => Attributes { starts: true },
+            Attribute::Null | Attribute::InOrder | Attribute::Single => self,
+            Attribute::Activate | Attribute::Start => Attributes {
+                starts: true,
+                ..self
+            },
+            Attribute::ByPriority => Attributes {
+                by_priority: true,
+                ..self
+            },
+            Attribute::Many => Attributes { many: true, ..self },
+            Attribute::Clear => Attributes {
+                clears: true,
+                ..self
+            },
         }
     }
 }
 
-/// What the attributes say with the next token, and None where they end before it.
+/// The allowed attribute that is written so.
+fn attribute_of(allowed: &[Attribute], text: &[u8]) -> Option<Attribute>
+    ensures { result ≡ find (λ a. bytes_eq (spec.text_of a) text.now) allowed.now }
+{
+    allowed
+        .iter()
+        .copied()
+        .find(|attribute| attribute.text() == text)
+}
+
+/// The allowed attribute of a word, or its fault.
+#[tactic(auto, unfolding(crate::specs::Attributes::attribute_in))]
+fn attribute_in<'a>(allowed: &[Attribute], word: &Word<'a>) -> Result<Attribute, Fault<'a>>
+    ensures { result ≡ spec.attribute_in allowed.now word.now }
+{
+    attribute_of(allowed, word.text()).ok_or(Fault::at(ConfigKind::BadAttribute, word))
+}
+
+/// What the attributes say with those of one word more.
 #[tactic(auto, unfolding(crate::specs::Attributes::attribute_step))]
-fn attribute_step(
-    allowed: Allowed,
+fn attribute_step<'a>(
+    allowed: &[Attribute],
     found: Attributes,
-    tokens: &[Token<'_>],
-) -> Result<Option<Attributes>, Fault>
-    ensures { result ≡ spec.attribute_step allowed found tokens.now }
+    word: &Word<'a>,
+) -> Result<Attributes, Fault<'a>>
+    ensures { result ≡ spec.attribute_step allowed.now found word.now }
 {
-    if is_mark_next(b'|', tokens) {
-        return Ok(Some(found));
-    }
-    let word = first_text(tokens);
-    if !is_name(word) {
-        return Ok(None);
-    }
-    let attribute = attribute_of(allowed, word).ok_or(fault_at(ConfigKind::BadAttribute, tokens))?;
-    Ok(Some(found.with(attribute)))
+    Ok(found.with(attribute_in(allowed, word)?))
 }
 
-/// What the attributes at the front of the tokens say together, or the first that is not allowed.
+/// What the attributes of some words say together, or the first that is not allowed.
 #[tactic(auto, unfolding(crate::specs::Attributes::attributes_in))]
-pub fn attributes_in(allowed: Allowed, tokens: &[Token<'_>]) -> Result<Attributes, Fault>
-    ensures { result ≡ spec.attributes_in allowed tokens.now }
+pub fn attributes_in<'a>(allowed: &[Attribute], words: &[Word<'a>]) -> Result<Attributes, Fault<'a>>
+    ensures { result ≡ spec.attributes_in allowed.now words.now }
 {
-    let mut found = Attributes { starts: false };
-    for place in 0..tokens.len() {
-        match attribute_step(allowed, found, from_place(place, tokens))? {
-            Some(next) => found = next,
-            None => return Ok(found),
-        }
+    let mut found = NONE;
+    for word in words {
+        found = attribute_step(allowed, found, word)?;
     }
     Ok(found)
 }

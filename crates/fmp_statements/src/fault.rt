@@ -1,24 +1,26 @@
 //! What is wrong with a configuration.
 ghost use Rattle.std.specs.Prelude.{◌≡◌};
+ghost use Rattle.fmp_statements.specs.declared.fault.ReadError.TheVariants as errors;
 ghost use Rattle.fmp_statements.specs.Faults as spec;
 
-use crate::cursor::line_of;
-use fmp_tokens::{End, Token};
+use crate::word::Word;
+use std::alloc::{AllocError, AllocFailed};
+use std::marker::Model;
 
 /// The kinds of faults.
 #[derive(Clone, Copy, Debug, PartialEq, Eq)]
 pub enum ConfigKind {
     /// A byte or a token that may not stand where it stands.
     Syntax,
-    /// The text ends within a statement or a class.
+    /// The text ends within a comment, a string, a statement or a class.
     CutShort,
-    /// A statement of another name than those that are read.
+    /// A statement or a directive of another name than those that are read.
     Unsupported,
     /// A statement that may only stand in a class.
     OutsideClass,
     /// A class that no statement before it defines.
     UnknownClass,
-    /// A name that another class or object has, or that is reserved.
+    /// A name that another class, object or number has, or that is reserved.
     NameTaken,
     /// A number outside its range, or what is no number.
     OutOfRange,
@@ -32,13 +34,15 @@ pub enum ConfigKind {
     BadClass,
     /// Memory ran out.
     Memory,
+    /// A handler in a class that has other processors than the one whose ticks count.
+    ForeignHandler,
 }
 
 impl ConfigKind {
     ghost use Rattle.std.specs.Prelude.{◌≡◌};
     ghost use Rattle.fmp_statements.specs.Faults.{code_of, words_of};
 
-    /// The fault's number, from `F1` to `F12`.
+    /// The fault's number, from `F1` to `F13`.
     pub const fn code(self) -> &'static str
         ensures { result.now ≡ code_of self }
     {
@@ -55,6 +59,7 @@ impl ConfigKind {
             ConfigKind::NoProcessors => "F10",
             ConfigKind::BadClass => "F11",
             ConfigKind::Memory => "F12",
+            ConfigKind::ForeignHandler => "F13",
         }
     }
 
@@ -75,69 +80,139 @@ impl ConfigKind {
             ConfigKind::NoProcessors => "no PROCESSORS line",
             ConfigKind::BadClass => "bad class",
             ConfigKind::Memory => "want of memory",
+            ConfigKind::ForeignHandler => "handler outside the time master",
         }
     }
 }
 
-/// A fault of the tokens: its kind, its line, and how many tokens are left from the token at fault on, 0 where none is.
-#[derive(Clone, Copy, Debug, PartialEq, Eq)]
-pub struct Fault {
-    pub kind: ConfigKind,
-    pub line: u32,
-    pub left: usize,
+/// A fault: its kind, its line, and the bytes of the token at fault, none where no token is.
+#[derive(Debug, Drop)]
+pub struct Fault<'a> {
+    kind: ConfigKind,
+    line: u32,
+    /// The token is the name of a directive.
+    marked: bool,
+    text: &'a [u8],
 }
 
-/// A fault of the first of these tokens.
-#[tactic(auto, unfolding(crate::specs::Faults::fault_at))]
-pub fn fault_at(kind: ConfigKind, tokens: &[Token<'_>]) -> Fault
-    ensures { result ≡ spec.fault_at kind tokens.now }
-{
-    Fault {
-        kind,
-        line: line_of(tokens),
-        left: tokens.len(),
+impl<'a> Model for Fault<'a> {
+    ghost use Rattle.fmp_statements.specs.Faults.{Fault as Found};
+
+    ghost Value = { Found };
+
+    ghost view = { λ f. record { kind = f.kind; line = f.line; marked = f.marked; word = f.text.now } };
+}
+
+impl<'a> Fault<'a> {
+    ghost use Rattle.std.specs.Prelude.{◌≡◌};
+    ghost use Rattle.fmp_statements.specs.Faults as spec;
+
+    /// A fault of a word, in the word's line.
+    pub fn at(kind: ConfigKind, word: &Word<'a>) -> Self
+        ensures { result ≡ spec.fault_at kind word.now }
+    {
+        Fault::within(kind, word.line(), word)
     }
-}
 
-/// A fault of the first of these tokens that has the line of its statement.
-#[tactic(auto, unfolding(crate::specs::Faults::fault_in))]
-pub fn fault_in(kind: ConfigKind, statement: &[Token<'_>], tokens: &[Token<'_>]) -> Fault
-    ensures { result ≡ spec.fault_in kind statement.now tokens.now }
-{
-    Fault {
-        kind,
-        line: line_of(statement),
-        left: tokens.len(),
-    }
-}
-
-/// The fault where the tokens run out, in what began in a line.
-#[tactic(auto, unfolding(crate::specs::Faults::run_out))]
-pub fn run_out(line: u32, end: End) -> Fault
-    ensures { result ≡ spec.run_out line end }
-{
-    match end {
-        End::Done => Fault {
-            kind: ConfigKind::CutShort,
+    /// A fault of a word, in the line of its statement or directive.
+    pub fn within(kind: ConfigKind, line: u32, word: &Word<'a>) -> Self
+        ensures { result ≡ spec.fault_in kind line word.now }
+    {
+        let marked = false;
+        let text = word.text();
+        Fault {
+            kind,
             line,
-            left: 0,
-        },
-        End::Bad(line) => Fault {
-            kind: ConfigKind::Syntax,
+            marked,
+            text,
+        }
+    }
+
+    /// A fault in a line, of no word.
+    pub fn of_line(kind: ConfigKind, line: u32) -> Self
+        ensures { result ≡ spec.fault_of_line kind line }
+    {
+        let marked = false;
+        let text: &[u8] = &[];
+        Fault {
+            kind,
             line,
-            left: 0,
-        },
+            marked,
+            text,
+        }
+    }
+
+    /// A directive of another name than those that are read.
+    pub fn of_directive(line: u32, name: &'a [u8]) -> Self
+        ensures { result ≡ spec.unknown_directive line name.now }
+    {
+        let kind = ConfigKind::Unsupported;
+        let marked = true;
+        let text = name;
+        Fault {
+            kind,
+            line,
+            marked,
+            text,
+        }
+    }
+
+    /// The fault's kind.
+    pub fn kind(&self) -> ConfigKind
+        ensures { result ≡ self.now.kind }
+    {
+        self.kind
+    }
+
+    /// The fault's line.
+    pub fn line(&self) -> u32
+        ensures { result ≡ self.now.line }
+    {
+        self.line
+    }
+
+    /// Whether the word is the name of a directive, which is told with its `#`.
+    pub fn is_marked(&self) -> bool
+        ensures { result ≡ self.now.marked }
+    {
+        self.marked
+    }
+
+    /// The bytes of the token at fault.
+    pub fn word(&self) -> &'a [u8]
+        ensures { result.now ≡ self.now.word }
+    {
+        self.text
     }
 }
 
-/// The fault of a statement whose form breaks off before these tokens.
-#[tactic(auto, unfolding(crate::specs::Faults::misfit))]
-pub fn misfit(statement: &[Token<'_>], rest: &[Token<'_>], end: End) -> Fault
-    ensures { result ≡ spec.misfit statement.now rest.now end }
-{
-    if rest.is_empty() {
-        run_out(line_of(statement), end)
-    } else {
-        fault_at(ConfigKind::Syntax, rest)
+/// Want of memory, or a fault of the text.
+#[derive(Debug, Drop)]
+pub enum ReadError<'a> {
+    Memory,
+    Fault(Fault<'a>),
+}
+
+impl<'a> From<AllocError> for ReadError<'a> {
+    ghost from_gives = { λ _ e. e ≡ errors.Memory };
+
+    fn from(_e: AllocError) -> ReadError<'a> {
+        ReadError::Memory
+    }
+}
+
+impl<'a, T: Drop> From<AllocFailed<T>> for ReadError<'a> {
+    ghost from_gives = { λ _ e. e ≡ errors.Memory };
+
+    fn from(_e: AllocFailed<T>) -> ReadError<'a> {
+        ReadError::Memory
+    }
+}
+
+impl<'a> From<Fault<'a>> for ReadError<'a> {
+    ghost from_gives = { λ fault e. e ≡ errors.Fault fault };
+
+    fn from(fault: Fault<'a>) -> ReadError<'a> {
+        ReadError::Fault(fault)
     }
 }

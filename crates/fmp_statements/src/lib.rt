@@ -2,26 +2,23 @@
 #![tactic(auto)]
 
 mod attributes;
-mod cursor;
+mod directive;
 mod fault;
-mod fields;
-mod forms;
+mod form;
 mod laws;
 mod numbers;
-mod scan;
+mod parts;
+mod pieces;
 mod table;
+mod word;
 
-pub use attributes::{Allowed, Attribute, Attributes, attributes_in};
-pub use cursor::{
-    after_first, first_text, from_place, is_mark, is_mark_next, is_word_next, line_of,
-};
-pub use fault::{ConfigKind, Fault, fault_at, fault_in, misfit, run_out};
-pub use fields::{FieldKind, Value, fields_in};
-pub use forms::{Form, form_of};
+pub use attributes::{Attribute, Attributes, attributes_in};
+pub use directive::Directive;
+pub use fault::{ConfigKind, Fault, ReadError};
+pub use form::Form;
 pub use laws::statements_are_found;
-pub use numbers::{Listed, list_in, number_in, numeral_in, processor_of};
-pub use scan::{Item, Reach, Scan, Shape, reach_of};
-pub use table::{
-    MOST_FIELDS, MOST_SHAPES, STATEMENT_NAMES, StatementName, find_statement, form_in,
-    statement_name,
-};
+pub use numbers::numeral;
+pub use parts::{Item, Part, Scan, is_item};
+pub use pieces::Pieces;
+pub use table::{Range, STATEMENT_NAMES, StatementName, allowed, find_statement};
+pub use word::{Word, is_mark};

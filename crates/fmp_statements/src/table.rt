@@ -1,173 +1,249 @@
-//! The table of the statements. A statement is one line in each of `STATEMENT_NAMES`, `text`, `shapes` and `kinds`.
-ghost use Rattle.std.specs.Prelude.{◌≡◌, ◌≤◌, length, find, true, IfOk};
+//! The table of the statements. A statement is one line in each of `STATEMENT_NAMES`, `text`, `parts`, `allowed` and the ranges of its numbers.
+ghost use Rattle.std.specs.Prelude.{◌≡◌, find};
 ghost use Rattle.std.specs.Str.{bytes_eq};
-ghost use Rattle.fmp_statements.specs.Cursor.{after_first};
-ghost use Rattle.fmp_statements.specs.Forms.{form_of};
 ghost use Rattle.fmp_statements.specs.Table as spec;
 
-use crate::attributes::Allowed;
-use crate::cursor::{after_first, first_text, is_word_next};
-use crate::fault::{ConfigKind, Fault, fault_at, misfit};
-use crate::fields::FieldKind;
-use crate::forms::{Form, form_of};
-use crate::scan::{Item, Shape};
-use fmp_tokens::{End, Token};
-
-/// The greatest number of parts of a statement.
-pub const MOST_SHAPES: usize = 24;
+use crate::attributes::Attribute;
+use crate::parts::{Item, Part};
+use fmp_calls::ObjectKind;
 
 /// The statements.
 #[derive(Clone, Copy, Debug, PartialEq, Eq)]
 pub enum StatementName {
+    Include,
     Processors,
+    Timer,
+    Limits,
     DefClass,
     Class,
-    CreTsk,
+    /// One that creates an object.
+    Create(ObjectKind),
 }
 
-/// The greatest number of fields of a statement that creates an object.
-pub const MOST_FIELDS: usize = 6;
-
 /// All of them.
-pub const STATEMENT_NAMES: [StatementName; 4] = [
+pub const STATEMENT_NAMES: [StatementName; 14] = [
+    StatementName::Include,
     StatementName::Processors,
+    StatementName::Timer,
+    StatementName::Limits,
     StatementName::DefClass,
     StatementName::Class,
-    StatementName::CreTsk,
+    StatementName::Create(ObjectKind::Task),
+    StatementName::Create(ObjectKind::Semaphore),
+    StatementName::Create(ObjectKind::Eventflag),
+    StatementName::Create(ObjectKind::DataQueue),
+    StatementName::Create(ObjectKind::Pool),
+    StatementName::Create(ObjectKind::Cyclic),
+    StatementName::Create(ObjectKind::Alarm),
+    StatementName::Create(ObjectKind::SpinLock),
 ];
 
-const OPEN: Shape = Shape::Mark(b'(');
+/// The numbers from a least to a greatest.
+#[derive(Clone, Copy, Debug, PartialEq, Eq)]
+pub struct Range {
+    pub least: u64,
+    pub most: u64,
+}
 
-const CLOSE: Shape = Shape::Mark(b')');
+const OPEN: Part = Part::Mark(b'(');
 
-const BEGIN: Shape = Shape::Mark(b'{');
+const CLOSE: Part = Part::Mark(b')');
 
-const FINISH: Shape = Shape::Mark(b'}');
+const BEGIN: Part = Part::Mark(b'{');
 
-const COMMA: Shape = Shape::Mark(b',');
+const FINISH: Part = Part::Mark(b'}');
 
-const STOP: Shape = Shape::Mark(b';');
+const COMMA: Part = Part::Mark(b',');
 
-const NAME: Shape = Shape::One(Item::Name);
+const STOP: Part = Part::Mark(b';');
 
-const NUMBER: Shape = Shape::One(Item::Number);
+const NAME: Part = Part::One(Item::Name);
 
-const NUMBERS: Shape = Shape::Series(b',', Item::Number);
+const FUNCTION: Part = Part::One(Item::Function);
 
-const ATTRIBUTES: Shape = Shape::Series(b'|', Item::Name);
+const FIRST: Part = Part::One(Item::First);
 
-const OF_PROCESSORS: [Shape; 4] = [OPEN, NUMBER, CLOSE, STOP];
+const SECOND: Part = Part::One(Item::Second);
 
-const OF_DEF_CLASS: [Shape; 10] = [
-    OPEN, NAME, COMMA, NUMBER, COMMA, BEGIN, NUMBERS, FINISH, CLOSE, STOP,
+const TEXT: Part = Part::One(Item::Text);
+
+const MEMBERS: Part = Part::Series(b',', Item::Member);
+
+const ATTRIBUTES: Part = Part::Series(b'|', Item::Attribute);
+
+const FREE: Part = Part::Free;
+
+pub const INCLUDE: [Part; 4] = [OPEN, TEXT, CLOSE, STOP];
+
+pub const PROCESSORS: [Part; 4] = [OPEN, FIRST, CLOSE, STOP];
+
+pub const TIMER: [Part; 4] = [OPEN, Part::Method, CLOSE, STOP];
+
+pub const LIMITS: [Part; 6] = [OPEN, FIRST, COMMA, SECOND, CLOSE, STOP];
+
+pub const DEF_CLASS: [Part; 10] = [
+    OPEN, NAME, COMMA, FIRST, COMMA, BEGIN, MEMBERS, FINISH, CLOSE, STOP,
 ];
 
-const OF_CLASS: [Shape; 4] = [OPEN, NAME, CLOSE, BEGIN];
+pub const CLASS: [Part; 4] = [OPEN, NAME, CLOSE, BEGIN];
 
-const OF_CRE_TSK: [Shape; 18] = [
-    OPEN,
-    NAME,
-    COMMA,
-    BEGIN,
-    ATTRIBUTES,
-    COMMA,
-    Shape::Free,
-    COMMA,
-    NAME,
-    COMMA,
-    NUMBER,
-    COMMA,
-    Shape::Free,
-    COMMA,
-    Shape::Free,
-    FINISH,
-    CLOSE,
-    STOP,
+pub const TASK: [Part; 18] = [
+    OPEN, NAME, COMMA, BEGIN, ATTRIBUTES, COMMA, FREE, COMMA, FUNCTION, COMMA, FIRST, COMMA, FREE,
+    COMMA, FREE, FINISH, CLOSE, STOP,
 ];
 
-const KINDS_OF_CRE_TSK: [FieldKind; 6] = [
-    FieldKind::Attributes(Allowed::Task),
-    FieldKind::Free,
-    FieldKind::Function,
-    FieldKind::Priority,
-    FieldKind::Free,
-    FieldKind::Free,
+pub const SEMAPHORE: [Part; 12] = [
+    OPEN, NAME, COMMA, BEGIN, ATTRIBUTES, COMMA, FIRST, COMMA, SECOND, FINISH, CLOSE, STOP,
 ];
+
+pub const EVENTFLAG: [Part; 10] = [
+    OPEN, NAME, COMMA, BEGIN, ATTRIBUTES, COMMA, FIRST, FINISH, CLOSE, STOP,
+];
+
+pub const DATA_QUEUE: [Part; 12] = [
+    OPEN, NAME, COMMA, BEGIN, ATTRIBUTES, COMMA, FIRST, COMMA, FREE, FINISH, CLOSE, STOP,
+];
+
+pub const POOL: [Part; 16] = [
+    OPEN, NAME, COMMA, BEGIN, ATTRIBUTES, COMMA, FIRST, COMMA, FREE, COMMA, FREE, COMMA, FREE,
+    FINISH, CLOSE, STOP,
+];
+
+pub const CYCLIC: [Part; 16] = [
+    OPEN, NAME, COMMA, BEGIN, ATTRIBUTES, COMMA, FREE, COMMA, FUNCTION, COMMA, FIRST, COMMA,
+    SECOND, FINISH, CLOSE, STOP,
+];
+
+pub const ALARM: [Part; 12] = [
+    OPEN, NAME, COMMA, BEGIN, ATTRIBUTES, COMMA, FREE, COMMA, FUNCTION, FINISH, CLOSE, STOP,
+];
+
+pub const SPIN_LOCK: [Part; 8] = [OPEN, NAME, COMMA, BEGIN, ATTRIBUTES, FINISH, CLOSE, STOP];
+
+pub const STARTED_TASK: [Attribute; 2] = [Attribute::Null, Attribute::Activate];
+
+pub const ORDERED: [Attribute; 3] = [Attribute::Null, Attribute::InOrder, Attribute::ByPriority];
+
+pub const FLAGGED: [Attribute; 6] = [
+    Attribute::Null,
+    Attribute::InOrder,
+    Attribute::ByPriority,
+    Attribute::Single,
+    Attribute::Many,
+    Attribute::Clear,
+];
+
+pub const STARTED_CYCLIC: [Attribute; 2] = [Attribute::Null, Attribute::Start];
+
+pub const PLAIN: [Attribute; 1] = [Attribute::Null];
 
 impl StatementName {
-    ghost use Rattle.std.specs.Prelude.{◌≡◌, ◌≤◌, length};
-    ghost use Rattle.fmp_statements.specs.Table.{text_of, shapes_of, kinds_of};
-
-    /// The kinds of the fields between the braces of a statement that creates an object.
-    pub fn kinds(self) -> &'static [FieldKind]
-        ensures kinds { result.now ≡ kinds_of self }
-        ensures few { length result.now ≤ MOST_FIELDS }
-    {
-        match self {
-            StatementName::Processors | StatementName::DefClass | StatementName::Class => &[],
-            StatementName::CreTsk => &KINDS_OF_CRE_TSK,
-        }
-    }
+    ghost use Rattle.std.specs.Prelude.{◌≡◌};
+    ghost use Rattle.fmp_statements.specs.Table as spec;
 
     /// The statement's word.
     pub fn text(self) -> &'static [u8]
-        ensures { result.now ≡ text_of self }
+        ensures { result.now ≡ spec.text_of self }
     {
         match self {
+            StatementName::Include => b"INCLUDE",
             StatementName::Processors => b"PROCESSORS",
+            StatementName::Timer => b"TIMER",
+            StatementName::Limits => b"LIMITS",
             StatementName::DefClass => b"DEF_CLASS",
             StatementName::Class => b"CLASS",
-            StatementName::CreTsk => b"CRE_TSK",
+            StatementName::Create(ObjectKind::Task) => b"CRE_TSK",
+            StatementName::Create(ObjectKind::Semaphore) => b"CRE_SEM",
+            StatementName::Create(ObjectKind::Eventflag) => b"CRE_FLG",
+            StatementName::Create(ObjectKind::DataQueue) => b"CRE_DTQ",
+            StatementName::Create(ObjectKind::Pool) => b"CRE_MPF",
+            StatementName::Create(ObjectKind::Cyclic) => b"CRE_CYC",
+            StatementName::Create(ObjectKind::Alarm) => b"CRE_ALM",
+            StatementName::Create(ObjectKind::SpinLock) => b"CRE_SPN",
         }
     }
 
     /// The parts that follow the word.
-    pub fn shapes(self) -> &'static [Shape]
-        ensures shapes { result.now ≡ shapes_of self }
-        ensures few { length result.now ≤ MOST_SHAPES }
+    pub fn parts(self) -> &'static [Part]
+        ensures { result.now ≡ spec.parts_of self }
     {
         match self {
-            StatementName::Processors => &OF_PROCESSORS,
-            StatementName::DefClass => &OF_DEF_CLASS,
-            StatementName::Class => &OF_CLASS,
-            StatementName::CreTsk => &OF_CRE_TSK,
+            StatementName::Include => &INCLUDE,
+            StatementName::Processors => &PROCESSORS,
+            StatementName::Timer => &TIMER,
+            StatementName::Limits => &LIMITS,
+            StatementName::DefClass => &DEF_CLASS,
+            StatementName::Class => &CLASS,
+            StatementName::Create(ObjectKind::Task) => &TASK,
+            StatementName::Create(ObjectKind::Semaphore) => &SEMAPHORE,
+            StatementName::Create(ObjectKind::Eventflag) => &EVENTFLAG,
+            StatementName::Create(ObjectKind::DataQueue) => &DATA_QUEUE,
+            StatementName::Create(ObjectKind::Pool) => &POOL,
+            StatementName::Create(ObjectKind::Cyclic) => &CYCLIC,
+            StatementName::Create(ObjectKind::Alarm) => &ALARM,
+            StatementName::Create(ObjectKind::SpinLock) => &SPIN_LOCK,
+        }
+    }
+
+    /// The range of the first number, where the statement has one, on so many processors and with so many priorities.
+    pub fn first_range(self, processors: u8, priorities: u8) -> Option<Range>
+        ensures { result ≡ spec.first_range self processors priorities }
+    {
+        match self {
+            StatementName::Include | StatementName::Class => None,
+            StatementName::Processors => from_to(1, 8),
+            StatementName::Timer => from_to(1, u64::from(processors)),
+            StatementName::Limits => from_to(1, 255),
+            StatementName::DefClass => from_to(0, u64::MAX),
+            StatementName::Create(ObjectKind::Task) => from_to(1, u64::from(priorities)),
+            StatementName::Create(ObjectKind::Semaphore) => from_to(0, u64::MAX),
+            StatementName::Create(ObjectKind::Eventflag) => from_to(0, 4_294_967_295),
+            StatementName::Create(ObjectKind::DataQueue) => from_to(0, 1024),
+            StatementName::Create(ObjectKind::Pool) => from_to(1, 64),
+            StatementName::Create(ObjectKind::Cyclic) => from_to(1, 2_147_483_647),
+            StatementName::Create(ObjectKind::Alarm | ObjectKind::SpinLock) => None,
+        }
+    }
+
+    /// The range of the second number, where the statement has one.
+    pub fn second_range(self) -> Option<Range>
+        ensures { result ≡ spec.second_range self }
+    {
+        match self {
+            StatementName::Limits => from_to(16, 32),
+            StatementName::Create(ObjectKind::Semaphore) => from_to(1, 65_535),
+            StatementName::Create(ObjectKind::Cyclic) => from_to(0, 2_147_483_647),
+            _ => None,
         }
     }
 }
 
+fn from_to(least: u64, most: u64) -> Option<Range>
+    ensures { result ≡ spec.from_to least most }
+{
+    Some(Range { least, most })
+}
+
+/// The attributes that a statement allows which creates such an object.
+pub fn allowed(kind: ObjectKind) -> &'static [Attribute]
+    ensures { result.now ≡ spec.allowed_of kind }
+{
+    match kind {
+        ObjectKind::Task => &STARTED_TASK,
+        ObjectKind::Semaphore | ObjectKind::DataQueue | ObjectKind::Pool => &ORDERED,
+        ObjectKind::Eventflag => &FLAGGED,
+        ObjectKind::Cyclic => &STARTED_CYCLIC,
+        ObjectKind::Alarm | ObjectKind::SpinLock => &PLAIN,
+    }
+}
+
 /// The statement of this word.
+#[tactic(auto, unfolding(crate::specs::Table::statement_of))]
 pub fn find_statement(word: &[u8]) -> Option<StatementName>
-    ensures { result ≡ find (λ name. bytes_eq (spec.text_of name) word.now) STATEMENT_NAMES }
+    ensures { result ≡ spec.statement_of word.now }
 {
     STATEMENT_NAMES
         .iter()
         .copied()
         .find(|name| name.text() == word)
-}
-
-/// The statement that begins with the first token.
-#[tactic(auto, unfolding(crate::specs::Table::statement_name))]
-pub fn statement_name(tokens: &[Token<'_>]) -> Result<StatementName, Fault>
-    ensures { result ≡ spec.statement_name tokens.now }
-{
-    if !is_word_next(tokens) {
-        return Err(fault_at(ConfigKind::Syntax, tokens));
-    }
-    find_statement(first_text(tokens)).ok_or(fault_at(ConfigKind::Unsupported, tokens))
-}
-
-/// The form of the statement that begins with the first token. Its parts count from the second token on.
-#[tactic(auto, unfolding(crate::specs::Table::form_in))]
-pub fn form_in(name: StatementName, tokens: &[Token<'_>], end: End) -> Result<Form, Fault>
-    ensures value { result ≡ spec.form_in name tokens.now end }
-    ensures form { IfOk result (λ f. f ≡ form_of 0 (spec.shapes_of name) (after_first tokens.now)) }
-    ensures fits { IfOk result (λ f. f.fits ≡ true) }
-{
-    let behind = after_first(tokens);
-    let form = form_of(name.shapes(), behind);
-    if form.fits() {
-        Ok(form)
-    } else {
-        Err(misfit(tokens, form.rest(behind), end))
-    }
 }

@@ -1,4 +1,4 @@
-use Rattle.fmp_config_laws.proofs.Confirmed.{config_was}
+use Rattle.fmp_config_laws.proofs.Configured.{config_was}
 use Rattle.fmp_config_laws.proofs.laws.read_texts_configure.Goals as goal
 
 pub returns : goal.returns

@@ -1,0 +1,34 @@
+-- What was read of a configuration.
+use Rattle.std.specs.Prelude.{Bool, true, false, Option, None}
+use Rattle.fmp_config.specs.declared.draft.OpenClass.{OpenClass}
+use Rattle.fmp_config.specs.declared.draft.Phase.{Phase}
+use Rattle.fmp_config.specs.declared.draft.Phase.TheVariants as phases
+use Rattle.fmp_config.specs.declared.draft.Draft.{Draft as Drafted}
+use Rattle.fmp_machine.specs.Building.{of_processors}
+use Rattle.fmp_machine.specs.Parts.{setup_of}
+use Rattle.fmp_machine.specs.Setup.{Setup}
+
+-- the configuration so far, the class whose statements follow, how far the text has come, and which statements stood
+pub record Draft : Type 0 where
+  pub setup : Setup
+  pub open_class : Option OpenClass
+  pub phase : Phase
+  pub timer_stood : Bool
+  pub limits_stood : Bool
+
+abbrev pub draft_of : Drafted → Draft
+draft_of d = record { setup = setup_of d.parts; open_class = d.open_class; phase = d.phase; timer_stood = d.timer_stood; limits_stood = d.limits_stood }
+
+-- before the first statement
+abbrev pub blank_draft : Draft
+blank_draft = record { setup = of_processors 1; open_class = None; phase = phases.Start; timer_stood = false; limits_stood = false }
+
+-- before the number of processors
+abbrev pub is_start : Phase → Bool
+is_start phases.Start = true
+is_start _ = false
+
+-- behind the head of the first class
+abbrev pub is_body : Phase → Bool
+is_body phases.Body = true
+is_body _ = false
