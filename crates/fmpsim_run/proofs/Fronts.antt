@@ -6,12 +6,13 @@ use Rattle.std.proofs.lemmas.List.{append-nil}
 use Rattle.fmp_codes.specs.declared.records.Event.{Event}
 use Rattle.fmp_text.specs.Limits.{most_bytes as MOST_EVENT_BYTES}
 use Rattle.fmp_text.specs.declared.fault.TextKind.TheVariants as text_kind
-use Rattle.fmp_text.specs.Names.{NameLists}
+use Rattle.fmp_names.specs.Names.{NameLists}
 use Rattle.fmp_text.specs.Events.{reading_of, faultless, fault_at}
 use Rattle.fmp_statements.specs.declared.fault.ConfigKind.TheVariants as config_kind
+use Rattle.fmp_statements.specs.Faults.{fault_of_line}
 use Rattle.fmp_config.specs.Limits.{most_bytes as MOST_CONFIG_BYTES}
 use Rattle.fmp_machine.specs.Setup.{Setup}
-use Rattle.fmp_config.specs.Statements.{config_in}
+use Rattle.fmp_config.specs.Reading.{config_in}
 
 -- any function of a text that answers one thing past the limit
 same : {A : Type 0} (limit : ℕ) (f : List ℕ → A) (past : A) → ((text : List ℕ) → limit < length text → f text ≡ past)
@@ -28,7 +29,7 @@ same limit f past gives all text rest split whole = go (nat_lt limit (length tex
 pub config_in-front : (all text rest : List ℕ) → all ≡ text ++ rest → (length text ≤ MOST_CONFIG_BYTES → rest ≡ []) → config_in all ≡ config_in text
 unfolding config_in
 config_in-front all text rest split whole =
-    same MOST_CONFIG_BYTES config_in (Err (record { kind = config_kind.TooMany; line = 0; left = 0 })) (λ t long. rw (lt-ltb MOST_CONFIG_BYTES (length t) long) refl) all text rest split whole
+    same MOST_CONFIG_BYTES config_in (Err (fault_of_line config_kind.TooMany 0)) (λ t long. rw (lt-ltb MOST_CONFIG_BYTES (length t) long) refl) all text rest split whole
 
 pub reading_of-front : (names : NameLists) (all text rest : List ℕ) → all ≡ text ++ rest → (length text ≤ MOST_EVENT_BYTES → rest ≡ []) →
     reading_of names all ≡ reading_of names text

@@ -1,27 +1,27 @@
 -- The trace that answers some events is checked with yes.
-use Rattle.std.proofs.Common.{◌≡◌, ℕ, ◌≤◌, List, length, Ok, subst}
-use Rattle.fmp_config.specs.Statements.{config_in}
+use Rattle.std.proofs.Common.{◌≡◌, ℕ, ◌≤◌, List, length, subst}
 use Rattle.fmp_machine.specs.Boot.{booted}
 use Rattle.fmp_machine.specs.Numbers.{numbered}
 use Rattle.fmp_machine.specs.Setup.{Setup}
 use Rattle.fmp_machine.specs.Step.{answers}
 use Rattle.fmp_machine.specs.Valid.{IsValid}
 use Rattle.fmp_text.proofs.Limited.{reading_on, reading_in_bits}
-use Rattle.fmp_text.proofs.SpelledTexts.{text_is_spelled}
-use Rattle.fmp_text.specs.Events.{reading_of, faultless}
-use Rattle.fmp_text.specs.Names.{AreValid}
+use Rattle.fmp_text.proofs.SpelledTexts.{reading_of-spelled}
+use Rattle.fmp_text.specs.TextGrammar.{SpellsText}
+use Rattle.fmp_names.specs.Names.{AreValid}
 use Rattle.fmp_text.specs.Limits.{most_bytes as MOST_BYTES}
 use Rattle.fmp_trace.specs.Checking.{PrintsAnswers}
 use Rattle.fmp_trace.specs.Lines.{lines_from}
-use Rattle.fmpsim_run.specs.Runs.{Answered}
+use Rattle.fmpsim_run.specs.Runs.{Answered, SaysConfig}
+use Rattle.fmpsim_run.proofs.Grammars.{one_config}
 
 -- the trace that answers a list of events prints what this machine answers to them
-pub answered_prints : (config_text event_text trace : List ℕ) (c : Setup) → config_in config_text ≡ Ok c → IsValid c → AreValid c.names → (a : Answered config_text event_text trace) → length trace ≤ MOST_BYTES →
+pub answered_prints : (config_text event_text trace : List ℕ) (c : Setup) → SaysConfig config_text c → IsValid c → AreValid c.names → (a : Answered config_text event_text trace) → length trace ≤ MOST_BYTES →
     PrintsAnswers c trace a.events
 answered_prints config_text event_text trace c is valid names_valid a short =
-    let same : a.config ≡ c = let other = a.configures in cc in
-    let lists = subst (λ (s : Setup). reading_of s.names event_text ≡ faultless a.events) same a.lists in
-    let spelled = text_is_spelled c.names event_text a.events lists in
+    let same : a.config ≡ c = one_config config_text a.config c a.says is in
+    let spelled = subst (λ (s : Setup). SpellsText s.names event_text a.events) same a.lists in
+    let lists = reading_of-spelled c.names event_text a.events names_valid spelled in
     record {
       on = rw (← valid.same_processors) (reading_on c.names event_text a.events lists);
       in_bits = reading_in_bits c.names event_text a.events names_valid lists;

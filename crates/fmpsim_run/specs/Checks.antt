@@ -1,9 +1,8 @@
 -- What a run that checks a trace does.
 use Rattle.std.specs.Prelude.{◌≡◌, ◌⊎◌, ℕ, List, ◌++◌, Result, Ok, Err, codes, decimal}
 use Rattle.fmp_text.specs.Events.{IsMemory}
-use Rattle.fmp_text.specs.Names.{NameLists}
+use Rattle.fmp_names.specs.Names.{NameLists}
 use Rattle.fmp_statements.specs.declared.fault.ConfigKind.TheVariants as config_kind
-use Rattle.fmp_config.specs.Statements.{config_in}
 use Rattle.fmp_machine.specs.Setup.{Setup}
 use Rattle.fmp_trace.specs.declared.checking.Verdict.{Verdict}
 use Rattle.fmp_trace.specs.declared.checking.Verdict.TheVariants.{Yes, No}
@@ -12,6 +11,7 @@ use Rattle.fmp_trace.specs.Prints.{FirstFault}
 use Rattle.fmpsim_run.specs.declared.fault.RunFault.{RunFault}
 use Rattle.fmpsim_run.specs.declared.fault.RunFault.TheVariants as run
 use Rattle.fmpsim_run.specs.Devices.{BeginsWith}
+use Rattle.fmpsim_run.specs.Runs.{SaysConfig}
 
 -- a verdict as it is written
 abbrev pub verdict_text : Verdict → List ℕ
@@ -21,7 +21,7 @@ verdict_text (No n) = codes "no " ++ decimal n ++ codes "\n"
 -- the verdict on a trace, by the answers of the one text's machine to the events of the other
 pub record Checked (config_text trace_text : List ℕ) (verdict : Verdict) : Type 0 where
   pub config : Setup
-  pub configures : config_in config_text ≡ Ok config
+  pub says : SaysConfig config_text config
   pub judges : Judges config trace_text verdict
 
 -- yes, or a fault that neither text has: a read or a write that failed, or want of memory
@@ -43,5 +43,5 @@ IsFirstOfTrace names text other = Unit {0}
 -- the same, for the names of a right configuration
 abbrev pub FirstTraceFault : List ℕ → List ℕ → RunFault → Type 0
 FirstTraceFault config_text trace_text (run.Text fault) =
-    (config : Setup) × (config_in config_text ≡ Ok config) × IsFirstOfTrace config.names trace_text (run.Text fault)
+    (config : Setup) × SaysConfig config_text config × IsFirstOfTrace config.names trace_text (run.Text fault)
 FirstTraceFault config_text trace_text other = Unit {0}

@@ -1,10 +1,12 @@
 -- What a run over a configuration and events does.
-use Rattle.std.specs.Prelude.{◌≡◌, ℕ, ◌+◌, ◌≤◌, List, ◌++◌, Result, Ok, if◌then◌else◌}
+use Rattle.std.specs.Prelude.{◌≡◌, ℕ, ◌+◌, ◌≤◌, List, ◌++◌, length, Result, if◌then◌else◌}
 use Rattle.fmp_codes.specs.declared.records.Event.{Event}
-use Rattle.fmp_text.specs.Events.{IsFirst, reading_of, faultless}
-use Rattle.fmp_text.specs.Names.{NameLists}
-use Rattle.fmp_config.specs.Statements.{config_in}
+use Rattle.fmp_text.specs.Events.{IsFirst, reading_of}
+use Rattle.fmp_text.specs.TextGrammar.{SpellsText}
+use Rattle.fmp_names.specs.Names.{NameLists}
+use Rattle.fmp_config.specs.Limits.{most_bytes}
 use Rattle.fmp_config.specs.Faults.{IsFirstFault}
+use Rattle.fmp_config_laws.specs.Grammar.{Configures}
 use Rattle.fmp_machine.specs.Setup.{Setup}
 use Rattle.fmp_machine.specs.Boot.{booted}
 use Rattle.fmp_machine.specs.Numbers.{numbered}
@@ -16,12 +18,17 @@ use Rattle.fmpsim_run.specs.declared.fault.RunFault.TheVariants as run
 use Rattle.fmpsim_run.specs.Devices.{BeginsWith}
 use Rattle.fmpsim_run.specs.Faults.{failed_read}
 
+-- a text of a configuration, within the limit
+pub record SaysConfig (text : List ℕ) (config : Setup) : Type 0 where
+  pub configures : Configures text config
+  pub short : length text ≤ most_bytes
+
 -- the output is the trace of the one text's machine over the other's events, and every front of these leads to a safe state
 pub record Answered (config_text event_text output : List ℕ) : Type 0 where
   pub config : Setup
   pub events : List Event
-  pub configures : config_in config_text ≡ Ok config
-  pub lists : reading_of config.names event_text ≡ faultless events
+  pub says : SaysConfig config_text config
+  pub lists : SpellsText config.names event_text events
   pub prints : output ≡ lines_from config.names 1 (answers numbered (booted config) events)
   pub safe : IsSafeThroughout (booted config) events
 
@@ -46,7 +53,7 @@ FirstEventFault names text other = Unit {0}
 -- the same, for the names of a right configuration
 abbrev pub FirstTextFault : List ℕ → List ℕ → RunFault → Type 0
 FirstTextFault config_text event_text (run.Text fault) =
-    (config : Setup) × (config_in config_text ≡ Ok config) × FirstEventFault config.names event_text (run.Text fault)
+    (config : Setup) × SaysConfig config_text config × FirstEventFault config.names event_text (run.Text fault)
 FirstTextFault config_text event_text other = Unit {0}
 
 -- of two readers one read failed where the run ended so, and else none

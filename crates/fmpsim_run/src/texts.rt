@@ -1,10 +1,9 @@
 //! Reading the two texts of a run, and judging them.
-ghost use Rattle.std.specs.Prelude.{◌≡◌, ◌+◌, ◌-◌, ◌≤◌, ◌^◌, ◌<◌, [], IsTrue, OnOk, IfOk, IfErr, Ok, false, vec_len, if◌then◌else◌};
-ghost use Rattle.fmp_config.specs.Statements.{config_in};
-ghost use Rattle.fmp_text.specs.Events.{reading_of, faultless};
+ghost use Rattle.std.specs.Prelude.{◌≡◌, ◌+◌, ◌-◌, ◌≤◌, ◌^◌, ◌<◌, [], IsTrue, OnOk, IfOk, IfErr, false, vec_len, if◌then◌else◌};
+ghost use Rattle.fmp_text.specs.TextGrammar.{SpellsText};
 ghost use Rattle.fmp_codes.specs.Records.{AreOn};
 ghost use Rattle.fmpsim_run.specs.Faults.{failed_read, is_config, is_text, is_write};
-ghost use Rattle.fmpsim_run.specs.Runs.{FirstConfigFault, FirstEventFault};
+ghost use Rattle.fmpsim_run.specs.Runs.{FirstConfigFault, FirstEventFault, SaysConfig};
 
 use crate::fault::RunFault;
 use crate::source::Source;
@@ -17,7 +16,7 @@ use std::alloc::Global;
 /// Reads a configuration to its end, and judges it.
 pub fn config_from<R: Source>(alloc: Global, source: &mut R) -> Result<Config, RunFault>
     requires { R.failures source.old < 2 ^ 64 - 1 }
-    ensures ok { IsTrue R.tells → IfOk result (λ config. config_in (R.left source.old) ≡ Ok config) }
+    ensures ok { IsTrue R.tells → IfOk result (λ config. SaysConfig (R.left source.old) config) }
     ensures read { IsTrue R.tells → OnOk result (R.left source.new ≡ []) }
     ensures fault { IsTrue R.tells → IfErr result (FirstConfigFault (R.left source.old)) }
     ensures kinds { IfErr result (λ fault. (is_text fault ≡ false) × (is_write fault ≡ false)) }
@@ -37,7 +36,7 @@ pub fn events_from<S: Source>(
     source: &mut S,
 ) -> Result<Vec<Event>, RunFault>
     requires { S.failures source.old < 2 ^ 64 - 1 }
-    ensures ok { IsTrue S.tells → IfOk result (λ events. reading_of names.now (S.left source.old) ≡ faultless events.items) }
+    ensures ok { IsTrue S.tells → IfOk result (λ events. SpellsText names.now (S.left source.old) events.items) }
     ensures few { IfOk result (λ events. vec_len events ≤ 1000000) }
     ensures on { IfOk result (λ events. AreOn names.now.processors events.items) }
     ensures read { IsTrue S.tells → OnOk result (S.left source.new ≡ []) }

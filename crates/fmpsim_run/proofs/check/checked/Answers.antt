@@ -1,7 +1,14 @@
 use Rattle.std.proofs.Common.{subst}
-use Rattle.fmp_text.specs.Names.{AreValid}
+use Rattle.std.proofs.lemmas.Result.{err_from_is_err_and}
+use Rattle.fmp_names.specs.Names.{AreValid}
 use Rattle.fmpsim_run.proofs.Yes.{answered_prints}
+use Rattle.fmpsim_run.proofs.Grammars.{only_memory}
 use Rattle.fmpsim_run.proofs.check.checked.Goals as goal
+
+pub returns-in_err-configuration-clause-answers : goal.returns-in_err-configuration-clause-answers
+returns-in_err-configuration-clause-answers g c = λ tells tells_too event_text answered short.
+    let p = err_from_is_err_and c.from_residual.result c.from_residual.ensures.1 in
+    rw (p.1, p.2) (only_memory _ answered.config c.in_err-configuration.field-0.0 answered.says (c.in_err-configuration.ensures.fault tells) c.in_err-configuration.ensures.kinds.0)
 
 pub returns-clause-answers : goal.returns-clause-answers
 returns-clause-answers g c = λ tells tells_too event_text answered short.

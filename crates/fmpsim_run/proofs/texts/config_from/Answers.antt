@@ -1,14 +1,15 @@
 use Rattle.std.proofs.Common.{◌∙◌, ap, sym, subst}
-use Rattle.fmp_config.specs.Statements.{config_in}
+use Rattle.fmp_config.specs.Reading.{config_in}
 use Rattle.fmp_config.specs.Faults.{IsFirstFault}
 use Rattle.fmp_config.proofs.Fronts.{IsFirstFault-front}
 use Rattle.fmpsim_run.proofs.Fronts.{config_in-front, config_in-ok}
+use Rattle.fmpsim_run.proofs.Grammars.{said}
 use Rattle.fmpsim_run.proofs.texts.config_from.Goals as goal
 
 pub returns-in-Ok-clause-ok : goal.returns-in-Ok-clause-ok
 returns-in-Ok-clause-ok g c = λ tells.
     let read = c.in_ok-text.ensures.ok tells in
-    config_in-front _ _ _ read.front read.whole ∙ ap config_in (sym c.as_slice.ensures.value) ∙ c.in-Ok.ensures.exact
+    said _ _ (config_in-front _ _ _ read.front read.whole ∙ ap config_in (sym c.as_slice.ensures.value) ∙ c.in-Ok.ensures.exact)
 
 pub returns-in-Ok-clause-read : goal.returns-in-Ok-clause-read
 returns-in-Ok-clause-read g c = λ tells.

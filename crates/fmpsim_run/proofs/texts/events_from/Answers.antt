@@ -1,4 +1,5 @@
 use Rattle.std.proofs.Common.{◌∙◌, ap, sym, subst}
+use Rattle.fmp_text.proofs.SpelledTexts.{text_is_spelled}
 use Rattle.fmp_text.specs.Events.{IsFirst, Reading, reading_of}
 use Rattle.fmpsim_run.proofs.Fronts.{reading_of-front, reading_of-ok}
 use Rattle.fmpsim_run.proofs.texts.events_from.Goals as goal
@@ -6,7 +7,7 @@ use Rattle.fmpsim_run.proofs.texts.events_from.Goals as goal
 pub returns-in-Ok-clause-ok : goal.returns-in-Ok-clause-ok
 returns-in-Ok-clause-ok g c = λ tells.
     let read = c.in_ok-text.ensures.ok tells in
-    reading_of-front c.args.names.now _ _ _ read.front read.whole ∙ ap (reading_of c.args.names.now) (sym c.as_slice.ensures.value) ∙ c.in-Ok.ensures.ok
+    text_is_spelled c.args.names.now _ _ (reading_of-front c.args.names.now _ _ _ read.front read.whole ∙ ap (reading_of c.args.names.now) (sym c.as_slice.ensures.value) ∙ c.in-Ok.ensures.ok)
 
 pub returns-in-Ok-clause-read : goal.returns-in-Ok-clause-read
 returns-in-Ok-clause-read g c = λ tells.
