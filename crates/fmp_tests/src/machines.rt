@@ -33,7 +33,9 @@ CLASS(C2) {
 /// Adds a name where it may be added, and tells whether it may.
 fn add(names: &mut Names, kind: NameKind, name: &[u8]) -> Result<bool, Fail> {
     let taken = match kind {
-        NameKind::Object(_) => is_reserved(name) || names.contains_object(name),
+        NameKind::Object(_) => {
+            is_reserved(name) || names.contains_object(name) || names.contains_defined(name)
+        }
         NameKind::Function => names.contains_function(name),
     };
     if taken || !is_name(name) || !names.has_room(kind) {

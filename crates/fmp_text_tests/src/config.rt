@@ -1,28 +1,14 @@
+//! What the text of a configuration says: its numbers, classes, objects and names.
+use crate::answers::{INSIDE, TIMED, WHOLE, all_are_accepted, joined};
 use fmp_calls::{NameKind, ObjectKind};
 use fmp_codes::{Pri, Proc};
-use fmp_config::{ConfigFault, ConfigKind, read_config};
+use fmp_config::{Config, read_config};
+use fmp_machine::{
+    AlarmSetup, Class, CyclicSetup, DataQueueSetup, EventflagSetup, Limits, NamedClass, Order,
+    PoolSetup, SemaphoreSetup, TaskSetup, Timer,
+};
 use std::alloc::{AllocError, Global};
-use std::process::Abort;
 use std::test::Fail;
-
-/// A text, with the kind, the line and the word of its first fault.
-type Refused = (&'static [u8], ConfigKind, u32, &'static str);
-
-fn has_word(fault: &ConfigFault, word: &str) -> bool {
-    fault.word.as_str() == word
-}
-
-/// Whether the first fault of a text is of this kind, in this line and with this word.
-fn is_refused(alloc: Global, text: &[u8], kind: ConfigKind, line: u32, word: &str) -> bool {
-    let Err(fault) = read_config(alloc, text) else {
-        return false;
-    };
-    fault.kind == kind && fault.line == line && has_word(&fault, word)
-}
-
-fn is_accepted(alloc: Global, text: &[u8]) -> bool {
-    read_config(alloc, text).is_ok()
-}
 
 const MACHINE: &[u8] = b"PROCESSORS(2);
 DEF_CLASS(C1, 1, {1, 2});
@@ -33,311 +19,429 @@ CLASS(C1) {
 }
 ";
 
+/// Every statement, with defined names, comments and a directive that is skipped.
+const EVERYTHING: &[u8] = b"#include <kernel.h> /* the kernel's
+   own names */
+INCLUDE(\"target.cfg\");
+#define PERIOD 100 // ticks
+#define MOST   0xFFFF
+PROCESSORS(3);
+LIMITS(255, 32);
+DEF_CLASS(ALL, 1, {1, 2, 3});
+TIMER(GLOBAL, 2);
+DEF_CLASS(SECOND, 2, {2, 2});
+CLASS(SECOND) {
+  CRE_TSK(T1, {TA_NULL, 0, main, 32, 4096, NULL});
+  CRE_CYC(Y1, {TA_STA, 0, main, PERIOD, 0});
+  CRE_CYC(Y2, {TA_NULL, 0, handler, 2147483647, 2147483647});
+  INCLUDE(\"more.cfg\");
+  CRE_ALM(A1, {TA_NULL, 0, alarm});
+  CRE_ALM(A2, {TA_NULL, 0, handler});
+}
+DEF_CLASS(THIRD, 3, {1, 3});
+CLASS(ALL) {
+  CRE_TSK(T2, {TA_ACT, 0, other, 0x1, STACK_SIZE(2, 3), \"}\"});
+  CRE_SEM(S1, {TA_NULL, 0, 1});
+  CRE_SEM(S2, {TA_TPRI, MOST, MOST});
+  CRE_FLG(F1, {TA_TPRI|TA_WMUL|TA_CLR, 0xffffFFFF});
+  CRE_FLG(F2, {TA_TFIFO|TA_WSGL, 0});
+  CRE_DTQ(D1, {TA_TPRI, 1024, NULL});
+  CRE_DTQ(D2, {TA_TFIFO, 0, NULL});
+  CRE_MPF(M1, {TA_TFIFO, 1, 16, NULL, NULL});
+  CRE_MPF(M2, {TA_TPRI, 64, sizeof(struct block), NULL, NULL});
+  CRE_SPN(L1, {TA_NULL}); CRE_SPN(L2, {TA_NULL}); CRE_SPN(L3, {TA_NULL});
+}
+CLASS(ALL) {}
+CLASS(THIRD) { CRE_TSK(T3, {TA_NULL|TA_ACT, 0, main, 16, 0, 0}); }
+";
+
+fn read(alloc: Global, text: &[u8]) -> Result<Config, Fail> {
+    match read_config(alloc, text) {
+        Ok(config) => Ok(config),
+        Err(fault) => Err(format!(in alloc; "{fault}")?)?,
+    }
+}
+
+fn everything(alloc: Global) -> Result<Config, Fail> {
+    read(alloc, EVERYTHING)
+}
+
+/// A class of up to three processors.
+fn class(initial: Proc, first: bool, second: bool, third: bool) -> Class {
+    let mut members = [false; 8];
+    members[0] = first;
+    members[1] = second;
+    members[2] = third;
+    Class { initial, members }
+}
+
+fn all() -> Class {
+    class(Proc::new(1), true, true, true)
+}
+
+fn second() -> Class {
+    class(Proc::new(2), false, true, false)
+}
+
+fn third() -> Class {
+    class(Proc::new(3), true, false, true)
+}
+
+fn is_class(named: &NamedClass, name: &[u8], class: Class) -> bool {
+    named.name.as_slice() == name && named.class == class
+}
+
 #[test]
-fn the_machine_is_what_the_text_says(rt: HostRuntime) -> Result<(), Fail> {
-    let Ok(config) = read_config(rt.alloc(), MACHINE) else {
-        return Err("the machine is refused".into());
-    };
-    assert_eq!(rt; config.processors(), 2);
-    assert_eq!(rt; config.classes().len(), 3);
-    let initials = [Proc::new(1), Proc::new(2), Proc::new(1)];
-    for (index, class) in config.classes().iter().enumerate() {
-        assert_eq!(rt; class.class.initial, initials[index % 3]);
-        assert!(rt; class.class.members[0]);
-        assert_eq!(rt; class.class.members[1], index < 2);
-        assert!(rt; !class.class.members[2]);
-    }
-    assert_eq!(rt; config.tasks().len(), 1);
-    for task in config.tasks() {
-        assert_eq!(rt; task.class.initial, Proc::new(1));
-        assert!(rt; task.starts);
-        assert_eq!(rt; task.main, 1);
-        assert_eq!(rt; task.priority, Pri::new(10));
-    }
-    let names = config.names();
-    assert_eq!(rt;
-        names.number(NameKind::Object(ObjectKind::Task), b"T1"),
-        Some(1)
+fn the_head_is_what_the_text_says(rt: HostRuntime) -> Result<(), Fail> {
+    let config = everything(rt.alloc())?;
+    assert_eq!(rt; config.processors(), 3);
+    assert_eq!(rt; config.names().processors(), 3);
+    assert!(rt; config.timer() == Timer::Global(Proc::new(2)));
+    let (wakeups, priorities) = (255, 32);
+    assert!(rt;
+        config.limits()
+            == Limits {
+                wakeups,
+                priorities
+            }
     );
-    assert_eq!(rt; names.number(NameKind::Function, b"main1"), Some(1));
-    assert_eq!(rt; names.processors(), 2);
+    let [first, other, last] = config.classes() else {
+        return Err("there are three classes".into());
+    };
+    assert!(rt; is_class(first, b"ALL", all()));
+    assert!(rt; is_class(other, b"SECOND", second()));
+    assert!(rt; is_class(last, b"THIRD", third()));
     Ok(())
 }
 
-const FAULTS: [Refused; 24] = [
-    (b"PROCESSORS(1]);", ConfigKind::Syntax, 1, ""),
-    (b"PROCESSORS(1)\nx;", ConfigKind::Syntax, 2, "x"),
-    (b"PROCESSORS(1);\n/* a */", ConfigKind::Syntax, 2, ""),
-    (b"PROCESSORS(1);\n;", ConfigKind::Syntax, 2, ""),
-    (b"PROCESSORS(1);\n}", ConfigKind::Syntax, 2, ""),
-    (b"PROCESSORS(\x80);", ConfigKind::Syntax, 1, ""),
-    (
-        b"PROCESSORS(1);\nDEF_CLASS(C1, 1, {});",
-        ConfigKind::Syntax,
-        2,
-        "",
-    ),
-    (
-        b"PROCESSORS(1);\nDEF_CLASS(C1, 1, {1});\nCLASS(C1) {\nCRE_TSK(T1, {TA_ACT, 0, main1,",
-        ConfigKind::CutShort,
-        4,
-        "",
-    ),
-    (
-        b"PROCESSORS(1);\nDEF_CLASS(C1, 1, {1});\nCLASS(C1) {\n\n",
-        ConfigKind::CutShort,
-        3,
-        "",
-    ),
-    (
-        b"PROCESSORS(1);\nDEF_CLASS(C1, 1, {1});\nCLASS(C1) {\nDEF_INH(5, {TA_NULL, hdr});\n}\n",
-        ConfigKind::Unsupported,
-        4,
-        "DEF_INH",
-    ),
-    (b"INCLUDE(\"a.h\");", ConfigKind::Unsupported, 1, "INCLUDE"),
-    (
-        b"PROCESSORS(1);\nCRE_SEM(S, {TA_NULL, 0, 1});",
-        ConfigKind::Unsupported,
-        2,
-        "CRE_SEM",
-    ),
-    (
-        b"PROCESSORS(1);\n\nCRE_TSK(T1, {TA_ACT, 0, main1, 10, 4096, NULL});",
-        ConfigKind::OutsideClass,
-        3,
-        "CRE_TSK",
-    ),
-    (
-        b"PROCESSORS(1);\nCLASS(\nC9) {}",
-        ConfigKind::UnknownClass,
-        3,
-        "C9",
-    ),
-    (
-        b"PROCESSORS(1);\nDEF_CLASS(C1, 1, {1});\nDEF_CLASS(\nC1, 1, {1});",
-        ConfigKind::NameTaken,
-        4,
-        "C1",
-    ),
-    (
-        b"PROCESSORS(1);\nDEF_CLASS(P1, 1, {1});",
-        ConfigKind::NameTaken,
-        2,
-        "P1",
-    ),
-    (b"PROCESSORS(\n9);", ConfigKind::OutOfRange, 2, ""),
-    (b"PROCESSORS(\nn);", ConfigKind::OutOfRange, 2, "n"),
-    (
-        b"PROCESSORS(1);\nDEF_CLASS(C1, 1, {1});\nCLASS(C1) { CRE_TSK(T1, {TA_NULL |\nTA_STA, 0, m, 1, 1, 1}); }",
-        ConfigKind::BadAttribute,
-        4,
-        "TA_STA",
-    ),
-    (
-        b"PROCESSORS(1);\nPROCESSORS(1);",
-        ConfigKind::TooMany,
-        2,
-        "PROCESSORS",
-    ),
-    (b"\nCLASS(C1) {", ConfigKind::NoProcessors, 2, "CLASS"),
-    (b"\n\n", ConfigKind::NoProcessors, 1, ""),
-    (
-        b"PROCESSORS(1);\nDEF_CLASS(C1, 1,\n{2});",
-        ConfigKind::BadClass,
-        2,
-        "",
-    ),
-    (
-        b"PROCESSORS(2);\nDEF_CLASS(C1,\n2, {1});",
-        ConfigKind::BadClass,
-        2,
-        "",
-    ),
-];
-
-/// Faults that compete in one statement, each pair in the order in which they are judged.
-const PAIRS: [Refused; 15] = [
-    // no identifier, before that it is not the number of processors
-    (b"\n;", ConfigKind::Syntax, 2, ""),
-    // an unknown statement, before that it is not the number of processors
-    (b"\nFOO;", ConfigKind::Unsupported, 2, "FOO"),
-    // not the number of processors, before it is outside a class
-    (b"\nCRE_TSK(", ConfigKind::NoProcessors, 2, "CRE_TSK"),
-    // a second number of processors, before its form
-    (
-        b"PROCESSORS(1);\nPROCESSORS\n]",
-        ConfigKind::TooMany,
-        2,
-        "PROCESSORS",
-    ),
-    // outside a class, before its form
-    (
-        b"PROCESSORS(1);\nCRE_TSK\n]",
-        ConfigKind::OutsideClass,
-        2,
-        "CRE_TSK",
-    ),
-    // no place in a class, before its form
-    (
-        b"PROCESSORS(1);\nDEF_CLASS(C1, 1, {1});\nCLASS(C1) {\nPROCESSORS\n]",
-        ConfigKind::Syntax,
-        4,
-        "PROCESSORS",
-    ),
-    // the form, before an unknown class
-    (b"PROCESSORS(1);\nCLASS(C9)\n;", ConfigKind::Syntax, 3, ""),
-    // the form, before a name that is taken
-    (
-        b"PROCESSORS(1);\nDEF_CLASS(P1, 1, {1})\n}",
-        ConfigKind::Syntax,
-        3,
-        "",
-    ),
-    // a name that is taken, before what is no number
-    (
-        b"PROCESSORS(1);\nDEF_CLASS(P1,\nx, {1});",
-        ConfigKind::NameTaken,
-        2,
-        "P1",
-    ),
-    // what is no number, also behind, before a processor that there is not
-    (
-        b"PROCESSORS(1);\nDEF_CLASS(C1, 2,\n{x});",
-        ConfigKind::OutOfRange,
-        3,
-        "x",
-    ),
-    // a name that is taken, before the fields
-    (
-        b"PROCESSORS(1);\nDEF_CLASS(C1, 1, {1});\nCLASS(C1) { CRE_TSK(\nC1,\n{TA_STA, 0, m, 1, 1, 1}); }",
-        ConfigKind::NameTaken,
-        4,
-        "C1",
-    ),
-    // the attributes, before the priority
-    (
-        b"PROCESSORS(1);\nDEF_CLASS(C1, 1, {1});\nCLASS(C1) { CRE_TSK(T1, {\nTA_STA, 0, m,\n17, 1, 1}); }",
-        ConfigKind::BadAttribute,
-        4,
-        "TA_STA",
-    ),
-    // a statement's fault, before a byte behind it that may not stand there
-    (b"PROCESSORS(9);\n\"", ConfigKind::OutOfRange, 1, ""),
-    // a byte that may not stand there, before the unfinished statement
-    (b"PROCESSORS(\n#", ConfigKind::Syntax, 2, ""),
-    // an unfinished statement, before the open class
-    (
-        b"PROCESSORS(1);\nDEF_CLASS(C1, 1, {1});\nCLASS(C1) {\nCRE_TSK(",
-        ConfigKind::CutShort,
-        4,
-        "",
-    ),
-];
-
-/// Numbers, free fields and blanks at the edges of what is allowed.
-const TEXTS: [&[u8]; 6] = [
-    b"PROCESSORS(8);",
-    b"PROCESSORS(0x08);",
-    b"PROCESSORS ( 1 ) ;\r\nDEF_CLASS(\tP, 0x1, {1, 1}); CLASS(P) {} CLASS(P) { }",
-    b"PROCESSORS(1); DEF_CLASS(C1, 1, {1}); CLASS(C1) { CRE_TSK(T1, {TA_ACT|TA_NULL, (a, (b)) ; x, idle, 16, 00, 1a|}); }",
-    b"PROCESSORS(1); DEF_CLASS(C1, 1, {1}); CLASS(C1) { CRE_TSK(T1, {TA_NULL, 0, T1, 0x1, 0, 0}); CRE_TSK(T2, {TA_NULL, 0, T1, 1, 0, 0}); }",
-    b"PROCESSORS(1); DEF_CLASS(aaaaaaaaaaaaaaaaaaaaaaaaaaaaaaaaaaaaaaaaaaaaaaaaaaaaaaaaaaaaaaaa, 1, {1});",
-];
-
-const EDGES: [Refused; 8] = [
-    (b"PROCESSORS(01);", ConfigKind::OutOfRange, 1, ""),
-    (b"PROCESSORS(0);", ConfigKind::OutOfRange, 1, ""),
-    (b"PROCESSORS(0x);", ConfigKind::OutOfRange, 1, ""),
-    (b"PROCESSORS(1a);", ConfigKind::OutOfRange, 1, ""),
-    (
-        b"PROCESSORS(1); DEF_CLASS(C1, 1, {1}); CLASS(C1) { CRE_TSK(T1, {TA_NULL, 0, m, 010, 0, 0}); }",
-        ConfigKind::OutOfRange,
-        1,
-        "",
-    ),
-    (
-        b"PROCESSORS(1); DEF_CLASS(C1, 1, {1}); CLASS(C1) { CRE_TSK(T1, {TA_NULL, 0, m, 17, 0, 0}); }",
-        ConfigKind::OutOfRange,
-        1,
-        "",
-    ),
-    (
-        b"PROCESSORS(1); DEF_CLASS(C1, 99999999999999999999999, {1});",
-        ConfigKind::BadClass,
-        1,
-        "",
-    ),
-    (
-        b"PROCESSORS(1); DEF_CLASS(aaaaaaaaaaaaaaaaaaaaaaaaaaaaaaaaaaaaaaaaaaaaaaaaaaaaaaaaaaaaaaaaa, 1, {1});",
-        ConfigKind::Syntax,
-        1,
-        "",
-    ),
-];
-
-fn are_refused(rt: &impl Abort, alloc: Global, rows: &[Refused]) {
-    for (text, kind, line, word) in rows {
-        assert!(rt; is_refused(alloc, *text, *kind, *line, *word), "{word}");
+fn task(class: Class, main: u8, priority: Pri, starts: bool) -> TaskSetup {
+    TaskSetup {
+        class,
+        main,
+        priority,
+        starts,
     }
 }
 
 #[test]
-fn faults_have_their_kind_line_and_word(rt: HostRuntime) {
-    are_refused(&rt, rt.alloc(), &FAULTS);
-    are_refused(&rt, rt.alloc(), &PAIRS);
-    are_refused(&rt, rt.alloc(), &EDGES);
+fn the_tasks_are_what_the_text_says(rt: HostRuntime) -> Result<(), Fail> {
+    let config = everything(rt.alloc())?;
+    let [first, other, last] = config.tasks() else {
+        return Err("there are three tasks".into());
+    };
+    assert!(rt; *first == task(second(), 1, Pri::new(32), false));
+    assert!(rt; *other == task(all(), 4, Pri::new(1), true));
+    assert!(rt; *last == task(third(), 1, Pri::new(16), true));
+    Ok(())
+}
+
+fn semaphore(order: Order, initial: u16, most: u16) -> SemaphoreSetup {
+    SemaphoreSetup {
+        order,
+        initial,
+        most,
+    }
+}
+
+fn eventflag(order: Order, many: bool, clears: bool, initial: u32) -> EventflagSetup {
+    EventflagSetup {
+        order,
+        many,
+        clears,
+        initial,
+    }
+}
+
+fn data_queue(order: Order, capacity: u16) -> DataQueueSetup {
+    DataQueueSetup { order, capacity }
+}
+
+fn pool(order: Order, blocks: u8) -> PoolSetup {
+    PoolSetup { order, blocks }
 }
 
 #[test]
-fn edges_are_accepted(rt: HostRuntime) {
-    for text in &TEXTS {
-        assert!(rt; is_accepted(rt.alloc(), *text));
+fn the_objects_are_what_the_text_says(rt: HostRuntime) -> Result<(), Fail> {
+    let config = everything(rt.alloc())?;
+    let (
+        [first_semaphore, second_semaphore],
+        [first_flag, second_flag],
+        [first_queue, second_queue],
+        [first_pool, second_pool],
+    ) = (
+        config.semaphores(),
+        config.eventflags(),
+        config.data_queues(),
+        config.pools(),
+    ) else {
+        return Err("there are two objects of each of these kinds".into());
+    };
+    assert!(rt; *first_semaphore == semaphore(Order::First, 0, 1));
+    assert!(rt; *second_semaphore == semaphore(Order::Priority, 65_535, 65_535));
+    assert!(rt; *first_flag == eventflag(Order::Priority, true, true, 4_294_967_295));
+    assert!(rt; *second_flag == eventflag(Order::First, false, false, 0));
+    assert!(rt; *first_queue == data_queue(Order::Priority, 1024));
+    assert!(rt; *second_queue == data_queue(Order::First, 0));
+    assert!(rt; *first_pool == pool(Order::First, 1));
+    assert!(rt; *second_pool == pool(Order::Priority, 64));
+    assert_eq!(rt; config.spin_locks(), 3);
+    Ok(())
+}
+
+fn cyclic(handler: u8, period: u32, phase: u32, starts: bool) -> CyclicSetup {
+    let class = second();
+    CyclicSetup {
+        class,
+        handler,
+        period,
+        phase,
+        starts,
     }
 }
 
-/// So many classes, and then so many tasks in the first, each on a line of its own behind the first line.
-fn listed(alloc: Global, classes: u32, tasks: u32) -> Result<Vec<u8>, AllocError> {
-    let mut text = Vec::from_slice(alloc, b"PROCESSORS(1);\n")?;
-    for number in 0..classes {
-        let line = format!(in alloc; "DEF_CLASS(C{number}, 1, {{1}});\n")?;
-        text.extend_from_slice(line.as_bytes())?;
-    }
-    text.extend_from_slice(b"CLASS(C0) {\n")?;
-    for number in 0..tasks {
-        let line = format!(in alloc; "CRE_TSK(T{number}, {{TA_NULL, 0, m{number}, 1, 0, 0}});\n")?;
-        text.extend_from_slice(line.as_bytes())?;
-    }
-    text.extend_from_slice(b"}\n")?;
-    Ok(text)
+fn alarm(handler: u8) -> AlarmSetup {
+    let class = second();
+    AlarmSetup { class, handler }
 }
 
 #[test]
-fn the_greatest_numbers_are_accepted(rt: HostRuntime) -> Result<(), Fail> {
+fn the_handlers_are_what_the_text_says(rt: HostRuntime) -> Result<(), Fail> {
+    let config = everything(rt.alloc())?;
+    let ([first, last], [one, other]) = (config.cyclics(), config.alarms()) else {
+        return Err("there are two handlers of each kind".into());
+    };
+    assert!(rt; *first == cyclic(1, 100, 0, true));
+    assert!(rt; *last == cyclic(2, 2_147_483_647, 2_147_483_647, false));
+    assert!(rt; *one == alarm(3));
+    assert!(rt; *other == alarm(2));
+    Ok(())
+}
+
+/// A name of a kind, and its number.
+type Numbered = (NameKind, &'static [u8], usize);
+
+const NUMBERED: [Numbered; 22] = [
+    (NameKind::Object(ObjectKind::Task), b"T1", 1),
+    (NameKind::Object(ObjectKind::Task), b"T2", 2),
+    (NameKind::Object(ObjectKind::Task), b"T3", 3),
+    (NameKind::Object(ObjectKind::Semaphore), b"S1", 1),
+    (NameKind::Object(ObjectKind::Semaphore), b"S2", 2),
+    (NameKind::Object(ObjectKind::Eventflag), b"F1", 1),
+    (NameKind::Object(ObjectKind::Eventflag), b"F2", 2),
+    (NameKind::Object(ObjectKind::DataQueue), b"D1", 1),
+    (NameKind::Object(ObjectKind::DataQueue), b"D2", 2),
+    (NameKind::Object(ObjectKind::Pool), b"M1", 1),
+    (NameKind::Object(ObjectKind::Pool), b"M2", 2),
+    (NameKind::Object(ObjectKind::Cyclic), b"Y1", 1),
+    (NameKind::Object(ObjectKind::Cyclic), b"Y2", 2),
+    (NameKind::Object(ObjectKind::Alarm), b"A1", 1),
+    (NameKind::Object(ObjectKind::Alarm), b"A2", 2),
+    (NameKind::Object(ObjectKind::SpinLock), b"L1", 1),
+    (NameKind::Object(ObjectKind::SpinLock), b"L2", 2),
+    (NameKind::Object(ObjectKind::SpinLock), b"L3", 3),
+    (NameKind::Function, b"main", 1),
+    (NameKind::Function, b"handler", 2),
+    (NameKind::Function, b"alarm", 3),
+    (NameKind::Function, b"other", 4),
+];
+
+#[test]
+fn names_count_in_the_order_of_the_text(rt: HostRuntime) -> Result<(), Fail> {
+    let config = everything(rt.alloc())?;
+    let names = config.names();
+    for (kind, name, number) in NUMBERED {
+        assert!(rt; names.number(kind, name) == Some(number));
+        assert!(rt; names.name(kind, number) == Some(name));
+    }
+    for (kind, name) in [
+        (NameKind::Object(ObjectKind::Task), b"S1".as_slice()),
+        (NameKind::Object(ObjectKind::Task), b"ALL".as_slice()),
+        (NameKind::Object(ObjectKind::Task), b"PERIOD".as_slice()),
+        (NameKind::Function, b"T1".as_slice()),
+        (NameKind::Function, b"STACK_SIZE".as_slice()),
+    ] {
+        assert!(rt; names.number(kind, name).is_none());
+    }
+    assert!(rt; names.defined(b"PERIOD") == Some(100));
+    assert!(rt; names.defined(b"MOST") == Some(65_535));
+    assert!(rt; names.defined(b"T1").is_none() && names.defined(b"NULL").is_none());
+    Ok(())
+}
+
+/// What is so where no statement says otherwise.
+fn is_plain(config: &Config) -> bool {
+    let (wakeups, priorities) = (1, 16);
+    config.timer() == Timer::Local
+        && config.limits()
+            == Limits {
+                wakeups,
+                priorities,
+            }
+}
+
+/// Whether a configuration is that of the machine.
+fn is_machine(config: &Config) -> bool {
+    let ([one, two, fixed], [only]) = (config.classes(), config.tasks()) else {
+        return false;
+    };
+    let first = class(Proc::new(1), true, true, false);
+    config.processors() == 2
+        && is_plain(config)
+        && is_class(one, b"C1", first)
+        && is_class(two, b"C2", class(Proc::new(2), true, true, false))
+        && is_class(fixed, b"FIX1", class(Proc::new(1), true, false, false))
+        && *only == task(first, 1, Pri::new(10), true)
+        && config.names().number(NameKind::Function, b"main1") == Some(1)
+}
+
+/// Fronts that say nothing of the machine behind them.
+const FRONTS: [&[u8]; 10] = [
+    b"",
+    b"#include <kernel.h> /* C comment */\n",
+    b"/* a\n */ #include \"a//b\"\n",
+    b"INCLUDE(\"\"); INCLUDE(\"a \\\" PROCESSORS(9);\n\x80\");",
+    b"// a \\\n/* \x80\0 // */\r\n\t",
+    b"#define CRE_TSK 5\n#define TA_ACT 6\n#define main1 7\n#define PROCESSORS 8\n",
+    b"#define P0 (1)\n#define idle\n# define TSK_SELF -1\n",
+    b"#define X 1\n#define X 0x001\n",
+    b"#include a \\\nPROCESSORS(1);\n",
+    b"#include a // b \\\nPROCESSORS(1);\n",
+];
+
+#[test]
+fn fronts_say_nothing(rt: HostRuntime) -> Result<(), Fail> {
     let alloc = rt.alloc();
-    assert!(rt; is_accepted(alloc, listed(alloc, 32, 64)?.as_slice()));
-    assert!(rt;
-        is_refused(
-            alloc,
-            listed(alloc, 33, 0)?.as_slice(),
-            ConfigKind::TooMany,
-            34,
-            "C32"
-        )
-    );
-    assert!(rt;
-        is_refused(
-            alloc,
-            listed(alloc, 1, 65)?.as_slice(),
-            ConfigKind::TooMany,
-            68,
-            "T64"
-        )
-    );
-    let mut text = Vec::from_slice(alloc, b"PROCESSORS(1);")?;
-    text.resize(1_048_576, b' ')?;
-    assert!(rt; is_accepted(alloc, text.as_slice()));
-    text.push(b' ')?;
-    assert!(rt; is_refused(alloc, text.as_slice(), ConfigKind::TooMany, 0, ""));
+    for front in FRONTS {
+        let text = joined(alloc, &[front, MACHINE])?;
+        let config = read(alloc, text.as_slice())?;
+        assert!(rt; is_machine(&config));
+    }
+    Ok(())
+}
+
+/// The machine with a statement behind its first one, and a task at the end.
+fn changed(alloc: Global, statement: &[u8], task: &[u8]) -> Result<Vec<u8>, AllocError> {
+    let (first, rest) = MACHINE.split_at(14);
+    joined(alloc, &[first, statement, rest, task])
+}
+
+#[test]
+fn the_timer_is_what_the_text_says(rt: HostRuntime) -> Result<(), Fail> {
+    let second: &[u8] = b"CLASS(C2) { CRE_TSK(T2, {TA_ACT, 0, main2, 10, 4096, NULL}); }";
+    for (statement, timer) in [
+        (b"\n".as_slice(), Timer::Local),
+        (b"\nTIMER(LOCAL);".as_slice(), Timer::Local),
+        (
+            b"\nTIMER(GLOBAL, 1);".as_slice(),
+            Timer::Global(Proc::new(1)),
+        ),
+        (
+            b"\nTIMER(GLOBAL, 0x2);".as_slice(),
+            Timer::Global(Proc::new(2)),
+        ),
+        (
+            b"\n#define N 2\nTIMER(GLOBAL, N);".as_slice(),
+            Timer::Global(Proc::new(2)),
+        ),
+    ] {
+        let text = changed(rt.alloc(), statement, second)?;
+        let config = read(rt.alloc(), text.as_slice())?;
+        assert!(rt; config.timer() == timer);
+        assert_eq!(rt; config.tasks().len(), 2);
+    }
+    Ok(())
+}
+
+#[test]
+fn the_limits_are_what_the_text_says(rt: HostRuntime) -> Result<(), Fail> {
+    for (statement, wakeups, priorities) in [
+        (b"\n".as_slice(), 1, 16),
+        (b"\nLIMITS(1, 16);".as_slice(), 1, 16),
+        (b"\nLIMITS(3, 32);".as_slice(), 3, 32),
+        (b"\nLIMITS(0xFf, 0x10);".as_slice(), 255, 16),
+        (b"\nLIMITS(2, 17); TIMER(LOCAL);".as_slice(), 2, 17),
+        (b"\nTIMER(GLOBAL, 1); LIMITS(2, 17);".as_slice(), 2, 17),
+    ] {
+        let text = changed(rt.alloc(), statement, b"")?;
+        let config = read(rt.alloc(), text.as_slice())?;
+        assert!(rt;
+            config.limits()
+                == Limits {
+                    wakeups,
+                    priorities
+                }
+        );
+    }
+    Ok(())
+}
+
+#[test]
+fn the_least_priority_is_that_of_the_limits(rt: HostRuntime) -> Result<(), Fail> {
+    let least = b"CLASS(C1) { CRE_TSK(T2, {TA_NULL, 0, main2, 32, 4096, NULL}); }";
+    let text = changed(rt.alloc(), b"\nLIMITS(3, 32);", least)?;
+    let config = read(rt.alloc(), text.as_slice())?;
+    let [_, task] = config.tasks() else {
+        return Err("there are two tasks".into());
+    };
+    assert!(rt; task.priority == Pri::new(32));
+    Ok(())
+}
+
+/// What adds something wins over what adds nothing.
+#[test]
+fn attributes_add_up(rt: HostRuntime) -> Result<(), Fail> {
+    let text = b"CRE_FLG(F, {TA_WMUL|TA_WSGL|TA_TPRI|TA_TFIFO|TA_NULL, 0});
+        CRE_FLG(G, {TA_CLR|TA_CLR, 0}); CRE_CYC(Y, {TA_STA|TA_NULL, 0, h, 1, 0});";
+    let text = joined(rt.alloc(), &[INSIDE.0, text, INSIDE.1])?;
+    let config = read(rt.alloc(), text.as_slice())?;
+    let ([first, second], [only]) = (config.eventflags(), config.cyclics()) else {
+        return Err("there are two eventflags and a cyclic handler".into());
+    };
+    assert!(rt; *first == eventflag(Order::Priority, true, false, 0));
+    assert!(rt; *second == eventflag(Order::First, false, true, 0));
+    assert!(rt; only.starts);
+    Ok(())
+}
+
+/// Bytes, blanks, names and blocks at the edges of what is allowed.
+const ACCEPTED: [&[u8]; 12] = [
+    b"PROCESSORS(8);",
+    b"PROCESSORS ( 0x08 ) ;\r\n\t",
+    b"PROCESSORS/**/(1)/* ; */;//",
+    b"PROCESSORS(1); DEF_CLASS(P, 0x1, {1, 1}); CLASS(P) {} CLASS(P) { }",
+    b"PROCESSORS(1); // a comment \x80 of any bytes \0",
+    b"PROCESSORS(1); /* a comment \x80 of any bytes \0 */",
+    b"PROCESSORS(X\n#define X 2\n);",
+    b"#define X 8\nPROCESSORS(X);\n#include",
+    b"PROCESSORS(1); INCLUDE(\"\x80\0\n\\\\\");",
+    b"PROCESSORS(1); DEF_CLASS(C, 1, {1}); DEF_CLASS(D, 1, {1});",
+    b"PROCESSORS(1); LIMITS(1, 16); DEF_CLASS(C, 1, {1}); TIMER(LOCAL);",
+    b"PROCESSORS(1); DEF_CLASS(C, 1, {1}); CLASS(C) { } DEF_CLASS(D, 1, {1});",
+];
+
+/// Objects and functions with names that others have in the other name space, or that are reserved in it.
+const OBJECTS: [&[u8]; 7] = [
+    b"CRE_TSK(T, {TA_NULL, 0, T, 1, 0, 0}); CRE_TSK(U, {TA_NULL, 0, T, 1, 0, 0});",
+    b"CRE_ALM(A, {TA_NULL, 0, idle}); CRE_ALM(B, {TA_NULL, 0, P1});",
+    b"CRE_ALM(main, {TA_NULL, 0, main}); CRE_ALM(C2, {TA_NULL, 0, C1});",
+    b"CRE_SEM(TA_NULL, {TA_NULL, 0, 1}); CRE_SEM(CRE_SEM, {TA_NULL, 0, 1});",
+    b"INCLUDE(\"a\"); \n#define N 1\nCRE_SEM(S, {TA_NULL, N, N});\n#include <b>\n",
+    b"CRE_SEM(S, {TA_NULL, N,\n#define N 3\nN});",
+    b"} DEF_CLASS(X, 1, {1}); CLASS(X) { } CLASS(C1) { } CLASS(X) {",
+];
+
+/// Statements behind a timer whose ticks count for all.
+const ON_ONE_TIMER: [&[u8]; 4] = [
+    b"CRE_TSK(T, {TA_ACT, 0, m, 1, 0, 0}); CRE_SPN(L, {TA_NULL});",
+    b"CRE_SEM(S, {TA_NULL, 0, 1}); CRE_FLG(F, {TA_NULL, 0});",
+    b"CRE_DTQ(D, {TA_NULL, 0, 0}); CRE_MPF(M, {TA_NULL, 1, 0, 0, 0});",
+    b"} CLASS(ONE) { CRE_ALM(A, {TA_NULL, 0, a}); CRE_CYC(Y, {TA_STA, 0, a, 1, 0});",
+];
+
+#[test]
+fn edges_are_accepted(rt: HostRuntime) -> Result<(), Fail> {
+    all_are_accepted(&rt, rt.alloc(), WHOLE, &ACCEPTED)?;
+    all_are_accepted(&rt, rt.alloc(), INSIDE, &OBJECTS)?;
+    all_are_accepted(&rt, rt.alloc(), TIMED, &ON_ONE_TIMER)?;
     Ok(())
 }

@@ -2,6 +2,8 @@
 #![tactic(auto)]
 
 #[cfg(test)]
+mod answers;
+#[cfg(test)]
 mod bytes;
 #[cfg(test)]
 mod calls;
@@ -9,6 +11,8 @@ mod calls;
 mod codes;
 #[cfg(test)]
 mod config;
+#[cfg(test)]
+mod config_faults;
 #[cfg(test)]
 mod text;
 #[cfg(test)]

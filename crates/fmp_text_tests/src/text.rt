@@ -8,13 +8,25 @@ use std::test::Fail;
 /// Adds a name where it may be added, and tells whether it may.
 fn add(names: &mut Names, kind: NameKind, name: &[u8]) -> Result<bool, Fail> {
     let taken = match kind {
-        NameKind::Object(_) => is_reserved(name) || names.contains_object(name),
+        NameKind::Object(_) => {
+            is_reserved(name) || names.contains_object(name) || names.contains_defined(name)
+        }
         NameKind::Function => names.contains_function(name),
     };
     if taken || !is_name(name) || !names.has_room(kind) {
         return Ok(false);
     }
     names.add(kind, name)?;
+    Ok(true)
+}
+
+/// Defines a name where it may be defined, and tells whether it may.
+fn define(names: &mut Names, name: &[u8], number: u32) -> Result<bool, Fail> {
+    let taken = is_reserved(name) || names.contains_object(name) || names.contains_defined(name);
+    if taken || !is_name(name) || !names.has_room_to_define() {
+        return Ok(false);
+    }
+    names.define(name, number)?;
     Ok(true)
 }
 
@@ -180,6 +192,23 @@ fn kinds_of_names(rt: HostRuntime) -> Result<(), Fail> {
         assert!(rt; add(&mut names, kind, name)? == added);
     }
     assert!(rt; names.number(FUNCTION, b"T1") == Some(3) && names.processors() == 2);
+    Ok(())
+}
+
+#[test]
+fn defined_names(rt: HostRuntime) -> Result<(), Fail> {
+    let mut names = machine(&rt)?;
+    for (name, number, defined) in [
+        (b"MAX".as_slice(), 4_294_967_295, true),
+        (b"MAX".as_slice(), 1, false),
+        (b"T1".as_slice(), 1, false),
+        (b"P1".as_slice(), 1, false),
+        (b"main_task".as_slice(), 7, true),
+    ] {
+        assert!(rt; define(&mut names, name, number)? == defined);
+    }
+    assert!(rt; names.defined(b"MAX") == Some(4_294_967_295) && names.defined(b"T1").is_none());
+    assert!(rt; !add(&mut names, SEMAPHORE, b"MAX")?);
     Ok(())
 }
 
