@@ -1,4 +1,4 @@
--- A tick. It lowers no count of ticks yet, also not those of handlers that are started at boot.
+-- A tick. No call starts a count of ticks yet, so there is none that falls.
 use Rattle.fmp_codes.specs.declared.numbers.Proc.{Proc}
 use Rattle.fmp_codes.specs.declared.records.Answer.TheVariants as answer
 use Rattle.fmp_machine.specs.declared.effect.Effect.{Effect}

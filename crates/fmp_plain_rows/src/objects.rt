@@ -1,4 +1,4 @@
-//! The objects, the timer and the limits. No call changes an object yet, and a tick lowers no count, so they are as the configuration says.
+//! The objects, the timer and the limits. No call changes an object yet, so they are as the configuration says.
 ghost use Rattle.std.specs.Prelude.{◌≡◌, ◌≤◌, length};
 ghost use Rattle.fmp_machine.specs.Keeping.{order_of};
 ghost use Rattle.fmp_machine.specs.Objects.{data_queue, eventflag, pool, semaphore};
