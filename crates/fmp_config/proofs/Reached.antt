@@ -5,8 +5,6 @@ use Rattle.std.specs.Option.{option_map_or}
 use Rattle.std.specs.Str.{bytes_eq}
 use Rattle.std.proofs.lemmas.Bool.{leb-true}
 use Rattle.fmp_names.specs.Names.{is_name}
-use Rattle.fmp_tokens.specs.declared.tokens.End.{End}
-use Rattle.fmp_tokens.specs.declared.tokens.End.TheVariants as ends
 use Rattle.fmp_tokens.specs.Lexing.{Lexeme}
 use Rattle.fmp_statements.specs.declared.directive.Directive.{Directive}
 use Rattle.fmp_statements.specs.declared.directive.Directive.TheVariants as directives
@@ -18,17 +16,15 @@ use Rattle.fmp_statements.specs.Forms.{Form}
 use Rattle.fmp_statements.specs.Numbers.{numeral}
 use Rattle.fmp_statements.specs.Words.{Word, word_of, is_identifier_kind}
 use Rattle.fmp_statements.proofs.Promised.{begun_is_promised, step_keeps_name, step_keeps_promise}
-use Rattle.fmp_config.specs.Drafts.{Draft, is_start}
+use Rattle.fmp_config.specs.Drafts.{Draft}
 use Rattle.fmp_config.specs.Judging.{place_fault}
-use Rattle.fmp_config.specs.Reading.{State, closed, finished, take_token}
+use Rattle.fmp_config.specs.Reading.{State, take_token}
 use Rattle.fmp_config.specs.Sound.{IsSoundDirective, IsSoundForm, IsSoundState}
 use Rattle.fmp_config.proofs.Defined.{ended_sound}
 use Rattle.fmp_config.proofs.Judged.{judged_sound}
-use Rattle.fmp_config.proofs.Steps.{allowed, not_ok, ok_is, refused}
+use Rattle.fmp_config.proofs.Steps.{not_ok, ok_is}
 use Rattle.fmp_config.proofs.Taken.{Taken, taken_as}
 use Rattle.fmp_config.proofs.Whole.{whole}
-use Rattle.fmp_machine.specs.Setup.{Setup}
-use Rattle.fmp_machine.specs.Valid.{IsValid}
 
 -- ---- directives
 
@@ -97,15 +93,3 @@ by_taken s next t sound (Taken.Statement_ends f g d at step complete is same) =
 
 pub taken_sound : (s next : State) (t : Lexeme) → IsSoundState s → take_token s t ≡ Ok next → IsSoundState next
 taken_sound s next t sound e = by_taken s next t sound (taken_as s t next e)
-
--- ---- the end
-
-pub finished_valid : (s : State) (end : End) (c : Setup) → IsSoundState s → finished s end ≡ Ok c → IsValid c
-unfolding finished closed
-finished_valid s (ends.Bad line) c sound e = absurd (not_ok (fault_of_line faults.Syntax line) c e)
-finished_valid s (ends.CutShort line) c sound e = absurd (not_ok (fault_of_line faults.CutShort line) c e)
-finished_valid s ends.Done c sound e =
-    let (no_form, at_end) = allowed s.form (closed s.draft) (λ f. fault_of_line faults.CutShort f.line) c e in
-    let (no_class, behind) = allowed s.draft.open_class (if is_start s.draft.phase then Err (fault_of_line faults.NoProcessors 1) else Ok s.draft.setup) (λ o. fault_of_line faults.CutShort o.line) c at_end in
-    let (past, same) = refused (is_start s.draft.phase) (Ok s.draft.setup) (fault_of_line faults.NoProcessors 1) c behind in
-    subst IsValid (ok_is s.draft.setup c same) sound.draft.valid

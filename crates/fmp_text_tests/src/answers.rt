@@ -44,13 +44,22 @@ pub fn answer(alloc: Global, text: &[u8]) -> Result<String, AllocError> {
     }
 }
 
-/// The parts one behind the other.
-pub fn joined(alloc: Global, parts: &[&[u8]]) -> Result<Vec<u8>, AllocError> {
-    let mut text = Vec::new(alloc);
-    for part in parts {
-        text.extend_from_slice(*part)?;
-    }
-    Ok(text)
+/// A text between two others.
+pub fn between(
+    alloc: Global,
+    front: &[u8],
+    text: &[u8],
+    end: &[u8],
+) -> Result<Vec<u8>, AllocError> {
+    let mut whole = Vec::from_slice(alloc, front)?;
+    whole.extend_from_slice(text)?;
+    whole.extend_from_slice(end)?;
+    Ok(whole)
+}
+
+/// A text in a frame.
+pub fn framed(alloc: Global, frame: Frame, text: &[u8]) -> Result<Vec<u8>, AllocError> {
+    between(alloc, frame.0, text, frame.1)
 }
 
 /// Asserts the answer to a text.
@@ -76,7 +85,7 @@ pub fn all_answer(
     rows: &[Row],
 ) -> Result<(), AllocError> {
     for (text, expected) in rows {
-        let text = joined(alloc, &[frame.0, *text, frame.1])?;
+        let text = framed(alloc, frame, *text)?;
         answers(rt, alloc, text.as_slice(), *expected)?;
     }
     Ok(())
@@ -90,7 +99,7 @@ pub fn all_are_accepted(
     texts: &[&'static [u8]],
 ) -> Result<(), AllocError> {
     for text in texts {
-        let text = joined(alloc, &[frame.0, *text, frame.1])?;
+        let text = framed(alloc, frame, *text)?;
         answers(rt, alloc, text.as_slice(), "ok")?;
     }
     Ok(())

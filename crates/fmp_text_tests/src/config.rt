@@ -1,5 +1,5 @@
 //! What the text of a configuration says: its numbers, classes, objects and names.
-use crate::answers::{INSIDE, TIMED, WHOLE, all_are_accepted, joined};
+use crate::answers::{INSIDE, TIMED, WHOLE, all_are_accepted, between, framed};
 use fmp_calls::{NameKind, ObjectKind};
 use fmp_codes::{Pri, Proc};
 use fmp_config::{Config, read_config};
@@ -312,7 +312,7 @@ const FRONTS: [&[u8]; 10] = [
 fn fronts_say_nothing(rt: HostRuntime) -> Result<(), Fail> {
     let alloc = rt.alloc();
     for front in FRONTS {
-        let text = joined(alloc, &[front, MACHINE])?;
+        let text = between(alloc, front, MACHINE, b"")?;
         let config = read(alloc, text.as_slice())?;
         assert!(rt; is_machine(&config));
     }
@@ -322,7 +322,9 @@ fn fronts_say_nothing(rt: HostRuntime) -> Result<(), Fail> {
 /// The machine with a statement behind its first one, and a task at the end.
 fn changed(alloc: Global, statement: &[u8], task: &[u8]) -> Result<Vec<u8>, AllocError> {
     let (first, rest) = MACHINE.split_at(14);
-    joined(alloc, &[first, statement, rest, task])
+    let mut text = between(alloc, first, statement, rest)?;
+    text.extend_from_slice(task)?;
+    Ok(text)
 }
 
 #[test]
@@ -392,7 +394,7 @@ fn the_least_priority_is_that_of_the_limits(rt: HostRuntime) -> Result<(), Fail>
 fn attributes_add_up(rt: HostRuntime) -> Result<(), Fail> {
     let text = b"CRE_FLG(F, {TA_WMUL|TA_WSGL|TA_TPRI|TA_TFIFO|TA_NULL, 0});
         CRE_FLG(G, {TA_CLR|TA_CLR, 0}); CRE_CYC(Y, {TA_STA|TA_NULL, 0, h, 1, 0});";
-    let text = joined(rt.alloc(), &[INSIDE.0, text, INSIDE.1])?;
+    let text = framed(rt.alloc(), INSIDE, text)?;
     let config = read(rt.alloc(), text.as_slice())?;
     let ([first, second], [only]) = (config.eventflags(), config.cyclics()) else {
         return Err("there are two eventflags and a cyclic handler".into());

@@ -55,17 +55,6 @@ impl<'a> Token<'a> {
         Token { kind, text, line }
     }
 
-    /// The same token once more.
-    pub fn copied(&self) -> Token<'a>
-        ensures { result ≡ self.now }
-    {
-        Token {
-            kind: self.kind,
-            text: self.text,
-            line: self.line,
-        }
-    }
-
     /// The token's kind.
     pub fn kind(&self) -> TokenKind
         ensures { result ≡ self.now.kind }
