@@ -7,17 +7,29 @@ use Rattle.std.specs.Str.{bytes_eq}
 use Rattle.fmp_codes.specs.declared.calls.Call.{Call}
 use Rattle.fmp_codes.specs.declared.calls.Call.TheVariants as calls
 use Rattle.fmp_codes.specs.declared.calls.TaskCall.TheVariants as task
+use Rattle.fmp_codes.specs.declared.calls.SyncCall.TheVariants as sync
+use Rattle.fmp_codes.specs.declared.calls.BufferCall.TheVariants as buffer
+use Rattle.fmp_codes.specs.declared.calls.TimeCall.TheVariants as time
 use Rattle.fmp_codes.specs.declared.calls.SystemCall.TheVariants as system
+use Rattle.fmp_codes.specs.declared.calls.SpinCall.TheVariants as spin
 use Rattle.fmp_bytes.specs.Bytes.{is_of, is_identifier}
 use Rattle.fmp_calls.specs.declared.kinds.Value.{Value}
 use Rattle.fmp_calls.specs.Kinds.{are_of_kinds}
 use Rattle.fmp_calls.specs.Entries.{arguments_from, values_in}
-use Rattle.fmp_calls.specs.Table.{line_of, text_of, kinds_of, name_of, values_of, call_of, named}
+use Rattle.fmp_calls.specs.Table.{line_of, text_of, is_bare, kinds_of, name_of, values_of, call_of, named}
 use Rattle.fmp_calls.specs.Entries.{Line}
 use Rattle.fmp_calls.specs.Tables.TaskTable as task_table
+use Rattle.fmp_calls.specs.Tables.SyncTable as sync_table
+use Rattle.fmp_calls.specs.Tables.BufferTable as buffer_table
+use Rattle.fmp_calls.specs.Tables.TimeTable as time_table
 use Rattle.fmp_calls.specs.Tables.SystemTable as system_table
+use Rattle.fmp_calls.specs.Tables.SpinTable as spin_table
 use Rattle.fmp_calls.specs.declared.table.task.TheConstants.{TASK_CALLS}
+use Rattle.fmp_calls.specs.declared.table.sync.TheConstants.{SYNC_CALLS}
+use Rattle.fmp_calls.specs.declared.table.buffer.TheConstants.{BUFFER_CALLS}
+use Rattle.fmp_calls.specs.declared.table.time.TheConstants.{TIME_CALLS}
 use Rattle.fmp_calls.specs.declared.table.system.TheConstants.{SYSTEM_CALLS}
+use Rattle.fmp_calls.specs.declared.table.spin.TheConstants.{SPIN_CALLS}
 use Rattle.fmp_calls.proofs.Found.{found_passes}
 use Rattle.fmp_calls.proofs.Arguments.{values_in-arguments_from}
 
@@ -27,15 +39,22 @@ record IsLine (call : Call) : Type 0 where
   kept : (list : List Value) → values_of ((line_of call).make list) ≡ values_in (kinds_of call) (arguments_from (kinds_of call) 0 list)
   again : (list other : List Value) → (line_of ((line_of call).make list)).make other ≡ (line_of call).make other
   same_text : (list : List Value) → text_of ((line_of call).make list) ≡ text_of call
+  same_bare : (list : List Value) → is_bare ((line_of call).make list) ≡ is_bare call
   same_kinds : (list : List Value) → kinds_of ((line_of call).make list) ≡ kinds_of call
+  bare_kinds : (if is_bare call then kinds_of call else []) ≡ []
+  bare_values : (if is_bare call then values_of call else []) ≡ []
   of_kinds : are_of_kinds (kinds_of call) (values_of call) ≡ true
   found : named (text_of call) ≡ Some (name_of call)
   few : length (kinds_of call) ≤ 4
 
 is_line : (call : Call) → IsLine call
-is_line (calls.Task task.ExtTsk) = record { made = refl; kept = λ l. refl; again = λ l o. refl; same_text = λ l. refl; same_kinds = λ l. refl; of_kinds = refl; found = refl; few = omega arith }
-is_line (calls.System system.GetTid) = record { made = refl; kept = λ l. refl; again = λ l o. refl; same_text = λ l. refl; same_kinds = λ l. refl; of_kinds = refl; found = refl; few = omega arith }
-is_line _ = record { made = refl; kept = λ l. refl; again = λ l o. refl; same_text = λ l. refl; same_kinds = λ l. refl; of_kinds = refl; found = refl; few = omega arith }
+is_line (calls.Task task.ExtTsk) = record { made = refl; kept = λ l. refl; again = λ l o. refl; same_text = λ l. refl; same_bare = λ l. refl; same_kinds = λ l. refl; bare_kinds = refl; bare_values = refl; of_kinds = refl; found = refl; few = omega arith }
+is_line (calls.Sync (sync.SigSem x)) = record { made = refl; kept = λ l. refl; again = λ l o. refl; same_text = λ l. refl; same_bare = λ l. refl; same_kinds = λ l. refl; bare_kinds = refl; bare_values = refl; of_kinds = refl; found = refl; few = omega arith }
+is_line (calls.Buffer (buffer.GetMpf x)) = record { made = refl; kept = λ l. refl; again = λ l o. refl; same_text = λ l. refl; same_bare = λ l. refl; same_kinds = λ l. refl; bare_kinds = refl; bare_values = refl; of_kinds = refl; found = refl; few = omega arith }
+is_line (calls.Time (time.StaCyc x)) = record { made = refl; kept = λ l. refl; again = λ l o. refl; same_text = λ l. refl; same_bare = λ l. refl; same_kinds = λ l. refl; bare_kinds = refl; bare_values = refl; of_kinds = refl; found = refl; few = omega arith }
+is_line (calls.System system.GetTid) = record { made = refl; kept = λ l. refl; again = λ l o. refl; same_text = λ l. refl; same_bare = λ l. refl; same_kinds = λ l. refl; bare_kinds = refl; bare_values = refl; of_kinds = refl; found = refl; few = omega arith }
+is_line (calls.Spin (spin.LocSpn x)) = record { made = refl; kept = λ l. refl; again = λ l o. refl; same_text = λ l. refl; same_bare = λ l. refl; same_kinds = λ l. refl; bare_kinds = refl; bare_values = refl; of_kinds = refl; found = refl; few = omega arith }
+is_line _ = record { made = refl; kept = λ l. refl; again = λ l o. refl; same_text = λ l. refl; same_bare = λ l. refl; same_kinds = λ l. refl; bare_kinds = refl; bare_values = refl; of_kinds = refl; found = refl; few = omega arith }
 
 -- ---- a call is its name with its arguments
 
@@ -67,11 +86,24 @@ text_of-name_of call = (is_line call).same_text []
 pub kinds_of-name_of : (call : Call) → kinds_of (name_of call) ≡ kinds_of call
 kinds_of-name_of call = (is_line call).same_kinds []
 
--- the call has the name's text and kinds
-pub call_of-same : (name : Call) (list : List Value) (call : Call) → call_of name list ≡ Some call → (text_of call ≡ text_of name) × (kinds_of call ≡ kinds_of name)
+pub is_bare-name_of : (call : Call) → is_bare (name_of call) ≡ is_bare call
+is_bare-name_of call = (is_line call).same_bare []
+
+-- a bare call has no arguments
+pub bare_alone : (call : Call) → is_bare call ≡ true → (kinds_of call ≡ []) × (values_of call ≡ [])
+bare_alone call bare =
+    let is = is_line call in
+    (rw bare at is.bare_kinds, rw bare at is.bare_values)
+
+-- the call has the name's text and kinds, and is bare where the name is
+pub call_of-same : (name : Call) (list : List Value) (call : Call) → call_of name list ≡ Some call
+    → (text_of call ≡ text_of name) × (kinds_of call ≡ kinds_of name) × (is_bare call ≡ is_bare name)
 call_of-same name list call e =
-    let agrees = call_of-agrees name list call e in
-    (sym (text_of-name_of call) ∙ ap text_of agrees.0 ∙ text_of-name_of name, sym (kinds_of-name_of call) ∙ ap kinds_of agrees.0 ∙ kinds_of-name_of name)
+    let agrees = call_of-agrees name list call e in (
+      sym (text_of-name_of call) ∙ ap text_of agrees.0 ∙ text_of-name_of name,
+      sym (kinds_of-name_of call) ∙ ap kinds_of agrees.0 ∙ kinds_of-name_of name,
+      sym (is_bare-name_of call) ∙ ap is_bare agrees.0 ∙ is_bare-name_of name,
+    )
 
 pub are_of_kinds-values_of : (call : Call) → are_of_kinds (kinds_of call) (values_of call) ≡ true
 are_of_kinds-values_of call = (is_line call).of_kinds
@@ -88,7 +120,11 @@ record IsProper (call : Call) : Type 0 where
 proper : (call : Call) → IsProper call
 unfolding is_of
 proper (calls.Task task.ExtTsk) = record { word = refl; no_tick = refl; no_ipi = refl }
+proper (calls.Sync (sync.SigSem x)) = record { word = refl; no_tick = refl; no_ipi = refl }
+proper (calls.Buffer (buffer.GetMpf x)) = record { word = refl; no_tick = refl; no_ipi = refl }
+proper (calls.Time (time.StaCyc x)) = record { word = refl; no_tick = refl; no_ipi = refl }
 proper (calls.System system.GetTid) = record { word = refl; no_tick = refl; no_ipi = refl }
+proper (calls.Spin (spin.LocSpn x)) = record { word = refl; no_tick = refl; no_ipi = refl }
 proper _ = record { word = refl; no_tick = refl; no_ipi = refl }
 
 pub is_identifier-text_of : (call : Call) → is_identifier (text_of call) ≡ true
@@ -114,13 +150,29 @@ has_text : {C : Type 0} (family : C → Call) (line : C → Line C) (calls : Lis
 has_text family line calls word name texts found =
     sym (ap text_of found.2) ∙ texts found.0 ∙ (bytes_eq-Decides (line found.0).text word).0 (found_passes (λ c. bytes_eq (line c).text word) calls found.0 found.1)
 
-last_found : {C : Type 0} (family : C → Call) (found : Option C) (name : Call) → option_map family found ≡ Some name
-    → (call : C) × (found ≡ Some call) × (family call ≡ name)
-last_found family None name e = absurd cc
-last_found family (Some call) name e = (call, refl, ap (λ (o : Option Call). unwrap_or o (family call)) e)
+returning : (word : List ℕ) (name : Call) (is : Bool) → bytes_eq (codes "ret_hdr") word ≡ is
+    → (if is then Some calls.RetHdr else None) ≡ Some name → text_of name ≡ word
+returning word name true same e =
+    ap (λ (o : Option Call). text_of (unwrap_or o calls.RetHdr)) (sym e) ∙ (bytes_eq-Decides (codes "ret_hdr") word).0 same
+returning word name false same e = absurd cc
 
 pub text_of-named : (word : List ℕ) (name : Call) → named word ≡ Some name → text_of name ≡ word
 text_of-named word name e = elim (either_found calls.Task (find (λ call. bytes_eq (task_table.line_of call).text word) TASK_CALLS.now) _ name e) [
   | inl found ↦ has_text calls.Task task_table.line_of TASK_CALLS.now word name (λ c. refl) found
-  | inr other ↦ has_text calls.System system_table.line_of SYSTEM_CALLS.now word name (λ c. refl) (last_found calls.System _ name other)
+  | inr other1 ↦ elim (either_found calls.Sync (find (λ call. bytes_eq (sync_table.line_of call).text word) SYNC_CALLS.now) _ name other1) [
+    | inl found ↦ has_text calls.Sync sync_table.line_of SYNC_CALLS.now word name (λ c. refl) found
+    | inr other2 ↦ elim (either_found calls.Buffer (find (λ call. bytes_eq (buffer_table.line_of call).text word) BUFFER_CALLS.now) _ name other2) [
+      | inl found ↦ has_text calls.Buffer buffer_table.line_of BUFFER_CALLS.now word name (λ c. refl) found
+      | inr other3 ↦ elim (either_found calls.Time (find (λ call. bytes_eq (time_table.line_of call).text word) TIME_CALLS.now) _ name other3) [
+        | inl found ↦ has_text calls.Time time_table.line_of TIME_CALLS.now word name (λ c. refl) found
+        | inr other4 ↦ elim (either_found calls.System (find (λ call. bytes_eq (system_table.line_of call).text word) SYSTEM_CALLS.now) _ name other4) [
+          | inl found ↦ has_text calls.System system_table.line_of SYSTEM_CALLS.now word name (λ c. refl) found
+          | inr other5 ↦ elim (either_found calls.Spin (find (λ call. bytes_eq (spin_table.line_of call).text word) SPIN_CALLS.now) _ name other5) [
+            | inl found ↦ has_text calls.Spin spin_table.line_of SPIN_CALLS.now word name (λ c. refl) found
+            | inr other6 ↦ returning word name (bytes_eq (codes "ret_hdr") word) refl other6
+          ]
+        ]
+      ]
+    ]
+  ]
 ]

@@ -1,5 +1,5 @@
 -- What stands in the table of the calls: how a call is written, and what it is made of.
-use Rattle.std.specs.Prelude.{ℕ, ◌+◌, ℤ, pos, List, [], ◌∷◌, get_or}
+use Rattle.std.specs.Prelude.{ℕ, ◌+◌, ℤ, pos, Bool, false, List, [], ◌∷◌, get_or}
 use Rattle.fmp_codes.specs.declared.calls.Mode.{Mode}
 use Rattle.fmp_codes.specs.declared.calls.Mode.TheVariants.{Andw}
 use Rattle.fmp_calls.specs.declared.kinds.ArgumentKind.{ArgumentKind}
@@ -90,9 +90,10 @@ made (kind ∷ kinds) make arguments = made kinds (make arguments.0) arguments.1
 -- the line of a call in the table of its family C
 pub record Line (C : Type 0) : Type 0 where
   pub text : List ℕ  -- the name as it is written
+  pub bare : Bool  -- it is written without parentheses
   pub kinds : List ArgumentKind  -- the kinds of the arguments
   pub values : List Value  -- the arguments
   pub make : List Value → C  -- the call of this name with other arguments
 
 abbrev pub line : {C : Type 0} → List ℕ → (kinds : List ArgumentKind) → Maker C kinds → Arguments kinds → Line C
-line text kinds maker arguments = record { text = text; kinds = kinds; values = values_in kinds arguments; make = λ list. made kinds maker (arguments_from kinds 0 list) }
+line text kinds maker arguments = record { text = text; bare = false; kinds = kinds; values = values_in kinds arguments; make = λ list. made kinds maker (arguments_from kinds 0 list) }

@@ -1,2 +1,6 @@
-pub mod SystemTable
 pub mod TaskTable
+pub mod SyncTable
+pub mod BufferTable
+pub mod TimeTable
+pub mod SystemTable
+pub mod SpinTable

@@ -1,9 +1,11 @@
 //! The table of the service calls. A call is one line in the table of its family: its variant with the kinds of its arguments,
 //! and its name. The macros read the lines.
-ghost use Rattle.std.specs.Prelude.{◌≡◌, ◌≤◌, length};
+ghost use Rattle.std.specs.Prelude.{◌≡◌, ◌≤◌, false, Some, None, if◌then◌else◌, length, codes};
+ghost use Rattle.std.specs.Str.{bytes_eq};
+ghost use Rattle.fmp_codes.specs.declared.calls.Call.TheVariants.{RetHdr};
 ghost use Rattle.fmp_calls.specs.Kinds as spec;
 ghost use Rattle.fmp_calls.specs.Entries.{value_at as value_of_place};
-ghost use Rattle.fmp_calls.specs.Table.{text_of, kinds_of, call_of, values_of, named};
+ghost use Rattle.fmp_calls.specs.Table.{text_of, is_bare, kinds_of, call_of, values_of, named};
 
 use crate::kinds::{ArgumentKind, Value};
 use arrayvec::ArrayVec;
@@ -112,8 +114,12 @@ macro_rules! with_values {
     };
 }
 
+pub mod buffer;
+pub mod spin;
+pub mod sync;
 pub mod system;
 pub mod task;
+pub mod time;
 
 /// The greatest number of arguments of a call.
 pub const MOST_ARGUMENTS: usize = 4;
@@ -126,6 +132,8 @@ pub type Values = ArrayVec<Value, MOST_ARGUMENTS>;
 pub struct CallForm {
     /// Its name.
     pub text: &'static [u8],
+    /// It is written without parentheses, as the return of a handler is.
+    pub bare: bool,
     /// The kinds of its arguments, from left to right.
     pub kinds: &'static [ArgumentKind],
 }
@@ -133,9 +141,14 @@ pub struct CallForm {
 impl CallForm {
     fn new(text: &'static [u8], kinds: &'static [ArgumentKind]) -> Self
         ensures text { result.text.now ≡ text.now }
+        ensures bare { result.bare ≡ false }
         ensures kinds { result.kinds.now ≡ kinds.now }
     {
-        CallForm { text, kinds }
+        CallForm {
+            text,
+            bare: false,
+            kinds,
+        }
     }
 }
 
@@ -186,12 +199,22 @@ fn are_of_kinds(kinds: &[ArgumentKind], values: &[Value]) -> bool
 /// How the call is written, whatever its arguments are.
 pub fn form(call: Call) -> CallForm
     ensures text { result.text.now ≡ text_of call }
+    ensures bare { result.bare ≡ is_bare call }
     ensures kinds { result.kinds.now ≡ kinds_of call }
     ensures few { length result.kinds.now ≤ MOST_ARGUMENTS }
 {
     match call {
         Call::Task(call) => task::form(call),
+        Call::Sync(call) => sync::form(call),
+        Call::Buffer(call) => buffer::form(call),
+        Call::Time(call) => time::form(call),
         Call::System(call) => system::form(call),
+        Call::Spin(call) => spin::form(call),
+        Call::RetHdr => CallForm {
+            text: b"ret_hdr",
+            bare: true,
+            kinds: &[],
+        },
     }
 }
 
@@ -201,7 +224,12 @@ pub fn values(call: Call) -> Values
 {
     match call {
         Call::Task(call) => task::values(call),
+        Call::Sync(call) => sync::values(call),
+        Call::Buffer(call) => buffer::values(call),
+        Call::Time(call) => time::values(call),
         Call::System(call) => system::values(call),
+        Call::Spin(call) => spin::values(call),
+        Call::RetHdr => Values::new(),
     }
 }
 
@@ -214,8 +242,24 @@ pub fn with_values(call: Call, values: &[Value]) -> Option<Call>
     }
     Some(match call {
         Call::Task(call) => Call::Task(task::with_values(call, values)),
+        Call::Sync(call) => Call::Sync(sync::with_values(call, values)),
+        Call::Buffer(call) => Call::Buffer(buffer::with_values(call, values)),
+        Call::Time(call) => Call::Time(time::with_values(call, values)),
         Call::System(call) => Call::System(system::with_values(call, values)),
+        Call::Spin(call) => Call::Spin(spin::with_values(call, values)),
+        Call::RetHdr => Call::RetHdr,
     })
+}
+
+/// The return of a handler, where the word is its name.
+fn find_return(word: &[u8]) -> Option<Call>
+    ensures { result ≡ (if bytes_eq (codes "ret_hdr") word.now then Some RetHdr else None) }
+{
+    if b"ret_hdr".as_slice() == word {
+        Some(Call::RetHdr)
+    } else {
+        None
+    }
 }
 
 /// A call that is written so, with some arguments.
@@ -225,5 +269,20 @@ pub fn find_call(word: &[u8]) -> Option<Call>
     if let Some(call) = task::find(word) {
         return Some(Call::Task(call));
     }
-    Some(Call::System(system::find(word)?))
+    if let Some(call) = sync::find(word) {
+        return Some(Call::Sync(call));
+    }
+    if let Some(call) = buffer::find(word) {
+        return Some(Call::Buffer(call));
+    }
+    if let Some(call) = time::find(word) {
+        return Some(Call::Time(call));
+    }
+    if let Some(call) = system::find(word) {
+        return Some(Call::System(call));
+    }
+    if let Some(call) = spin::find(word) {
+        return Some(Call::Spin(call));
+    }
+    find_return(word)
 }

@@ -8,7 +8,7 @@ mod records;
 mod release_list;
 mod request_list;
 
-pub use calls::{Call, Mode, SystemCall, TaskCall};
+pub use calls::{BufferCall, Call, Mode, SpinCall, SyncCall, SystemCall, TaskCall, TimeCall};
 pub use codes::{Code, codes_are_listed};
 pub use numbers::{Block, Object, Pri, Proc, Task};
 pub use records::{Answer, Event, Record, Release, Runner, worded_answers_are_listed};

@@ -10,10 +10,18 @@ use fmp_codes::SystemCall;
 macro_rules! system_calls {
     ($reading:ident $(, $given:expr)*) => {
         $reading!(SystemCall $(, $given)*;
+            RotRdq(priority) = b"rot_rdq",
+            IrotRdq(priority) = b"irot_rdq",
+            MrotRdq(priority, processor) = b"mrot_rdq",
+            ImrotRdq(priority, processor) = b"imrot_rdq",
             GetTid = b"get_tid",
+            IgetTid = b"iget_tid",
             GetPid = b"get_pid",
+            IgetPid = b"iget_pid",
             LocCpu = b"loc_cpu",
+            IlocCpu = b"iloc_cpu",
             UnlCpu = b"unl_cpu",
+            IunlCpu = b"iunl_cpu",
             DisDsp = b"dis_dsp",
             EnaDsp = b"ena_dsp",
             SnsCtx = b"sns_ctx",
@@ -24,12 +32,13 @@ macro_rules! system_calls {
     };
 }
 
-/// The calls on the processors, each with blanks for its arguments.
+/// The calls on the processors and on the state of dispatching, each with blanks for its arguments.
 pub const SYSTEM_CALLS: &[SystemCall] = &system_calls!(names);
 
 /// How the call is written.
 pub fn form(call: SystemCall) -> CallForm
     ensures text { result.text.now ≡ (line_of call).text }
+    ensures bare { result.bare ≡ (line_of call).bare }
     ensures kinds { result.kinds.now ≡ (line_of call).kinds }
     ensures few { length result.kinds.now ≤ MOST_ARGUMENTS }
 {

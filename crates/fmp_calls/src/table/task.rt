@@ -11,7 +11,25 @@ macro_rules! task_calls {
     ($reading:ident $(, $given:expr)*) => {
         $reading!(TaskCall $(, $given)*;
             ActTsk(task) = b"act_tsk",
+            IactTsk(task) = b"iact_tsk",
+            MactTsk(task, processor) = b"mact_tsk",
+            ImactTsk(task, processor) = b"imact_tsk",
+            CanAct(task) = b"can_act",
+            MigTsk(task, processor) = b"mig_tsk",
             ExtTsk = b"ext_tsk",
+            TerTsk(task) = b"ter_tsk",
+            ChgPri(task, priority) = b"chg_pri",
+            GetPri(task) = b"get_pri",
+            SlpTsk = b"slp_tsk",
+            TslpTsk(timeout) = b"tslp_tsk",
+            WupTsk(task) = b"wup_tsk",
+            IwupTsk(task) = b"iwup_tsk",
+            CanWup(task) = b"can_wup",
+            RelWai(task) = b"rel_wai",
+            IrelWai(task) = b"irel_wai",
+            SusTsk(task) = b"sus_tsk",
+            RsmTsk(task) = b"rsm_tsk",
+            DlyTsk(time) = b"dly_tsk",
         )
     };
 }
@@ -22,6 +40,7 @@ pub const TASK_CALLS: &[TaskCall] = &task_calls!(names);
 /// How the call is written.
 pub fn form(call: TaskCall) -> CallForm
     ensures text { result.text.now ≡ (line_of call).text }
+    ensures bare { result.bare ≡ (line_of call).bare }
     ensures kinds { result.kinds.now ≡ (line_of call).kinds }
     ensures few { length result.kinds.now ≤ MOST_ARGUMENTS }
 {

@@ -1,0 +1,58 @@
+//! The calls on spin locks.
+ghost use Rattle.std.specs.Prelude.{◌≡◌, ◌≤◌, length, find};
+ghost use Rattle.std.specs.Str.{bytes_eq};
+ghost use Rattle.fmp_calls.specs.Tables.SpinTable.{line_of};
+
+use crate::kinds::Value;
+use crate::table::{CallForm, MOST_ARGUMENTS, Values, listed, value_at};
+use fmp_codes::SpinCall;
+
+macro_rules! spin_calls {
+    ($reading:ident $(, $given:expr)*) => {
+        $reading!(SpinCall $(, $given)*;
+            LocSpn(spin_lock) = b"loc_spn",
+            IlocSpn(spin_lock) = b"iloc_spn",
+            TrySpn(spin_lock) = b"try_spn",
+            ItrySpn(spin_lock) = b"itry_spn",
+            UnlSpn(spin_lock) = b"unl_spn",
+            IunlSpn(spin_lock) = b"iunl_spn",
+        )
+    };
+}
+
+/// The calls on spin locks, each with blanks for its arguments.
+pub const SPIN_CALLS: &[SpinCall] = &spin_calls!(names);
+
+/// How the call is written.
+pub fn form(call: SpinCall) -> CallForm
+    ensures text { result.text.now ≡ (line_of call).text }
+    ensures bare { result.bare ≡ (line_of call).bare }
+    ensures kinds { result.kinds.now ≡ (line_of call).kinds }
+    ensures few { length result.kinds.now ≤ MOST_ARGUMENTS }
+{
+    spin_calls!(form, call)
+}
+
+/// The arguments of the call.
+pub fn values(call: SpinCall) -> Values
+    ensures { result.items ≡ (line_of call).values }
+{
+    spin_calls!(values, call)
+}
+
+/// The call of the same name with the arguments that the values are.
+pub fn with_values(call: SpinCall, values: &[Value]) -> SpinCall
+    ensures { result ≡ (line_of call).make values.now }
+{
+    spin_calls!(with_values, call, values)
+}
+
+/// A call that is written so.
+pub fn find(word: &[u8]) -> Option<SpinCall>
+    ensures { result ≡ find (λ call. bytes_eq (line_of call).text word.now) SPIN_CALLS.now }
+{
+    SPIN_CALLS
+        .iter()
+        .copied()
+        .find(|call| form(*call).text == word)
+}

@@ -1,0 +1,63 @@
+//! The calls on semaphores and eventflags.
+ghost use Rattle.std.specs.Prelude.{◌≡◌, ◌≤◌, length, find};
+ghost use Rattle.std.specs.Str.{bytes_eq};
+ghost use Rattle.fmp_calls.specs.Tables.SyncTable.{line_of};
+
+use crate::kinds::Value;
+use crate::table::{CallForm, MOST_ARGUMENTS, Values, listed, value_at};
+use fmp_codes::SyncCall;
+
+macro_rules! sync_calls {
+    ($reading:ident $(, $given:expr)*) => {
+        $reading!(SyncCall $(, $given)*;
+            SigSem(semaphore) = b"sig_sem",
+            IsigSem(semaphore) = b"isig_sem",
+            WaiSem(semaphore) = b"wai_sem",
+            TwaiSem(semaphore, timeout) = b"twai_sem",
+            PolSem(semaphore) = b"pol_sem",
+            SetFlg(eventflag, pattern) = b"set_flg",
+            IsetFlg(eventflag, pattern) = b"iset_flg",
+            ClrFlg(eventflag, pattern) = b"clr_flg",
+            WaiFlg(eventflag, pattern, mode) = b"wai_flg",
+            TwaiFlg(eventflag, pattern, mode, timeout) = b"twai_flg",
+            PolFlg(eventflag, pattern, mode) = b"pol_flg",
+        )
+    };
+}
+
+/// The calls on semaphores and eventflags, each with blanks for its arguments.
+pub const SYNC_CALLS: &[SyncCall] = &sync_calls!(names);
+
+/// How the call is written.
+pub fn form(call: SyncCall) -> CallForm
+    ensures text { result.text.now ≡ (line_of call).text }
+    ensures bare { result.bare ≡ (line_of call).bare }
+    ensures kinds { result.kinds.now ≡ (line_of call).kinds }
+    ensures few { length result.kinds.now ≤ MOST_ARGUMENTS }
+{
+    sync_calls!(form, call)
+}
+
+/// The arguments of the call.
+pub fn values(call: SyncCall) -> Values
+    ensures { result.items ≡ (line_of call).values }
+{
+    sync_calls!(values, call)
+}
+
+/// The call of the same name with the arguments that the values are.
+pub fn with_values(call: SyncCall, values: &[Value]) -> SyncCall
+    ensures { result ≡ (line_of call).make values.now }
+{
+    sync_calls!(with_values, call, values)
+}
+
+/// A call that is written so.
+pub fn find(word: &[u8]) -> Option<SyncCall>
+    ensures { result ≡ find (λ call. bytes_eq (line_of call).text word.now) SYNC_CALLS.now }
+{
+    SYNC_CALLS
+        .iter()
+        .copied()
+        .find(|call| form(*call).text == word)
+}
