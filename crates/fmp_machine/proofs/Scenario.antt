@@ -1,7 +1,7 @@
 -- Words for scenarios: small configurations, and the records of a run.
-use Rattle.std.proofs.Common.{◌≡◌, ℕ, ℤ, Bool, true, false, Option, None, Some, List, ◌∷◌, map, replicate}
-use Rattle.fmp_codes.specs.Numbers.{as_proc, as_task, as_pri}
+use Rattle.std.proofs.Common.{◌≡◌, ℕ, ℤ, Bool, true, false, Option, None, Some, List, ◌∷◌, map, slice_set, replicate, ◌-◌}
 use Rattle.fmp_codes.specs.Records.{answer_record}
+use Rattle.fmp_codes.specs.Numbers.{as_proc, as_task, as_object, as_pri}
 use Rattle.fmp_codes.specs.declared.calls.Call.{Call}
 use Rattle.fmp_codes.specs.declared.codes.Code.{Code}
 use Rattle.fmp_codes.specs.declared.codes.Code.TheVariants as code
@@ -12,6 +12,7 @@ use Rattle.fmp_codes.specs.declared.records.Answer.{Answer}
 use Rattle.fmp_codes.specs.declared.records.Answer.TheVariants as answer
 use Rattle.fmp_codes.specs.declared.records.Runner.TheVariants as runner
 use Rattle.fmp_codes.specs.declared.records.Record.{Record}
+use Rattle.fmp_codes.specs.declared.records.Release.{Release}
 use Rattle.fmp_machine.specs.declared.setup.Class.{Class}
 use Rattle.fmp_machine.specs.declared.setup.TaskSetup.{TaskSetup}
 use Rattle.fmp_machine.specs.Setup.{Setup}
@@ -26,6 +27,10 @@ Plays c records = answers numbered (booted c) (map (λ r. r.event) records) ≡ 
 -- a task of this class and priority, with the first function, and whether it is started at boot
 abbrev pub a_task : Class → ℕ → Bool → TaskSetup
 a_task c n starts = record { class = c; main = 1; priority = as_pri n; starts = starts }
+
+-- the class of this processor alone
+abbrev pub sole : ℕ → Class
+sole p = record { initial = as_proc p; members = slice_set (replicate 8 false) (p - 1) true }
 
 -- the class of processors 1 and 2 that begins at this one
 abbrev pub both : ℕ → Class
@@ -48,6 +53,13 @@ nobody e a = answer_record e None a
 abbrev pub by_task : ℕ → Event → Answer → Record
 by_task t e a = record (nobody e a) { runner = Some (runner.Task (as_task t)) }
 
+-- the same, where it is the alarm or the cyclic handler of this number
+abbrev pub by_alarm : ℕ → Event → Answer → Record
+by_alarm n e a = record (nobody e a) { runner = Some (runner.Alarm (as_object n)) }
+
+abbrev pub by_cyclic : ℕ → Event → Answer → Record
+by_cyclic n e a = record (nobody e a) { runner = Some (runner.Cyclic (as_object n)) }
+
 -- a call, a tick and an interrupt on the processor of this number
 abbrev pub call_on : ℕ → Call → Event
 call_on p c = event.Call (as_proc p) c
@@ -61,3 +73,7 @@ ipi_on p = event.Ipi (as_proc p)
 -- a processor runs the task of this number from now on
 abbrev pub runs : ℕ → Option (Option Task)
 runs t = Some (Some (as_task t))
+
+-- the end of the wait of the task of this number
+abbrev pub released : ℕ → Code → Option ℤ → Release
+released t c v = record { task = as_task t; code = c; value = v }

@@ -109,10 +109,6 @@ with_object c class name function said =
     let names = with_object_names c.names (kind_of said) name function in
     record (with_setup c class (function_number names function) said) { names = names }
 
--- one task more
-abbrev pub with_task : Setup → Class → List ℕ → List ℕ → TaskFields → Setup
-with_task c class name function t = with_object c class name function (fields.Task t)
-
 -- one defined name more
 unfoldable pub with_defined : Setup → List ℕ → ℕ → Setup
 with_defined c name number = record c { names = with_defined_name c.names name number }

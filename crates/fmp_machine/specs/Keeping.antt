@@ -6,13 +6,17 @@ use Rattle.fmp_codes.specs.declared.numbers.Object.{Object}
 use Rattle.fmp_codes.specs.declared.numbers.Pri.{Pri}
 use Rattle.fmp_machine.specs.declared.setup.Order.{Order}
 use Rattle.fmp_machine.specs.declared.setup.Order.TheVariants as order
+use Rattle.fmp_machine.specs.declared.setup.DataQueueSetup.{DataQueueSetup}
+use Rattle.fmp_machine.specs.declared.machine.Semaphore.{Semaphore}
+use Rattle.fmp_machine.specs.declared.machine.Eventflag.{Eventflag}
+use Rattle.fmp_machine.specs.declared.machine.Pool.{Pool}
 use Rattle.fmp_machine.specs.declared.machine.TaskRecord.{TaskRecord}
 use Rattle.fmp_machine.specs.declared.machine.Wait.{Wait}
 use Rattle.fmp_machine.specs.declared.machine.Wait.TheVariants as wait
 use Rattle.fmp_machine.specs.declared.machine.QueueKind.{QueueKind}
 use Rattle.fmp_machine.specs.declared.machine.QueueKind.TheVariants as kind
 use Rattle.fmp_machine.specs.World.{World, task, item, with_item}
-use Rattle.fmp_machine.specs.Objects.{semaphore, eventflag, data_queue, pool}
+use Rattle.fmp_machine.specs.Objects.{blank_semaphore, blank_eventflag, no_data_queue, blank_pool}
 
 pub record Keeping (Q : Type 0) : Type 0 where
   -- a task becomes the last of its priority on its processor, and is no longer ready
@@ -46,15 +50,31 @@ abbrev pub waits_in : QueueKind → Object → Option Wait → Bool
 waits_in x o None = false
 waits_in x o (Some y) = is_in x o y
 
--- the order of the queue in which a wait stands. Receivers of a data queue wait first come first
+-- the order of a queue of these objects. Receivers of a data queue wait first come first
+abbrev pub order_among : List Semaphore → List Eventflag → List DataQueueSetup → List Pool → QueueKind → Object → Order
+order_among semaphores eventflags data_queues pools kind.Semaphore o = (item blank_semaphore semaphores o.number).setup.order
+order_among semaphores eventflags data_queues pools kind.Eventflag o = (item blank_eventflag eventflags o.number).setup.order
+order_among semaphores eventflags data_queues pools kind.Send o = (item no_data_queue data_queues o.number).order
+order_among semaphores eventflags data_queues pools kind.Receive o = order.First
+order_among semaphores eventflags data_queues pools kind.Pool o = (item blank_pool pools o.number).setup.order
+
+-- the order of a queue. It unfolds to lists of objects, so that what leaves these alone leaves it as it is
+abbrev pub order_in : {Q : Type 0} → World Q → QueueKind → Object → Order
+order_in w = λ x o. order_among w.semaphores w.eventflags w.data_queues w.pools x o
+
+-- the order of the queue in which a wait stands
 abbrev pub order_of : {Q : Type 0} → World Q → Wait → Order
 order_of w wait.Sleep = order.First
 order_of w wait.Delay = order.First
-order_of w (wait.Semaphore s) = (semaphore w s).setup.order
-order_of w (wait.Eventflag f pattern mode) = (eventflag w f).setup.order
-order_of w (wait.Send d value) = (data_queue w d).order
-order_of w (wait.Receive d) = order.First
-order_of w (wait.Pool m) = (pool w m).setup.order
+order_of w (wait.Semaphore s) = order_in w kind.Semaphore s
+order_of w (wait.Eventflag f pattern mode) = order_in w kind.Eventflag f
+order_of w (wait.Send d value) = order_in w kind.Send d
+order_of w (wait.Receive d) = order_in w kind.Receive d
+order_of w (wait.Pool m) = order_in w kind.Pool m
+
+-- the tasks that wait in the queue of an object, in their order
+abbrev pub queue : {Q : Type 0} → Keeping Q → World Q → QueueKind → Object → List Task
+queue k w x o = k.waiters w.order w.tasks (order_in w x o) x o
 
 -- the task that comes first on a processor
 abbrev pub top : {Q : Type 0} → Keeping Q → World Q → Proc → Option Task

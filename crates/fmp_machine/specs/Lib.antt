@@ -9,7 +9,11 @@ pub mod Arguments
 pub mod Rows
 pub mod Processors
 pub mod TaskCalls
+pub mod SyncCalls
+pub mod BufferCalls
+pub mod TimeCalls
 pub mod SystemCalls
+pub mod SpinCalls
 pub mod Tick
 pub mod Step
 pub mod Boot

@@ -2,6 +2,7 @@
 use Rattle.std.specs.Prelude.{ℕ, ℤ, not, Bool, false, Option, None, List, [], ◌==◌, nat_lt, replicate, take, bit_and}
 use Rattle.std.specs.List.{position}
 use Rattle.fmp_codes.specs.declared.numbers.Proc.{Proc}
+use Rattle.fmp_codes.specs.Numbers.{as_proc}
 use Rattle.fmp_codes.specs.declared.numbers.Object.{Object}
 use Rattle.fmp_codes.specs.declared.calls.Mode.{Mode}
 use Rattle.fmp_codes.specs.declared.calls.Mode.TheVariants as mode
@@ -15,6 +16,8 @@ use Rattle.fmp_machine.specs.declared.setup.AlarmSetup.{AlarmSetup}
 use Rattle.fmp_machine.specs.declared.machine.Semaphore.{Semaphore}
 use Rattle.fmp_machine.specs.declared.machine.Eventflag.{Eventflag}
 use Rattle.fmp_machine.specs.declared.machine.Pool.{Pool}
+use Rattle.fmp_machine.specs.declared.machine.Cyclic.{Cyclic}
+use Rattle.fmp_machine.specs.declared.machine.Alarm.{Alarm}
 use Rattle.fmp_machine.specs.World.{World, no_task, item}
 
 -- what stands where there is no object of a kind
@@ -36,11 +39,17 @@ no_cyclic = record { class = no_task.setup.class; handler = 1; period = 1; phase
 abbrev pub no_alarm : AlarmSetup
 no_alarm = record { class = no_task.setup.class; handler = 1 }
 
+abbrev pub blank_semaphore : Semaphore
+blank_semaphore = record { setup = no_semaphore; count = 0 }
+
 abbrev pub semaphore : {Q : Type 0} → World Q → Object → Semaphore
-semaphore w s = item (record { setup = no_semaphore; count = 0 }) w.semaphores s.number
+semaphore w s = item blank_semaphore w.semaphores s.number
+
+abbrev pub blank_eventflag : Eventflag
+blank_eventflag = record { setup = no_eventflag; pattern = 0 }
 
 abbrev pub eventflag : {Q : Type 0} → World Q → Object → Eventflag
-eventflag w f = item (record { setup = no_eventflag; pattern = 0 }) w.eventflags f.number
+eventflag w f = item blank_eventflag w.eventflags f.number
 
 abbrev pub data_queue : {Q : Type 0} → World Q → Object → DataQueueSetup
 data_queue w d = item no_data_queue w.data_queues d.number
@@ -49,12 +58,21 @@ data_queue w d = item no_data_queue w.data_queues d.number
 abbrev pub values : {Q : Type 0} → World Q → Object → List ℤ
 values w d = item [] w.contents d.number
 
+abbrev pub blank_pool : Pool
+blank_pool = record { setup = no_pool; handed = replicate 64 false }
+
 abbrev pub pool : {Q : Type 0} → World Q → Object → Pool
-pool w m = item (record { setup = no_pool; handed = replicate 64 false }) w.pools m.number
+pool w m = item blank_pool w.pools m.number
 
 -- the least block of a pool that is not handed out
 abbrev pub free_block : {Q : Type 0} → World Q → Object → Option ℕ
 free_block w m = position not (take (pool w m).setup.blocks (pool w m).handed)
+
+abbrev pub cyclic : {Q : Type 0} → World Q → Object → Cyclic
+cyclic w c = item (record { setup = no_cyclic; assigned = as_proc 1 }) w.cyclics c.number
+
+abbrev pub alarm : {Q : Type 0} → World Q → Object → Alarm
+alarm w a = item (record { setup = no_alarm; assigned = as_proc 1 }) w.alarms a.number
 
 -- the processor that holds a spin lock
 abbrev pub holder : {Q : Type 0} → World Q → Object → Option Proc

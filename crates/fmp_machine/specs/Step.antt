@@ -12,17 +12,27 @@ use Rattle.fmp_codes.specs.declared.records.Answer.TheVariants as answer
 use Rattle.fmp_codes.specs.declared.records.Record.{Record}
 use Rattle.fmp_codes.specs.declared.records.Runner.{Runner}
 use Rattle.fmp_machine.specs.declared.effect.Effect.{Effect}
+use Rattle.fmp_machine.specs.Setup.{has_time}
 use Rattle.fmp_machine.specs.World.{World, processor, with_processor, handler, runner_of, is_held, item, processors_of}
 use Rattle.fmp_machine.specs.Keeping.{Keeping, top}
 use Rattle.fmp_machine.specs.Rows.{Row, called, plain}
 use Rattle.fmp_machine.specs.TaskCalls.{task_row}
+use Rattle.fmp_machine.specs.SyncCalls.{sync_row}
+use Rattle.fmp_machine.specs.BufferCalls.{buffer_row}
+use Rattle.fmp_machine.specs.TimeCalls.{time_row}
 use Rattle.fmp_machine.specs.SystemCalls.{system_row}
+use Rattle.fmp_machine.specs.SpinCalls.{spin_row, ret_hdr}
 use Rattle.fmp_machine.specs.Tick.{tick}
 
 -- what is written of a call, by its family
 abbrev pub row_of : {Q : Type 0} → Keeping Q → World Q → Proc → Call → Row Q
 row_of k w p (call.Task c) = task_row k w p c
+row_of k w p (call.Sync c) = sync_row k w p c
+row_of k w p (call.Buffer c) = buffer_row k w p c
+row_of k w p (call.Time c) = time_row w c
 row_of k w p (call.System c) = system_row k w p c
+row_of k w p (call.Spin c) = spin_row w p c
+row_of k w p call.RetHdr = ret_hdr w p
 
 -- two places have the same task or none
 abbrev pub is_same : Option Task → Option Task → Bool
@@ -96,9 +106,13 @@ step k w (event.Call p c) =
     then settled k (front_of k w (event.Call p c) p) (called w p (row_of k w p c))
     else unchanged w (event.Call p c) p answer.Idle
 step k w (event.Tick p) =
+    if has_time w.timer p
+    then (
     if (processor w p).locked || is_some (handler w p)
     then unchanged w (event.Tick p) p answer.Held
     else settled k (front_of k w (event.Tick p) p) (tick k w p)
+    )
+    else unchanged w (event.Tick p) p answer.Nothing
 step k w (event.Ipi p) =
     if is_held w p
     then unchanged w (event.Ipi p) p answer.Held

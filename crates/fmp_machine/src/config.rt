@@ -9,6 +9,7 @@ use crate::setup::{
     SemaphoreSetup, TaskSetup, Timer,
 };
 use fmp_names::Names;
+use std::alloc::Global;
 use std::marker::Model;
 
 /// A valid configuration: how many processors there are, its timer and limits, the classes and objects, the names of the
@@ -41,6 +42,11 @@ impl Config {
         ensures { result ≡ setup_of parts }
     {
         Config { parts }
+    }
+
+    /// The allocator that its lists are on.
+    pub fn allocator(&self) -> Global {
+        self.parts.alloc
     }
 
     /// The number of processors.

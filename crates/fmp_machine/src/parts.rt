@@ -4,7 +4,6 @@ ghost use Rattle.std.specs.List.{list_any};
 ghost use Rattle.std.specs.Option.{option_copied};
 ghost use Rattle.std.specs.Str.{bytes_eq};
 ghost use Rattle.fmp_calls.specs.declared.kinds.NameKind.TheVariants.{Object, Function};
-ghost use Rattle.fmp_calls.specs.declared.kinds.ObjectKind.TheVariants.{Task};
 ghost use Rattle.fmp_names.specs.Names.{has_name, has_room, has_room_to_define, is_name, is_reserved, is_taken};
 ghost use Rattle.fmp_machine.specs.Building as spec;
 ghost use Rattle.fmp_machine.specs.Parts.{setup_of};
@@ -278,24 +277,6 @@ impl Parts {
         add_object_names(&mut self.names, fields.kind(), name, function)?;
         let number = function_number(&self.names, function);
         self.push(class, number as u8, fields)
-    }
-
-    /// Adds a task, and the name of its function where no other has that.
-    pub fn add_task(
-        &mut self,
-        class: Class,
-        name: &[u8],
-        function: &[u8],
-        fields: TaskFields,
-    ) -> Result<(), AllocError>
-        requires name { is_name name.now ≡ true }
-        requires new { spec.is_refused (setup_of self.old) name.now ≡ false }
-        requires room { has_room (setup_of self.old).names (Object Task) ≡ true }
-        requires function { is_name function.now ≡ true }
-        requires valid { IsValid (setup_of self.old) }
-        ensures ok { OnOk result (setup_of self.new ≡ spec.with_task (setup_of self.old) class name.now function.now fields) }
-    {
-        self.add_object(class, name, function, Fields::Task(fields))
     }
 
     /// Lets a name stand for a number.
