@@ -16,10 +16,12 @@ use Rattle.fmp_codes.specs.declared.records.Event.{Event}
 use Rattle.fmp_codes.specs.declared.records.Event.TheVariants as event
 use Rattle.fmp_codes.specs.declared.records.Record.{Record}
 use Rattle.fmp_codes.specs.declared.records.Runner.TheVariants as runner
+use Rattle.fmp_calls.specs.Arguments.{EventInBits}
 use Rattle.fmp_machine.specs.declared.effect.Effect.{Effect}
 use Rattle.fmp_machine.specs.declared.machine.TaskRecord.{TaskRecord}
 use Rattle.fmp_machine.specs.Setup.{Setup}
 use Rattle.fmp_machine.specs.Valid.{IsValid}
+use Rattle.fmp_machine.specs.Setup.{has_time}
 use Rattle.fmp_machine.specs.World.{World, no_task, item, first, processor, handler, runner_of, is_held}
 use Rattle.fmp_machine.specs.Keeping.{Keeping}
 use Rattle.fmp_machine.specs.Numbers.{State, numbered}
@@ -29,11 +31,15 @@ use Rattle.fmp_machine.specs.Step.{is_same, tops, is_requested, settle, changed_
 use Rattle.fmp_machine.specs.Boot.{booted}
 use Rattle.fmp_safety.specs.Counts.{Counts, counts_of, IsRunnerOf, IsTaskOf, IsReleaseOf, HasCounts, NamesOnly}
 use Rattle.fmp_safety.specs.Safe.{IsNumberOf, may_run_on, Safe}
-use Rattle.fmp_safety.proofs.Booting.{item_holds}
+use Rattle.fmp_safety.proofs.Items.{item_holds}
 use Rattle.fmp_safety.proofs.Booted.{booted_safe}
 use Rattle.fmp_safety.proofs.Counted.{counts_settle, counts_booted}
 use Rattle.fmp_safety.proofs.Stepping.{numbered_tops, safe_step}
-use Rattle.fmp_safety.proofs.TellsCalls.{Tells, tells_plain, tells_call}
+use Rattle.fmp_safety.proofs.Listed.{numbered_lists}
+use Rattle.fmp_safety.proofs.Queues.{Lists}
+use Rattle.fmp_safety.proofs.Tells.{Tells, tells_plain}
+use Rattle.fmp_safety.proofs.TellsCalls.{tells_call}
+use Rattle.fmp_safety.proofs.TellsTick.{tells_tick}
 
 -- ---- requests
 
@@ -93,7 +99,7 @@ changed_to n before after f = cond_both (is_same before after) None (Some after)
 
 -- ---- a step
 
-module _ {Q : Type 0} (k : Keeping Q) (n : Counts) (w : World Q) (s : Safe k w) (h : HasCounts n w) where
+module _ {Q : Type 0} (k : Keeping Q) (lists : (v : World Q) → Lists k v) (n : Counts) (w : World Q) (s : Safe k w) (h : HasCounts n w) where
   -- a state that has the counts, and a record that names nothing else, where the state is safe
   abbrev Told : World Q × Record → Type 0
   Told x = Safe k x.0 → HasCounts n x.0 × NamesOnly n x.1
@@ -133,14 +139,17 @@ module _ {Q : Type 0} (k : Keeping Q) (n : Counts) (w : World Q) (s : Safe k w) 
     },
   )
 
-  step_told : (e : Event) → (processor_of e).number ≤ n.processors → Told (step k w e)
-  step_told (event.Call p c) on =
-      cond_both (is_some (runner_of w p)) _ _ Told (λ _. settled_told (event.Call p c) on (called w p (row_of k w p c)) (tells_call k n w h p c))
+  step_told : (e : Event) → (processor_of e).number ≤ n.processors → EventInBits e → Told (step k w e)
+  step_told (event.Call p c) on fits =
+      cond_both (is_some (runner_of w p)) _ _ Told (λ _. settled_told (event.Call p c) on (called w p (row_of k w p c)) (tells_call k n w h s (lists w) p c fits))
       (λ _. unchanged_told (event.Call p c) on answer.Idle tt)
-  step_told (event.Tick p) on =
+  step_told (event.Tick p) on fits =
+      cond_both (has_time w.timer p) _ _ Told
+      (λ _.
       cond_both ((processor w p).locked || is_some (handler w p)) _ _ Told (λ _. unchanged_told (event.Tick p) on answer.Held tt)
-      (λ _. settled_told (event.Tick p) on (tick k w p) (tells_plain n w answer.Taken h tt))
-  step_told (event.Ipi p) on =
+      (λ _. settled_told (event.Tick p) on (tick k w p) (tells_tick k lists n p w h)))
+      (λ _. unchanged_told (event.Tick p) on answer.Nothing tt)
+  step_told (event.Ipi p) on fits =
       let found : Answer = if (processor w p).latch then answer.Taken else answer.Nothing in
       cond_both (is_held w p) _ _ Told (λ _. unchanged_told (event.Ipi p) on answer.Held tt)
       (λ _. settled_told (event.Ipi p) on (w, plain found) (tells_plain n w found h (cond_both (processor w p).latch answer.Taken answer.Nothing AnswerFits (λ _. tt) (λ _. tt))))
@@ -149,20 +158,20 @@ module _ {Q : Type 0} (k : Keeping Q) (n : Counts) (w : World Q) (s : Safe k w) 
 
 module _ (n : Counts) where
   safe_after : (m : State) (e : Event) → Safe numbered m → HasCounts n m → (processor_of e).number ≤ n.processors → Safe numbered (step numbered m e).0
-  safe_after m e s h on = (safe_step numbered numbered_tops m e s ((processor_of e).least, rw h.processors on)).safe
+  safe_after m e s h on = (safe_step numbered numbered_tops numbered_lists m e s ((processor_of e).least, rw h.processors on)).safe
 
-  pub step_names : (m : State) (e : Event) → Safe numbered m → HasCounts n m → (processor_of e).number ≤ n.processors →
+  pub step_names : (m : State) (e : Event) → Safe numbered m → HasCounts n m → (processor_of e).number ≤ n.processors → EventInBits e →
       HasCounts n (step numbered m e).0 × NamesOnly n (step numbered m e).1
-  step_names m e s h on = step_told numbered n m s h e on (safe_after m e s h on)
+  step_names m e s h on fits = step_told numbered numbered_lists n m s h e on fits (safe_after m e s h on)
 
-  answers_name : (m : State) (es : List Event) → Safe numbered m → HasCounts n m → AreOn n.processors es → All (NamesOnly n) (answers numbered m es)
-  answers_name m [] s h on = All-nil (NamesOnly n)
-  answers_name m (e ∷ es) s h on =
+  answers_name : (m : State) (es : List Event) → Safe numbered m → HasCounts n m → AreOn n.processors es → All EventInBits es → All (NamesOnly n) (answers numbered m es)
+  answers_name m [] s h on fits = All-nil (NamesOnly n)
+  answers_name m (e ∷ es) s h on fits =
       let OnThem : Event → Type 0 = λ x. (processor_of x).number ≤ n.processors in
       let here : (processor_of e).number ≤ n.processors = on 0 e (omega arith) in
-      let one = step_names m e s h here in
+      let one = step_names m e s h here (fits 0 e (omega arith)) in
       All-cons (NamesOnly n) (step numbered m e).1 (answers numbered (step numbered m e).0 es) one.1
-      (answers_name (step numbered m e).0 es (safe_after m e s h here) one.0 (All-tail OnThem e es on))
+      (answers_name (step numbered m e).0 es (safe_after m e s h here) one.0 (All-tail OnThem e es on) (All-tail EventInBits e es fits))
 
-pub runs_name : (c : Setup) (es : List Event) → IsValid c → AreOn c.processors es → All (NamesOnly (counts_of c)) (answers numbered (booted c) es)
-runs_name c es valid on = answers_name (counts_of c) (booted c) es (booted_safe c valid) (counts_booted c valid) on
+pub runs_name : (c : Setup) (es : List Event) → IsValid c → AreOn c.processors es → All EventInBits es → All (NamesOnly (counts_of c)) (answers numbered (booted c) es)
+runs_name c es valid on fits = answers_name (counts_of c) (booted c) es (booted_safe c valid) (counts_booted c valid) on fits
