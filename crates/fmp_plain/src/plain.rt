@@ -1,6 +1,7 @@
 //! The plain machine, and how many steps it made.
-ghost use Rattle.std.specs.Prelude.{◌≡◌, ◌+◌, ◌<◌, IsOk, IfOk};
+ghost use Rattle.std.specs.Prelude.{◌≡◌, ◌+◌, ◌<◌, IfOk};
 ghost use Rattle.fmp_machine.specs.Boot.{booted};
+ghost use Rattle.fmp_machine.specs.Valid.{IsValid};
 ghost use Rattle.fmp_machine.specs.Numbers.{numbered};
 ghost use Rattle.fmp_machine.specs.Step.{step};
 ghost use Rattle.fmp_safety.specs.Safe.{Safe};
@@ -32,13 +33,13 @@ impl Model for Plain {
 }
 
 impl Plain {
-    /// The machine at boot. It takes no memory yet, so it is never refused.
+    /// The machine at boot. It takes all of its memory here, where it may be refused; a step takes none.
     pub fn boot(config: &Config) -> Result<Plain, AllocError>
-        ensures made { IsOk result }
         ensures state { IfOk result (λ m. m ≡ record { state = booted config.now; steps = 0 }) }
         ensures safe { IfOk result (λ m. Safe numbered m.state) }
+        ensures valid { IfOk result (λ m. IsValid config.now) }
     {
-        let mut machine = Machine::blank(config);
+        let mut machine = Machine::blank(config)?;
         boot(&mut machine, config);
         Ok(Plain { machine, steps: 0 })
     }

@@ -1,14 +1,25 @@
 //! The plain machine between two events: its records, and the words by which they change.
 //!
-//! Nothing is queued. Each task has a number that tells when it last became ready, and whatever comes first is found by
-//! looking at all of them. It is slow, and easy to compare with the rules.
+//! Nothing is queued. Each task has numbers that tell when it last became ready and when its wait began, and whatever comes
+//! first is found by looking at all of them. It is slow, and easy to compare with the rules.
 #![tactic(auto)]
 
 mod blank;
+mod blocks;
+mod counts;
+mod data_queue;
+mod data_queues;
+mod due;
+mod groups;
+mod handlers;
+mod kept;
+mod locks;
 mod machine;
 mod numbers;
-mod objects;
+mod object_words;
 mod order;
+mod resources;
+mod waiting;
 mod words;
 
 pub use machine::Machine;

@@ -1,72 +1,81 @@
-//! What comes first.
-ghost use Rattle.std.specs.Prelude.{◌≡◌};
-ghost use Rattle.fmp_machine.specs.World.{item};
-ghost use Rattle.fmp_machine.specs.Keeping.{is_runnable, top};
-ghost use Rattle.fmp_machine.specs.Numbers.{numbered, is_ready_on, priority_in, comes_before};
+//! What comes first, and what comes after it.
+ghost use Rattle.std.specs.Prelude.{◌≡◌, ◌+◌, ◌≤◌, ◌<◌, length, insert};
+ghost use Rattle.fmp_machine.specs.World.{first};
+ghost use Rattle.fmp_machine.specs.Numbers.{inserted};
 ghost use Rattle.fmp_plain_rows.specs.Better.{better};
+ghost use Rattle.fmp_plain_rows.specs.Groups.{members, precedes};
 
+use crate::groups::Group;
 use crate::machine::Machine;
-use fmp_codes::{Proc, Task};
-use fmp_machine::TaskRecord;
-use fmp_rows::Words;
-
-/// Whether a task is active, with no wait and not suspended.
-pub(crate) fn is_runnable(task: &TaskRecord) -> bool
-    ensures { result ≡ is_runnable task.now }
-{
-    task.active && task.wait.is_none() && !task.suspended
-}
+use arrayvec::ArrayVec;
+use fmp_codes::Task;
 
 impl Machine {
-    /// The task that comes first on a processor.
-    #[tactic(auto, using(crate::proofs::First::first_in_order), unfolding(fmp_machine::specs::Numbers::numbered))]
-    pub(crate) fn first_ready(&self, p: Proc) -> Option<Task>
-        ensures { result ≡ top numbered self.now p }
+    /// The task of a group that comes first.
+    #[tactic(auto, using(crate::proofs::First::first_in_order))]
+    pub(crate) fn first_of(&self, group: Group) -> Option<Task>
+        ensures { result ≡ first (members self.now group) }
     {
         let mut best: Option<Task> = None;
-        for index in 0..self.tasks.len() {
+        for index in 0..self.candidates(group) {
             let t = Task::from_index(index);
-            if self.is_ready_on(t, p) {
-                best = self.better(t, best);
+            if self.is_member(group, t) {
+                best = self.better(group, t, best);
             }
         }
         best
     }
 
-    fn is_ready_on(&self, t: Task, p: Proc) -> bool
-        ensures { result ≡ is_ready_on self.now.tasks p t }
-    {
-        let task = self.task(t);
-        is_runnable(&task) && task.assigned.number == p.number
-    }
-
-    /// When a task last became ready or was put last.
-    fn ready_number(&self, t: Task) -> u64
-        ensures { result ≡ item 0 self.now.order.ready t.number }
-    {
-        self.ready.as_slice().get(t.index()).copied().unwrap_or(0)
-    }
-
-    fn comes_before(&self, t: Task, u: Task) -> bool
-        ensures { result ≡ comes_before (priority_in self.now.tasks) self.now.order.ready t u }
-    {
-        let a = self.task(t).priority.number;
-        let b = self.task(u).priority.number;
-        a < b || (a == b && self.ready_number(t) < self.ready_number(u))
-    }
-
-    fn better(&self, t: Task, best: Option<Task>) -> Option<Task>
-        ensures { result ≡ better (comes_before (priority_in self.now.tasks) self.now.order.ready) t best }
+    fn better(&self, group: Group, t: Task, best: Option<Task>) -> Option<Task>
+        ensures { result ≡ better (precedes self.now group) t best }
     {
         match best {
             None => Some(t),
             Some(u) => {
-                if self.comes_before(t, u) {
+                if self.precedes(group, t, u) {
                     Some(t)
                 } else {
                     Some(u)
                 }
             }
         }
+    }
+
+    /// The tasks of a group, in their order.
+    #[tactic(auto, using(crate::proofs::Inserted::one_more))]
+    pub(crate) fn members(&self, group: Group) -> ArrayVec<Task, 64>
+        ensures { result.items ≡ members self.now group }
+    {
+        let mut list = ArrayVec::new();
+        for index in 0..self.candidates(group) {
+            let t = Task::from_index(index);
+            if self.is_member(group, t) {
+                self.insert(group, t, &mut list);
+            }
+        }
+        list
+    }
+
+    /// Puts a task before those that it comes before.
+    fn insert(&self, group: Group, t: Task, list: &mut ArrayVec<Task, 64>)
+        requires { length list.old.items < 64 }
+        ensures list { list.new.items ≡ inserted (precedes self.now group) t list.old.items }
+        ensures length { length list.new.items ≡ length list.old.items + 1 }
+    {
+        let place = self.place_of(group, t, list.as_slice());
+        list.insert(place, t);
+    }
+
+    /// The place in a list of the first task that another one comes before, or else its end.
+    fn place_of(&self, group: Group, t: Task, list: &[Task]) -> usize
+        ensures within { result ≤ length list.now }
+        ensures place { insert list.now result t ≡ inserted (precedes self.now group) t list.now }
+    {
+        for (index, u) in list.iter().enumerate() {
+            if self.precedes(group, t, *u) {
+                return index;
+            }
+        }
+        list.len()
     }
 }

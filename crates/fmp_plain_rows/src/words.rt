@@ -2,11 +2,12 @@
 ghost use Rattle.std.specs.Prelude.{◌-◌, ◌^◌};
 ghost use Rattle.fmp_machine.specs.Numbers.{Numbers, numbered};
 
+use crate::groups::{Group, is_runnable};
+use crate::locks::{free, holds};
 use crate::machine::Machine;
-use crate::order::is_runnable;
-use fmp_codes::{Proc, Runner, Task};
-use fmp_machine::{Processor, TaskRecord, Wait};
-use fmp_rows::Words;
+use fmp_codes::{Pri, Proc, Runner, Task};
+use fmp_machine::{Limits, Processor, TaskRecord, Wait};
+use fmp_words::Words;
 
 impl Words for Machine {
     ghost Order = { Numbers };
@@ -46,15 +47,25 @@ impl Words for Machine {
         due.head()
     }
 
+    #[tactic(auto, unfolding(fmp_machine::specs::Numbers::numbered))]
     fn top(&self, p: Proc) -> Option<Task> {
-        self.first_ready(p)
+        self.first_of(Group::Ready(p))
     }
 
-    // No call takes a spin lock yet. That the view has no holder is seen where the number of the spin locks is read, as here and
-    // in `unlock`.
-    fn holds_lock(&self, _p: Proc) -> bool {
-        let _spin_locks = self.objects.spin_locks;
-        false
+    #[tactic(auto, unfolding(fmp_machine::specs::Numbers::numbered))]
+    fn first_ready(&self, p: Proc, priority: Pri) -> Option<Task> {
+        self.first_of(Group::ReadyAt(p, priority))
+    }
+
+    fn limits(&self) -> Limits {
+        Limits {
+            wakeups: self.most_wakeups,
+            priorities: self.last_priority.number,
+        }
+    }
+
+    fn holds_lock(&self, p: Proc) -> bool {
+        holds(p, self.resources.holders.as_slice())
     }
 
     fn set_processor(&mut self, p: Proc, changed: Processor) {
@@ -64,8 +75,8 @@ impl Words for Machine {
     }
 
     fn unlock(&mut self, p: Proc) {
-        let _spin_locks = self.objects.spin_locks;
-        self.leave_locked_state(p);
+        self.set_locked(p, false);
+        free(p, &mut self.resources.holders);
     }
 
     fn note(&mut self, t: Task, changed: TaskRecord) {

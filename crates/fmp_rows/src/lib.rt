@@ -1,18 +1,13 @@
-//! The service calls over any machine that keeps its tasks by the words of the definitions.
+//! The service calls on tasks and on processors, over any machine that keeps its tasks by the words of the definitions.
 //!
-//! What a machine has to do is the trait [`Words`]. The checks of the calls and the calls themselves are functions over it, so
-//! that each is written and proved once.
+//! What a machine has to do is the trait [`fmp_words::Words`]. Each call is a function over it, so that it is written and proved
+//! once: it looks for its errors in their order, and then does what its row says.
 #![tactic(auto)]
 
-mod checks;
-mod family;
-mod processors;
+mod rotation;
 mod system_calls;
 mod task_calls;
-mod tasks;
-mod words;
+mod task_waits;
 
-pub use checks::{is_held, runner};
-pub use family::call;
-pub use tasks::start;
-pub use words::Words;
+pub use system_calls::system_call;
+pub use task_calls::task_call;

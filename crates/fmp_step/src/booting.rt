@@ -6,7 +6,7 @@ ghost use Rattle.fmp_machine.specs.Valid.{IsValid};
 
 use fmp_codes::{Proc, Task};
 use fmp_machine::{Config, Processor, TaskSetup};
-use fmp_rows::{Words, start};
+use fmp_words::{Words, start};
 
 /// Starts the tasks that the configuration says.
 fn start_all<M: Words>(machine: &mut M, setups: &[TaskSetup])

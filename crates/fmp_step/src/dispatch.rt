@@ -5,7 +5,7 @@ ghost use Rattle.fmp_machine.specs.Step.{tops, is_same, is_requested, requests, 
 use arrayvec::ArrayVec;
 use fmp_codes::{Proc, Requests, Task};
 use fmp_machine::Processor;
-use fmp_rows::{Words, is_held};
+use fmp_words::{Words, is_held};
 
 fn is_same(a: Option<Task>, b: Option<Task>) -> bool
     ensures { result ≡ is_same a b }

@@ -1,14 +1,17 @@
 //! One step of a machine.
 ghost use Rattle.std.specs.Prelude.{◌≡◌, ◌+◌, ◌≤◌, if◌then◌else◌};
+ghost use Rattle.fmp_machine.specs.Setup.{has_time};
 ghost use Rattle.fmp_machine.specs.World.{processor};
 ghost use Rattle.fmp_machine.specs.Step.{front_of, settled, unchanged, step};
 ghost use Rattle.fmp_step.specs.Fronts.{seen};
 
 use crate::dispatch::{changed_run, settle, tops};
+use crate::family;
+use crate::tick::tick;
 use arrayvec::ArrayVec;
 use fmp_codes::{Answer, Call, Event, Proc, Record, Runner, Task};
-use fmp_machine::Effect;
-use fmp_rows::{Words, is_held, runner};
+use fmp_machine::{Effect, Timer};
+use fmp_words::{Objects, Words, is_held, runner};
 
 /// What is remembered of the state before an event.
 #[derive(Debug, Drop)]
@@ -66,7 +69,7 @@ fn unchanged<M: Words>(machine: &M, event: Event, q: Proc, answer: Answer) -> Re
 }
 
 /// Plays one event, and tells what it answers and did.
-pub fn step<M: Words>(machine: &mut M, event: Event) -> Record
+pub fn step<M: Objects>(machine: &mut M, event: Event) -> Record
     requires { 64 ≤ M.room machine.old }
     ensures step { (M.world machine.new, result) ≡ step M.keeping (M.world machine.old) event }
     ensures room { M.room machine.old ≤ M.room machine.new + 64 }
@@ -78,7 +81,7 @@ pub fn step<M: Words>(machine: &mut M, event: Event) -> Record
     }
 }
 
-fn step_call<M: Words>(machine: &mut M, p: Proc, call: Call) -> Record
+fn step_call<M: Objects>(machine: &mut M, p: Proc, call: Call) -> Record
     requires { 64 ≤ M.room machine.old }
     ensures step { (M.world machine.new, result) ≡ step M.keeping (M.world machine.old) (Event.Call p call) }
     ensures room { M.room machine.old ≤ M.room machine.new + 64 }
@@ -88,20 +91,35 @@ fn step_call<M: Words>(machine: &mut M, p: Proc, call: Call) -> Record
         return unchanged(machine, event, p, Answer::Idle);
     }
     let front = front_of(machine, event, p);
-    let effect = fmp_rows::call(machine, p, call);
+    let effect = family::call(machine, p, call);
     settled(machine, front, effect)
 }
 
-fn step_tick<M: Words>(machine: &mut M, p: Proc) -> Record
+/// Whether ticks on a processor count.
+fn has_time(timer: Timer, p: Proc) -> bool
+    ensures { result ≡ has_time timer p }
+{
+    match timer {
+        Timer::Local => true,
+        Timer::Global(master) => p.number == master.number,
+    }
+}
+
+fn step_tick<M: Objects>(machine: &mut M, p: Proc) -> Record
+    requires { 64 ≤ M.room machine.old }
     ensures step { (M.world machine.new, result) ≡ step M.keeping (M.world machine.old) (Event.Tick p) }
-    ensures room { M.room machine.new ≡ M.room machine.old }
+    ensures room { M.room machine.old ≤ M.room machine.new + 64 }
 {
     let event = Event::Tick(p);
+    if !has_time(machine.timer(), p) {
+        return unchanged(machine, event, p, Answer::Nothing);
+    }
     if machine.processor(p).locked || machine.handler(p).is_some() {
         return unchanged(machine, event, p, Answer::Held);
     }
     let front = front_of(machine, event, p);
-    settled(machine, front, Effect::answer(Answer::Taken))
+    let effect = tick(machine, p);
+    settled(machine, front, effect)
 }
 
 fn step_interrupt<M: Words>(machine: &mut M, p: Proc) -> Record
