@@ -2,6 +2,8 @@
 #![tactic(auto)]
 
 #[cfg(test)]
+mod contexts;
+#[cfg(test)]
 mod limits;
 #[cfg(test)]
 mod machines;
@@ -9,5 +11,21 @@ mod machines;
 mod plain;
 #[cfg(test)]
 mod run;
+#[cfg(test)]
+mod scenarios;
+#[cfg(test)]
+mod scenarios_buffers;
+#[cfg(test)]
+mod scenarios_many;
+#[cfg(test)]
+mod scenarios_processors;
+#[cfg(test)]
+mod scenarios_sync;
+#[cfg(test)]
+mod scenarios_tasks;
+#[cfg(test)]
+mod scenarios_time;
+#[cfg(test)]
+mod scenarios_timer;
 #[cfg(test)]
 mod trace;

@@ -48,7 +48,7 @@ const TRACE: &[u8] = b"\
 ";
 
 /// Runs over memory, and tells what is written.
-fn run(alloc: Global, config: &[u8], events: &[u8]) -> Result<MemSink, RunFault>
+pub fn run(alloc: Global, config: &[u8], events: &[u8]) -> Result<MemSink, RunFault>
     ensures { IfOk result (λ trace. IsAnswered config.now events.now [] trace.bytes.items) }
 {
     let mut trace = MemSink::with_room(alloc, MOST_TRACE)?;
@@ -165,9 +165,23 @@ CLASS(C1) {
   DEF_INH(5, {TA_NULL, hdr});
 }
 ";
+    let no_master = b"PROCESSORS(2);\nTIMER(GLOBAL, 3);\n";
+    let handler_elsewhere = b"\
+PROCESSORS(2);
+TIMER(GLOBAL, 1);
+DEF_CLASS(C1, 1, {1, 2});
+CLASS(C1) {
+  CRE_ALM(AL, {TA_NULL, 0, alarm1});
+}
+";
     for (config, fault) in [
         (cut.as_slice(), "line 4: F2 cut short"),
         (left_out.as_slice(), "line 4: F3 unsupported API DEF_INH"),
+        (no_master.as_slice(), "line 2: F7 value out of range"),
+        (
+            handler_elsewhere.as_slice(),
+            "line 5: F13 handler outside the time master AL",
+        ),
     ] {
         let events = MemSource::new(b"P1 jump\n");
         is_refused(&rt, rt.alloc(), MemSource::new(config), events, fault)?;
@@ -178,6 +192,10 @@ CLASS(C1) {
 #[test]
 fn refused_events(rt: HostRuntime) -> Result<(), Fail> {
     for (events, fault) in [
+        (
+            b"P1 dly_tsk(2147483648)\n".as_slice(),
+            "line 1: E5 number out of range",
+        ),
         (b"P3 tick\n".as_slice(), "line 1: E5 number out of range"),
         (b"P1 act_tsk(T9)\n".as_slice(), "line 1: E3 unknown name"),
         (b"P1 act_tsk()\n".as_slice(), "line 1: E4 wrong arguments"),
@@ -303,7 +321,7 @@ fn failed_flush(rt: HostRuntime) -> Result<(), Fail> {
 }
 
 /// Checks over memory, and tells what is written.
-fn checked(alloc: Global, config: &[u8], trace: &[u8]) -> Result<MemSink, RunFault> {
+pub fn checked(alloc: Global, config: &[u8], trace: &[u8]) -> Result<MemSink, RunFault> {
     let mut answer = MemSink::with_room(alloc, 20)?;
     run_check(
         alloc,

@@ -24,10 +24,11 @@ use Rattle.fmp_names.specs.declared.constants.Constant.TheVariants.{TskSelf, Tpr
 use Rattle.fmp_text.specs.Argument.{ranged, number32, constant_of}
 use Rattle.fmp_names.specs.Constants.{constant_in, value_of}
 use Rattle.fmp_text.specs.Events.{reading_of, faultless}
-use Rattle.fmp_text.specs.Grammar.{IsObjectName, SpellsValue, SpellsPieces, SpellsArguments, SpellsCall}
+use Rattle.fmp_text.specs.Grammar.{IsObjectName, SpellsValue, SpellsPieces, SpellsArguments, FollowsName, SpellsCall}
 use Rattle.fmp_names.specs.Names.{NameLists, AreValid, names_of}
 use Rattle.fmp_text.specs.TextGrammar.{OnProcessor, SpellsEvent, SpellsLines}
 use Rattle.fmp_bytes.proofs.Parsed.{and_then_parts, tested_some}
+use Rattle.fmp_calls.proofs.Matched.{bare_alone}
 use Rattle.fmp_names.proofs.Placed.{numbered}
 use Rattle.fmp_names.proofs.Valid.{most_of-le}
 use Rattle.fmp_text.proofs.SpelledTexts.{text_is_spelled}
@@ -109,8 +110,12 @@ arguments_in_bits : (names : NameLists) (kinds : List ArgumentKind) (values : Li
 arguments_in_bits names [] values text valid s = subst AreInBits (sym s.1) tt
 arguments_in_bits names (kind ∷ kinds) values text valid s = pieces_in_bits names (kind ∷ kinds) values s.0 valid s.2
 
+follows_in_bits : (names : NameLists) (call : Call) (rest : List ℕ) → AreValid names → FollowsName names call rest → CallInBits call
+follows_in_bits names call rest valid (inl s) = subst AreInBits (sym (bare_alone call s.0).1) tt
+follows_in_bits names call rest valid (inr s) = arguments_in_bits names (table.kinds_of call) (table.values_of call) s.1.inner valid s.1.arguments
+
 pub call_in_bits : (names : NameLists) (text : List ℕ) (call : Call) → AreValid names → SpellsCall names text call → CallInBits call
-call_in_bits names text call valid s = arguments_in_bits names (table.kinds_of call) (table.values_of call) s.inner valid s.arguments
+call_in_bits names text call valid s = follows_in_bits names call s.rest valid s.follows
 
 -- ---- events
 

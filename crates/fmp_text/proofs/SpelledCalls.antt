@@ -1,5 +1,5 @@
 -- A call is read exactly where it is spelled.
-use Rattle.std.proofs.Common.{◌≡◌, Option, ℕ, ◌<◌, ◌≤◌, Bool, true, false, not, ◌&&◌, ◌||◌, cond, eqb, inl, inr, List, [], ◌∷◌, ◌++◌, length, Some, None, Ok, option_and_then, refl, sym, ap, subst, ◌∙◌, arith}
+use Rattle.std.proofs.Common.{◌≡◌, Option, ℕ, ◌<◌, ◌≤◌, Bool, true, false, not, ◌&&◌, ◌||◌, cond, eqb, ◌⊎◌, inl, inr, List, [], ◌∷◌, ◌++◌, length, Some, None, Ok, option_and_then, refl, sym, ap, subst, ◌∙◌, arith}
 use Rattle.std.specs.List.{list_all, prefix_len, join_with_byte}
 use Rattle.std.specs.Option.{ok_or}
 use Rattle.std.proofs.lemmas.Bool.{cases_Bool, and_parts, and_from, or_cases, eq-eqb, ne_eqb, le-leb, eqb-true, false≢true}
@@ -15,12 +15,12 @@ use Rattle.fmp_calls.specs.declared.kinds.ArgumentKind.{ArgumentKind}
 use Rattle.fmp_calls.specs.declared.kinds.Value.{Value}
 use Rattle.fmp_text.specs.declared.fault.TextKind.TheVariants.{BadByte, BadWord, WrongArguments}
 use Rattle.fmp_names.specs.Names.{NameLists, AreValid}
-use Rattle.fmp_calls.specs.Table.{text_of, kinds_of, name_of, values_of, call_of}
-use Rattle.fmp_text.specs.Argument.{is_argument, token_in, tokens_in, arguments_in, before_close, enclosed_in, value_at}
+use Rattle.fmp_calls.specs.Table.{text_of, is_bare, kinds_of, name_of, values_of, call_of}
+use Rattle.fmp_text.specs.Argument.{is_argument, token_in, tokens_in, arguments_in, before_close, enclosed_in, arguments_behind, value_at}
 use Rattle.fmp_text.specs.Reading.{◌>>=◌, named_call, values_at, call_with, call_after, call_at, call_in}
-use Rattle.fmp_text.specs.Grammar.{AreBlank, Padded, SpellsPieces, SpellsArguments, SpellsCall}
+use Rattle.fmp_text.specs.Grammar.{AreBlank, Padded, SpellsPieces, SpellsArguments, SpellsEnclosed, FollowsName, SpellsCall}
 use Rattle.fmp_text.proofs.Spelled.{value_at-spelled, value_is_spelled}
-use Rattle.fmp_calls.proofs.Matched.{call_of-parts, call_of-agrees, call_of-same, named-text_of, text_of-named, kinds_of-name_of, is_identifier-text_of, length-kinds_of-le}
+use Rattle.fmp_calls.proofs.Matched.{call_of-parts, call_of-agrees, call_of-same, named-text_of, text_of-named, is_bare-name_of, kinds_of-name_of, bare_alone, is_identifier-text_of, length-kinds_of-le}
 use Rattle.fmp_bytes.proofs.Parsed.{and_then_parts, ok_or_parts, tested_some, tested_ok}
 use Rattle.fmp_text.proofs.Parsed.{bind_parts}
 
@@ -205,67 +205,99 @@ enclosed_read between inner rest blank no_close ended =
     let skipped = start.1 in
     rw (skipped, behind-same 40 (inner ++ (41 ∷ rest)), cut_at-append 41 inner rest no_close, ended) refl
 
+blanks_in_line : (bytes : List ℕ) → AreBlank bytes → list_all (is_of Line) bytes ≡ true
+blanks_in_line bytes blank = list_all-weaker (is_of Blank) (is_of Line) line-blank bytes blank
+
+-- what reading gives of what follows a call's name
+pub record RestRead (names : NameLists) (call : Call) (rest : List ℕ) : Type 0 where
+  pub tokens : List (List ℕ)
+  pub formed : arguments_behind 4 (is_bare call) rest ≡ Some tokens
+  pub judged : values_at names (kinds_of call) tokens ≡ Ok (values_of call)
+  pub as_many : length tokens ≡ length (kinds_of call)
+  pub in_line : list_all (is_of Line) rest ≡ true
+
+bare_read : (names : NameLists) (call : Call) (rest : List ℕ) → is_bare call ≡ true → AreBlank rest → RestRead names call rest
+unfolding arguments_behind
+bare_read names call rest bare blank =
+    let alone = bare_alone call bare in
+    let no_kinds = alone.0 in let no_values = alone.1 in
+    record {
+      tokens = [];
+      formed = rw (bare, blank) refl;
+      judged = rw (no_kinds, no_values) refl;
+      as_many = rw no_kinds refl;
+      in_line = blanks_in_line rest blank;
+    }
+
+enclosed_rest_read : (names : NameLists) (call : Call) (rest : List ℕ) → AreValid names → is_bare call ≡ false → SpellsEnclosed names call rest → RestRead names call rest
+unfolding arguments_behind is_of
+enclosed_rest_read names call rest valid bare s =
+    let read = inner_read names (kinds_of call) (values_of call) s.inner valid (length-kinds_of-le call) s.arguments in
+    let formed = read.formed in let parts = s.parts in
+    let inside_line = list_all-both (is_of Line) s.inner (41 ∷ s.behind) read.in_line (and_from (is_of Line 41) (list_all (is_of Line) s.behind) refl (blanks_in_line s.behind s.behind_blank)) in
+    record {
+      tokens = read.tokens;
+      formed = rw (bare, parts, enclosed_read s.between s.inner s.behind s.between_blank read.no_close s.behind_blank) formed;
+      judged = read.judged;
+      as_many = read.as_many;
+      in_line = rw parts (list_all-both (is_of Line) s.between (40 ∷ (s.inner ++ (41 ∷ s.behind))) (blanks_in_line s.between s.between_blank) inside_line);
+    }
+
+rest_read : (names : NameLists) (call : Call) (rest : List ℕ) → AreValid names → FollowsName names call rest → RestRead names call rest
+rest_read names call rest valid (inl s) = bare_read names call rest s.0 s.1
+rest_read names call rest valid (inr s) = enclosed_rest_read names call rest valid s.0 s.1
+
 -- what follows the name
-after_read : (names : NameLists) (call : Call) (between inner rest : List ℕ) → AreValid names → AreBlank between → AreBlank rest → InnerRead names (kinds_of call) (values_of call) inner
-    → call_after names (name_of call) (between ++ (40 ∷ (inner ++ (41 ∷ rest)))) ≡ Ok call
+after_read : (names : NameLists) (call : Call) (rest : List ℕ) → RestRead names call rest → call_after names (name_of call) rest ≡ Ok call
 unfolding call_after call_with
-after_read names call between inner rest valid blank ended found =
-    let read : InnerRead names (kinds_of (name_of call)) (values_of call) inner = subst (λ (kinds : List ArgumentKind). InnerRead names kinds (values_of call) inner) (sym (kinds_of-name_of call)) found in
-    let formed = read.formed in let judged = read.judged in
-    let test = eq-eqb (length read.tokens) (length (kinds_of (name_of call))) read.as_many in
-    rw (enclosed_read between inner rest blank read.no_close ended, formed, test, judged, call_of-parts call) refl
+after_read names call rest read =
+    let kinds = kinds_of-name_of call in
+    let formed : arguments_behind 4 (is_bare (name_of call)) rest ≡ Some read.tokens = ap (λ (bare : Bool). arguments_behind 4 bare rest) (is_bare-name_of call) ∙ read.formed in
+    let judged : values_at names (kinds_of (name_of call)) read.tokens ≡ Ok (values_of call) = ap (λ (ks : List ArgumentKind). values_at names ks read.tokens) kinds ∙ read.judged in
+    let test = eq-eqb (length read.tokens) (length (kinds_of (name_of call))) (read.as_many ∙ ap length (sym kinds)) in
+    rw (formed, test, judged, call_of-parts call) refl
 
 named_call-text_of : (call : Call) → named_call (text_of call) ≡ Ok (name_of call)
 unfolding named_call
 named_call-text_of call = ap (λ (found : Option Call). ok_or found BadWord) (named-text_of call)
 
--- the name is the first word
-name_read : (call : Call) (between rest : List ℕ) → AreBlank between → (front Word (text_of call ++ (between ++ (40 ∷ rest))) ≡ text_of call) × (after Word (text_of call ++ (between ++ (40 ∷ rest))) ≡ between ++ (40 ∷ rest))
+-- a name ends where what follows it begins
+no_word : (names : NameLists) (call : Call) (rest : List ℕ) → FollowsName names call rest → prefix_len (is_of Word) rest ≡ 0
 unfolding is_of
-name_read call between rest blank =
-    let word = identifier_words (text_of call) (is_identifier-text_of call) in
-    let stop = stops-append (is_of Word) between 40 rest (list_all-weaker (is_of Blank) (λ b. not (is_of Word b)) not-word between blank) refl in
-    let whole = front-append Word (text_of call) (between ++ (40 ∷ rest)) word stop in
-    (whole.0, whole.1)
+no_word names call rest (inl s) = stops-all (is_of Word) rest (list_all-weaker (is_of Blank) (λ b. not (is_of Word b)) not-word rest s.1)
+no_word names call rest (inr s) =
+    let e = s.1 in
+    ap (prefix_len (is_of Word)) e.parts ∙ stops-append (is_of Word) e.between 40 (e.inner ++ (41 ∷ e.behind)) (list_all-weaker (is_of Blank) (λ b. not (is_of Word b)) not-word e.between e.between_blank) refl
 
--- a call with no blanks before it
-at_read : (names : NameLists) (call : Call) (between inner rest : List ℕ) → AreValid names → AreBlank between → AreBlank rest → InnerRead names (kinds_of call) (values_of call) inner
-    → call_at names (text_of call ++ (between ++ (40 ∷ (inner ++ (41 ∷ rest))))) ≡ Ok call
-unfolding call_at
-at_read names call between inner rest valid blank ended read =
-    let whole = name_read call between (inner ++ (41 ∷ rest)) blank in
-    let name = whole.0 in let follows = whole.1 in
-    rw (name, follows, named_call-text_of call) (after_read names call between inner rest valid blank ended read)
+-- the name is the first word
+name_read : (names : NameLists) (call : Call) (rest : List ℕ) → FollowsName names call rest → (front Word (text_of call ++ rest) ≡ text_of call) × (after Word (text_of call ++ rest) ≡ rest)
+name_read names call rest follows = front-append Word (text_of call) rest (identifier_words (text_of call) (is_identifier-text_of call)) (no_word names call rest follows)
 
 -- the bytes of a call may stand in a line
 pub line_of_call : (names : NameLists) (text : List ℕ) (call : Call) → AreValid names → SpellsCall names text call → list_all (is_of Line) text ≡ true
-unfolding is_of
 line_of_call names text call valid s =
-    let read = inner_read names (kinds_of call) (values_of call) s.inner valid (length-kinds_of-le call) s.arguments in
-    let blanks : (bytes : List ℕ) → AreBlank bytes → list_all (is_of Line) bytes ≡ true = λ bytes blank. list_all-weaker (is_of Blank) (is_of Line) line-blank bytes blank in
+    let read = rest_read names call s.rest valid s.follows in
     let word = list_all-weaker (is_of Argument) (is_of Line) line-argument (text_of call) (identifier_bytes (text_of call) (is_identifier-text_of call)).1 in
-    let close = and_from (is_of Line 41) (list_all (is_of Line) s.behind) refl (blanks s.behind s.behind_blank) in
-    let inner = list_all-both (is_of Line) s.inner (41 ∷ s.behind) read.in_line close in
-    let enclosed = and_from (is_of Line 40) (list_all (is_of Line) (s.inner ++ (41 ∷ s.behind))) refl inner in
-    let between = list_all-both (is_of Line) s.between (40 ∷ (s.inner ++ (41 ∷ s.behind))) (blanks s.between s.between_blank) enclosed in
-    let named = list_all-both (is_of Line) (text_of call) (s.between ++ (40 ∷ (s.inner ++ (41 ∷ s.behind)))) word between in
-    ap (list_all (is_of Line)) s.parts ∙ list_all-both (is_of Line) s.before (text_of call ++ (s.between ++ (40 ∷ (s.inner ++ (41 ∷ s.behind))))) (blanks s.before s.before_blank) named
+    ap (list_all (is_of Line)) s.parts ∙ list_all-both (is_of Line) s.before (text_of call ++ s.rest) (blanks_in_line s.before s.before_blank) (list_all-both (is_of Line) (text_of call) s.rest word read.in_line)
 
 -- what follows the blanks before it
-skipped_blanks : (names : NameLists) (text : List ℕ) (call : Call) (s : SpellsCall names text call) → after Blank text ≡ text_of call ++ (s.between ++ (40 ∷ (s.inner ++ (41 ∷ s.behind))))
+skipped_blanks : (names : NameLists) (text : List ℕ) (call : Call) (s : SpellsCall names text call) → after Blank text ≡ text_of call ++ s.rest
 skipped_blanks names text call s =
     let bytes = identifier_bytes (text_of call) (is_identifier-text_of call) in
-    let start = front-append Blank s.before (text_of call ++ (s.between ++ (40 ∷ (s.inner ++ (41 ∷ s.behind))))) s.before_blank (token_first (text_of call) (s.between ++ (40 ∷ (s.inner ++ (41 ∷ s.behind)))) bytes) in
+    let start = front-append Blank s.before (text_of call ++ s.rest) s.before_blank (token_first (text_of call) s.rest bytes) in
     ap (after Blank) s.parts ∙ start.1
 
 pub word_of_call : (names : NameLists) (text : List ℕ) (call : Call) → SpellsCall names text call → front Word (after Blank text) ≡ text_of call
-word_of_call names text call s = ap (front Word) (skipped_blanks names text call s) ∙ (name_read call s.between (s.inner ++ (41 ∷ s.behind)) s.between_blank).0
+word_of_call names text call s = ap (front Word) (skipped_blanks names text call s) ∙ (name_read names call s.rest s.follows).0
 
 -- behind the blanks before it
 pub call_at-spelled : (names : NameLists) (text : List ℕ) (call : Call) → AreValid names → SpellsCall names text call → call_at names (after Blank text) ≡ Ok call
+unfolding call_at
 call_at-spelled names text call valid s =
-    let read = inner_read names (kinds_of call) (values_of call) s.inner valid (length-kinds_of-le call) s.arguments in
-    ap (call_at names) (skipped_blanks names text call s) ∙ at_read names call s.between s.inner s.behind valid s.between_blank s.behind_blank read
+    let read = rest_read names call s.rest valid s.follows in
+    let whole = name_read names call s.rest s.follows in
+    let name = whole.0 in let follows = whole.1 in
+    rw (skipped_blanks names text call s, name, follows, named_call-text_of call) (after_read names call s.rest read)
 
 pub call_in-spelled : (names : NameLists) (text : List ℕ) (call : Call) → AreValid names → SpellsCall names text call → call_in names text ≡ Ok call
 unfolding call_in
@@ -352,33 +384,51 @@ enclosed_spelled text inner e =
       parts = sym (front-after Blank text) ∙ ap (λ (r : List ℕ). front Blank text ++ r) (opened ∙ ap (λ (r : List ℕ). 40 ∷ r) closed);
     }
 
+-- what follows a name of these kinds and is read as these values
+follows_spelled : (names : NameLists) (bare : Bool) (kinds : List ArgumentKind) (values : List Value) (rest : List ℕ) (tokens : List (List ℕ))
+    → arguments_behind 4 bare rest ≡ Some tokens → length tokens ≡ length kinds → values_at names kinds tokens ≡ Ok values
+    → ((bare ≡ true) × AreBlank rest) ⊎ ((bare ≡ false) × ((inner : List ℕ) × Enclosed rest inner × SpellsArguments names kinds values inner))
+unfolding arguments_behind
+follows_spelled names true kinds values rest tokens formed as_many judged = inl (refl, (tested_some (list_all (is_of Blank) rest) [] tokens formed).0)
+follows_spelled names false kinds values rest tokens formed as_many judged =
+    let i = and_then_parts (enclosed_in rest) (arguments_in 4) tokens formed in
+    inr (refl, (i.0, enclosed_spelled rest i.0 i.1, inner_spelled names kinds values i.0 tokens i.2 as_many judged))
+
+follows_name : (names : NameLists) (call : Call) (rest : List ℕ)
+    → ((is_bare call ≡ true) × AreBlank rest) ⊎ ((is_bare call ≡ false) × ((inner : List ℕ) × Enclosed rest inner × SpellsArguments names (kinds_of call) (values_of call) inner))
+    → FollowsName names call rest
+follows_name names call rest (inl s) = inl s
+follows_name names call rest (inr s) =
+    let e = s.1.1 in
+    inr (s.0, record { between = e.between; inner = s.1.0; behind = e.behind; between_blank = e.between_blank; behind_blank = e.behind_blank; arguments = s.1.2; parts = e.parts })
+
+-- what follows the name of a call that was read
+rest_spelled : (names : NameLists) (name call : Call) (rest : List ℕ) → call_after names name rest ≡ Ok call → FollowsName names call rest × (text_of call ≡ text_of name)
+unfolding call_after call_with
+rest_spelled names name call rest e =
+    let a = bind_parts (ok_or (arguments_behind 4 (is_bare name) rest) WrongArguments) _ call e in
+    let w = tested_ok (eqb (length a.0) (length (kinds_of name))) _ WrongArguments call a.2 in
+    let v = bind_parts (values_at names (kinds_of name) a.0) (λ values. ok_or (call_of name values) WrongArguments) call w.1 in
+    let agrees = call_of-agrees name v.0 call (ok_or_parts _ WrongArguments call v.2) in
+    let same = call_of-same name v.0 call (ok_or_parts _ WrongArguments call v.2) in
+    let same_kinds = same.1 in let same_bare = same.2 in let same_values = agrees.1 in
+    let spelled = follows_spelled names (is_bare name) (kinds_of name) v.0 rest a.0 (ok_or_parts _ WrongArguments a.0 a.1) (eqb-true (length a.0) (length (kinds_of name)) w.0) v.1 in
+    (follows_name names call rest (rw (same_bare, same_kinds, same_values) spelled), same.0)
+
 pub call_at_is_spelled : (names : NameLists) (text : List ℕ) (call : Call) → call_at names (after Blank text) ≡ Ok call → SpellsCall names text call
-unfolding call_at call_after call_with named_call
+unfolding call_at named_call
 call_at_is_spelled names text call e =
-    let t : List ℕ = after Blank text in
     let n = bind_parts (named_call (front Word (after Blank text))) (λ name. call_after names name (after Word (after Blank text))) call e in
     let word : text_of n.0 ≡ front Word (after Blank text) = text_of-named (front Word (after Blank text)) n.0 (ok_or_parts _ BadWord n.0 n.1) in
-    let i = bind_parts (ok_or (enclosed_in (after Word (after Blank text))) WrongArguments) _ call n.2 in
-    let enclosed = enclosed_spelled (after Word (after Blank text)) i.0 (ok_or_parts _ WrongArguments i.0 i.1) in
-    let a = bind_parts (ok_or (arguments_in 4 i.0) WrongArguments) _ call i.2 in
-    let w = tested_ok (eqb (length a.0) (length (kinds_of n.0))) _ WrongArguments call a.2 in
-    let v = bind_parts (values_at names (kinds_of n.0) a.0) (λ values. ok_or (call_of n.0 values) WrongArguments) call w.1 in
-    let agrees = call_of-agrees n.0 v.0 call (ok_or_parts _ WrongArguments call v.2) in
-    let same = call_of-same n.0 v.0 call (ok_or_parts _ WrongArguments call v.2) in
-    let same_text = same.0 in let same_kinds = same.1 in let same_values = agrees.1 in
-    let arguments = inner_spelled names (kinds_of n.0) v.0 i.0 a.0 (ok_or_parts _ WrongArguments a.0 a.1) (eqb-true (length a.0) (length (kinds_of n.0)) w.0) v.1 in
-    let named : after Blank text ≡ text_of n.0 ++ (enclosed.between ++ (40 ∷ (i.0 ++ (41 ∷ enclosed.behind)))) =
-    sym (front-after Word (after Blank text)) ∙ ap (λ (r : List ℕ). front Word (after Blank text) ++ r) enclosed.parts ∙ ap (λ (f : List ℕ). f ++ (enclosed.between ++ (40 ∷ (i.0 ++ (41 ∷ enclosed.behind))))) (sym word) in
+    let follows = rest_spelled names n.0 call (after Word (after Blank text)) n.2 in
+    let named : after Blank text ≡ text_of call ++ after Word (after Blank text) =
+    sym (front-after Word (after Blank text)) ∙ ap (λ (f : List ℕ). f ++ after Word (after Blank text)) (sym word ∙ sym follows.1) in
     record {
       before = front Blank text;
-      between = enclosed.between;
-      inner = i.0;
-      behind = enclosed.behind;
+      rest = after Word (after Blank text);
       before_blank = list_all-take_while (is_of Blank) text;
-      between_blank = enclosed.between_blank;
-      behind_blank = enclosed.behind_blank;
-      arguments = rw (same_kinds, same_values) arguments;
-      parts = rw same_text (sym (front-after Blank text) ∙ ap (λ (r : List ℕ). front Blank text ++ r) named);
+      follows = follows.0;
+      parts = sym (front-after Blank text) ∙ ap (λ (r : List ℕ). front Blank text ++ r) named;
     }
 
 pub call_is_spelled : (names : NameLists) (text : List ℕ) (call : Call) → call_in names text ≡ Ok call → SpellsCall names text call

@@ -1,5 +1,5 @@
 -- The arguments of a call: their form, and the values that they stand for.
-use Rattle.std.specs.Prelude.{ℕ, pos, ◌^◌, Bool, ◌&&◌, ◌||◌, List, [], ◌∷◌, length, Option, Some, None, option_map, option_and_then, is_some, Result, Ok, Err, nat_le, if◌then◌else◌}
+use Rattle.std.specs.Prelude.{ℕ, pos, ◌^◌, Bool, true, false, ◌&&◌, ◌||◌, List, [], ◌∷◌, length, Option, Some, None, option_map, option_and_then, is_some, Result, Ok, Err, nat_le, if◌then◌else◌}
 use Rattle.std.specs.List.{list_all}
 use Rattle.std.specs.Option.{ok_or, option_map_or, option_or}
 use Rattle.fmp_bytes.specs.declared.classes.Class.TheVariants.{Blank, Argument}
@@ -63,6 +63,13 @@ unfoldable pub enclosed_in : List ℕ → Option (List ℕ)
 enclosed_in text = do
   rest ← behind 40 (after Blank text)
   before_close rest
+
+-- the arguments in what follows a name, at most so many. Behind a bare name only blanks may stand
+unfoldable pub arguments_behind : ℕ → Bool → List ℕ → Option (List (List ℕ))
+arguments_behind most true rest = if list_all (is_of Blank) rest then Some [] else None
+arguments_behind most false rest = do
+  inner ← enclosed_in rest
+  arguments_in most inner
 
 -- ---- values
 

@@ -1,5 +1,5 @@
 -- The grammar of calls, apart from how they are read: which texts spell which value, argument list and call.
-use Rattle.std.specs.Prelude.{◌≡◌, ℕ, pos, ◌⊎◌, Bool, true, List, [], ◌∷◌, ◌++◌, Some}
+use Rattle.std.specs.Prelude.{◌≡◌, ℕ, pos, ◌⊎◌, Bool, true, false, List, [], ◌∷◌, ◌++◌, Some}
 use Rattle.std.specs.List.{list_all, join_with_byte}
 use Rattle.fmp_codes.specs.declared.calls.Call.{Call}
 use Rattle.fmp_bytes.specs.declared.classes.Class.TheVariants.{Blank}
@@ -12,7 +12,7 @@ use Rattle.fmp_calls.specs.declared.kinds.NameKind.TheVariants as name_kinds
 use Rattle.fmp_calls.specs.declared.kinds.Value.{Value}
 use Rattle.fmp_calls.specs.declared.kinds.Value.TheVariants as values
 use Rattle.fmp_names.specs.Names.{NameLists, name_of}
-use Rattle.fmp_calls.specs.Table.{text_of, kinds_of, values_of}
+use Rattle.fmp_calls.specs.Table.{text_of, is_bare, kinds_of, values_of}
 use Rattle.fmp_text.specs.Argument.{ranged, constant_of}
 
 -- spaces and tabs, or nothing
@@ -57,14 +57,24 @@ abbrev pub SpellsArguments : NameLists → List ArgumentKind → List Value → 
 SpellsArguments names [] values text = AreBlank text × (values ≡ [])
 SpellsArguments names (kind ∷ kinds) values text = (pieces : List (List ℕ)) × (text ≡ join_with_byte 44 pieces) × SpellsPieces names (kind ∷ kinds) values pieces
 
--- a call's name and its arguments in parentheses, with blanks anywhere between
-pub record SpellsCall (names : NameLists) (text : List ℕ) (call : Call) : Type 0 where
-  pub before : List ℕ
+-- arguments in parentheses, with blanks around
+pub record SpellsEnclosed (names : NameLists) (call : Call) (text : List ℕ) : Type 0 where
   pub between : List ℕ
   pub inner : List ℕ
   pub behind : List ℕ
-  pub before_blank : AreBlank before
   pub between_blank : AreBlank between
   pub behind_blank : AreBlank behind
   pub arguments : SpellsArguments names (kinds_of call) (values_of call) inner
-  pub parts : text ≡ before ++ (text_of call ++ (between ++ (40 ∷ (inner ++ (41 ∷ behind)))))
+  pub parts : text ≡ between ++ (40 ∷ (inner ++ (41 ∷ behind)))
+
+-- what follows a call's name: blanks where the call is bare, else its arguments
+abbrev pub FollowsName : NameLists → Call → List ℕ → Type 0
+FollowsName names call text = ((is_bare call ≡ true) × AreBlank text) ⊎ ((is_bare call ≡ false) × SpellsEnclosed names call text)
+
+-- blanks, a call's name, and what follows it
+pub record SpellsCall (names : NameLists) (text : List ℕ) (call : Call) : Type 0 where
+  pub before : List ℕ
+  pub rest : List ℕ
+  pub before_blank : AreBlank before
+  pub follows : FollowsName names call rest
+  pub parts : text ≡ before ++ (text_of call ++ rest)

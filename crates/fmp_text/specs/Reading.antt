@@ -6,13 +6,13 @@ use Rattle.fmp_codes.specs.declared.calls.Call.{Call}
 use Rattle.fmp_calls.specs.declared.kinds.ArgumentKind.{ArgumentKind}
 use Rattle.fmp_calls.specs.declared.kinds.Value.{Value}
 use Rattle.fmp_calls.specs.Kinds.{most_arguments}
-use Rattle.fmp_calls.specs.Table.{kinds_of, call_of, named}
+use Rattle.fmp_calls.specs.Table.{is_bare, kinds_of, call_of, named}
 use Rattle.fmp_bytes.specs.declared.classes.Class.TheVariants.{Blank, Word, Line}
 use Rattle.fmp_text.specs.declared.fault.TextKind.{TextKind}
 use Rattle.fmp_text.specs.declared.fault.TextKind.TheVariants.{BadByte, BadWord, WrongArguments}
 use Rattle.fmp_bytes.specs.Bytes.{is_of, front, after}
 use Rattle.fmp_names.specs.Names.{NameLists}
-use Rattle.fmp_text.specs.Argument.{enclosed_in, arguments_in, value_at}
+use Rattle.fmp_text.specs.Argument.{arguments_behind, value_at}
 
 -- reading goes on with what was read, and ends at the first fault
 infixl 10 ◌>>=◌
@@ -42,8 +42,7 @@ call_with names name tokens =
 -- the call with this name and what follows the name
 unfoldable pub call_after : NameLists → Call → List ℕ → Result Call TextKind
 call_after names name rest = do
-  inner ← ok_or (enclosed_in rest) WrongArguments
-  tokens ← ok_or (arguments_in most_arguments inner) WrongArguments
+  tokens ← ok_or (arguments_behind most_arguments (is_bare name) rest) WrongArguments
   call_with names name tokens
 
 -- a call with no blanks before it

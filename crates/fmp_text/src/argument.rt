@@ -53,7 +53,7 @@ fn tokens_in(text: &[u8]) -> Option<ArrayVec<&[u8], MOST_ARGUMENTS>>
 
 /// The arguments between the parentheses, where there are no more than any call has.
 #[tactic(auto, unfolding(crate::specs::Argument::arguments_in))]
-pub fn arguments_in(text: &[u8]) -> Option<ArrayVec<&[u8], MOST_ARGUMENTS>>
+fn arguments_in(text: &[u8]) -> Option<ArrayVec<&[u8], MOST_ARGUMENTS>>
     ensures { option_map (λ tokens. map (λ t. t.now) tokens.items) result ≡ spec.arguments_in MOST_ARGUMENTS text.now }
 {
     if all_of(Class::Blank, text) {
@@ -77,10 +77,25 @@ fn before_close(text: &[u8]) -> Option<&[u8]>
 
 /// What stands between the parentheses, with blanks around.
 #[tactic(auto, unfolding(crate::specs::Argument::enclosed_in))]
-pub fn enclosed_in(text: &[u8]) -> Option<&[u8]>
+fn enclosed_in(text: &[u8]) -> Option<&[u8]>
     ensures { option_copied result ≡ spec.enclosed_in text.now }
 {
     before_close(behind(b'(', skip(Class::Blank, text))?)
+}
+
+/// The arguments in what follows a name, where there are no more than any call has. Behind a bare name only blanks may stand.
+#[tactic(auto, unfolding(crate::specs::Argument::arguments_behind))]
+pub fn arguments_behind(bare: bool, rest: &[u8]) -> Option<ArrayVec<&[u8], MOST_ARGUMENTS>>
+    ensures { option_map (λ tokens. map (λ t. t.now) tokens.items) result ≡ spec.arguments_behind MOST_ARGUMENTS bare rest.now }
+{
+    if !bare {
+        return arguments_in(enclosed_in(rest)?);
+    }
+    if all_of(Class::Blank, rest) {
+        Some(ArrayVec::new())
+    } else {
+        None
+    }
 }
 
 fn number32(negative: bool, magnitude: u64) -> Option<Value>

@@ -10,6 +10,7 @@ fn act_tsk(rt: HostRuntime) -> Result<(), Fail> {
         form(call).kinds,
         [ArgumentKind::Object(ObjectKind::Task)].as_slice()
     );
+    assert!(rt; !form(call).bare && form(Call::RetHdr).bare);
     assert_eq!(rt; values(call).as_slice(), [Value::Number(3)].as_slice());
     let name = Call::Task(TaskCall::ActTsk(0));
     assert!(rt; with_values(name, &[Value::Number(3)]) == Some(call));

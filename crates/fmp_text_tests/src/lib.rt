@@ -4,6 +4,8 @@
 #[cfg(test)]
 mod answers;
 #[cfg(test)]
+mod arguments;
+#[cfg(test)]
 mod bytes;
 #[cfg(test)]
 mod calls;
@@ -13,6 +15,10 @@ mod codes;
 mod config;
 #[cfg(test)]
 mod config_faults;
+#[cfg(test)]
+mod config_limits;
+#[cfg(test)]
+mod config_places;
 #[cfg(test)]
 mod text;
 #[cfg(test)]

@@ -1,5 +1,5 @@
 use fmp_calls::{NameKind, ObjectKind};
-use fmp_codes::{Call, Event, SystemCall, TaskCall};
+use fmp_codes::{Call, Event, TaskCall};
 use fmp_text::TextKind::*;
 use fmp_text::{Names, TextKind, is_name, is_reserved, read_call, read_events};
 use std::alloc::Global;
@@ -51,7 +51,7 @@ const NAMES: [(NameKind, &[u8]); 10] = [
 ];
 
 /// A machine with two processors.
-fn machine(rt: &HostRuntime) -> Result<Names, Fail> {
+pub fn machine(rt: &HostRuntime) -> Result<Names, Fail> {
     let mut names = Names::new(rt.alloc(), 2);
     for (kind, name) in &NAMES {
         add(&mut names, *kind, *name)?;
@@ -60,7 +60,7 @@ fn machine(rt: &HostRuntime) -> Result<Names, Fail> {
 }
 
 /// Texts with faults, and the kind and the line of the first one.
-const REFUSED: [(&[u8], TextKind, u32); 28] = [
+const REFUSED: [(&[u8], TextKind, u32); 30] = [
     (b"P3 tick\n", NumberOutOfRange, 1),
     (b"P1 act_tsk(T9)\n", UnknownName, 1),
     (b"P1 act_tsk()\n", WrongArguments, 1),
@@ -85,6 +85,8 @@ const REFUSED: [(&[u8], TextKind, u32); 28] = [
     (b"P tick\n", BadWord, 1),
     (b"P1 tick()\n", WrongArguments, 1),
     (b"P1 ext_tsk\n", WrongArguments, 1),
+    (b"P1 ret_hdr()\n", WrongArguments, 1),
+    (b"P1 ret_hdr # back\n", BadByte, 1),
     (b"P1 act_tsk(T9, 01)\n", WrongArguments, 1),
     (b"P1 act_tsk(1a)\n", WrongArguments, 1),
     (b"P1 act_tsk(main_task)\n", UnknownName, 1),
@@ -147,7 +149,7 @@ fn accepted_texts(rt: HostRuntime) -> Result<(), Fail> {
     for text in &ACCEPTED {
         assert!(rt; fault(rt.alloc(), &names, *text).is_none());
     }
-    let text = b"# two\nP1 act_tsk(T2)\n\nP2 ipi\nP2 get_pid()\r\n";
+    let text = b"# three\nP1 act_tsk(T2)\n\nP2 ipi\n P1\tret_hdr \r\n";
     let events = read_events(rt.alloc(), text, &names)
         .ok()
         .ok_or("it is right")?;
@@ -156,7 +158,7 @@ fn accepted_texts(rt: HostRuntime) -> Result<(), Fail> {
     };
     assert!(rt; matches!(first, Event::Call(_, Call::Task(TaskCall::ActTsk(2)))));
     assert!(rt; matches!(second, Event::Ipi(processor) if processor.number == 2));
-    assert!(rt; matches!(third, Event::Call(_, Call::System(SystemCall::GetPid))));
+    assert!(rt; matches!(third, Event::Call(processor, Call::RetHdr) if processor.number == 1));
     Ok(())
 }
 

@@ -18,7 +18,7 @@ use Rattle.fmp_calls.specs.declared.kinds.ObjectKind.{ObjectKind}
 use Rattle.fmp_calls.specs.declared.kinds.ObjectKind.TheVariants as objects
 use Rattle.fmp_machine.specs.Boot.{booted}
 use Rattle.fmp_machine.specs.Numbers.{State, numbered}
-use Rattle.fmp_machine.specs.Setup.{Setup}
+use Rattle.fmp_machine.specs.Setup.{Setup, has_time}
 use Rattle.fmp_machine.specs.Step.{settled, front_of, unchanged, step, answers}
 use Rattle.fmp_machine.specs.Valid.{IsValid}
 use Rattle.fmp_machine.specs.World.{processor, handler, runner_of, is_held}
@@ -33,7 +33,10 @@ use Rattle.fmp_trace.specs.Fits.{IsNamed, RunnerFits, ReleasesFit, RunChangeFits
 step_event : (m : State) (e : Event) → (step numbered m e).1.event ≡ e
 unfolding settled front_of unchanged
 step_event m (events.Call p c) = cond_both (is_some (runner_of m p)) _ _ (λ (x : State × Record). x.1.event ≡ events.Call p c) (λ _. refl) (λ _. refl)
-step_event m (events.Tick p) = cond_both ((processor m p).locked || is_some (handler m p)) _ _ (λ (x : State × Record). x.1.event ≡ events.Tick p) (λ _. refl) (λ _. refl)
+step_event m (events.Tick p) =
+    cond_both (has_time m.timer p) _ _ (λ (x : State × Record). x.1.event ≡ events.Tick p)
+    (λ _. cond_both ((processor m p).locked || is_some (handler m p)) _ _ (λ (x : State × Record). x.1.event ≡ events.Tick p) (λ _. refl) (λ _. refl))
+    (λ _. refl)
 step_event m (events.Ipi p) = cond_both (is_held m p) _ _ (λ (x : State × Record). x.1.event ≡ events.Ipi p) (λ _. refl) (λ _. refl)
 
 pub answers_events : (m : State) (es : List Event) → map (λ r. r.event) (answers numbered m es) ≡ es
@@ -107,4 +110,4 @@ module _ (c : Setup) (valid : IsValid c) where
 
 pub answers-fit : (c : Setup) (es : List Event) → IsValid c → AreOn c.processors es → All EventInBits es → AllFit c.names (answers numbered (booted c) es)
 answers-fit c es valid on in_bits =
-    records_fit c valid (answers numbered (booted c) es) (runs_name c es valid on) (subst (All EventInBits) (sym (answers_events (booted c) es)) in_bits)
+    records_fit c valid (answers numbered (booted c) es) (runs_name c es valid on in_bits) (subst (All EventInBits) (sym (answers_events (booted c) es)) in_bits)

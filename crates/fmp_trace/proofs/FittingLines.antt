@@ -1,5 +1,5 @@
 -- What is guessed of a line fits the names, whatever the line is.
-use Rattle.std.proofs.Common.{◌≡◌, ◌≢◌, ℕ, ◌+◌, ◌<◌, ◌≤◌, Bool, true, false, cond, eqb, ltb, inl, inr, List, [], ◌∷◌, ◌++◌, length, length-append, take, Option, Some, None, Result, Ok, Err, refl, sym, ap, subst, ◌∙◌, arith, append_assoc}
+use Rattle.std.proofs.Common.{◌≡◌, ◌≢◌, ℕ, ◌<◌, ◌≤◌, Bool, true, false, cond, eqb, ltb, inl, inr, List, [], ◌∷◌, ◌++◌, length, length-append, Option, Some, None, Result, Ok, Err, refl, sym, ap, subst, ◌∙◌, arith, append_assoc}
 use Rattle.std.specs.Prelude.{codes}
 use Rattle.std.specs.Str.{bytes_eq}
 use Rattle.std.proofs.lemmas.Bool.{cases_Bool, eqb-false, ltb-true}
@@ -20,7 +20,7 @@ use Rattle.fmp_names.specs.Names.{NameLists, AreValid}
 use Rattle.fmp_text.specs.Reading.{call_in}
 use Rattle.fmp_bytes.proofs.Parsed.{and_then_parts, tested_some}
 use Rattle.fmp_trace.specs.Fits.{IsNamed, RunnerFits, ReleasesFit, FitsNames}
-use Rattle.fmp_trace.specs.Guess.{with_release, with_lost, with_run_change, with_requests, with_part, with_word, with_words, words_left, read, guess_answer, guess_call, guess_event, guess_runner, guess_processor, guess}
+use Rattle.fmp_trace.specs.Guess.{with_release, with_lost, with_run_change, with_requests, with_part, with_word, with_words, words_left, read, guess_answer, cut_call, guess_call, guess_event, guess_runner, guess_processor, guess}
 use Rattle.fmp_trace.specs.GuessParts.{signed_in, task_in, coded_in, answer_in, runner_in, release_in, running_in, request_in, requests_in}
 use Rattle.fmp_trace.proofs.FittingParts.{signed_in-fits, processor_numbered-fits, task_in-fits, running_in-fits, runner_in-fits, coded_in-fits, answer_in-fits, call-fits}
 
@@ -145,9 +145,9 @@ read_parts (Err f) a e = absurd cc
 guess_call-fits : (names : NameLists) (runner : Option Runner) (p : Proc) (text : List ℕ) (r : Record) → AreValid names → p.number ≤ names.processors → RunnerFits names runner → guess_call names runner p text ≡ Some r → FitsNames names r
 unfolding guess_call
 guess_call-fits names runner p text r valid processor runner_fits h =
-    let rest = and_then_parts (cut_at 41 text).1 _ r h in
-    let c = and_then_parts (read (call_in names (take (length (cut_at 41 text).0 + 1) text))) _ r rest.2 in
-    guess_answer-fits names runner (events.Call p c.0) rest.0 r valid processor (call-fits names (take (length (cut_at 41 text).0 + 1) text) c.0 valid (read_parts (call_in names (take (length (cut_at 41 text).0 + 1) text)) c.0 c.1)) runner_fits c.2
+    let parts = and_then_parts (cut_call text) _ r h in
+    let c = and_then_parts (read (call_in names parts.0.0)) _ r parts.2 in
+    guess_answer-fits names runner (events.Call p c.0) parts.0.1 r valid processor (call-fits names parts.0.0 c.0 valid (read_parts (call_in names parts.0.0) c.0 c.1)) runner_fits c.2
 
 guess_event-fits : (names : NameLists) (runner : Option Runner) (p : Proc) (text : List ℕ) (r : Record) → AreValid names → p.number ≤ names.processors → RunnerFits names runner → guess_event names runner p text ≡ Some r → FitsNames names r
 unfolding guess_event

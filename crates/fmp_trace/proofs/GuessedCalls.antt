@@ -1,18 +1,20 @@
 -- A call that is printed spells the call, so it is read as that call.
-use Rattle.std.proofs.Common.{◌≡◌, ℕ, zero, suc, ◌+◌, ◌<◌, ◌≤◌, ◌^◌, ℤ, pos, negsuc, Bool, true, false, inl, inr, List, [], ◌∷◌, ◌++◌, Option, Some, None, option_map, Ok, refl, sym, ap, ◌∙◌, arith, add-one, append_assoc}
+use Rattle.std.proofs.Common.{◌≡◌, ℕ, zero, suc, ◌+◌, ◌<◌, ◌≤◌, ◌^◌, ℤ, pos, negsuc, Bool, true, false, inl, inr, List, [], ◌∷◌, ◌++◌, length, length-append, take, Option, Some, None, option_map, Ok, refl, sym, ap, ◌∙◌, arith, add-one, append_assoc}
 use Rattle.std.specs.Prelude.{decimal}
 use Rattle.std.specs.Fmt.{signed_decimal}
-use Rattle.std.specs.List.{list_all, join_with_byte}
-use Rattle.std.proofs.lemmas.Bool.{or_cases, lt-ltb}
-use Rattle.std.proofs.lemmas.List.{append-nil}
+use Rattle.std.specs.List.{list_all, prefix_len, join_with_byte}
+use Rattle.std.specs.Option.{option_map_or}
+use Rattle.std.proofs.lemmas.Bool.{cases_Bool, or_cases, lt-ltb}
+use Rattle.std.proofs.lemmas.List.{append-nil, take_at}
 use Rattle.fmp_codes.specs.declared.calls.Call.{Call}
 use Rattle.fmp_codes.specs.declared.calls.Mode.TheVariants as modes
-use Rattle.fmp_bytes.specs.declared.classes.Class.TheVariants.{Argument}
-use Rattle.fmp_bytes.specs.Bytes.{is_of, is_identifier}
+use Rattle.fmp_bytes.specs.declared.classes.Class.TheVariants.{Blank, Word, Argument, Printed}
+use Rattle.fmp_bytes.specs.Bytes.{is_of, is_identifier, front, after, cut_at}
 use Rattle.fmp_bytes.specs.Numerals.{signed_of}
-use Rattle.fmp_bytes.proofs.Fronts.{list_all-weaker, list_all-both}
+use Rattle.fmp_bytes.proofs.Cutting.{cut_at-append}
+use Rattle.fmp_bytes.proofs.Fronts.{front-append, stops-cons, list_all-weaker, list_all-both}
 use Rattle.fmp_codes.specs.Records.{IsWithin}
-use Rattle.fmp_calls.proofs.Matched.{is_identifier-text_of}
+use Rattle.fmp_calls.proofs.Matched.{is_identifier-text_of, named-text_of, is_bare-name_of}
 use Rattle.fmp_calls.specs.Arguments.{CallInBits}
 use Rattle.fmp_calls.specs.declared.kinds.ArgumentKind.{ArgumentKind}
 use Rattle.fmp_calls.specs.declared.kinds.ArgumentKind.TheVariants as kinds
@@ -23,14 +25,15 @@ use Rattle.fmp_calls.specs.declared.kinds.Value.{Value}
 use Rattle.fmp_calls.specs.declared.kinds.Value.TheVariants as values
 use Rattle.fmp_calls.specs.Table as table
 use Rattle.fmp_text.specs.Argument.{constant_of, ranged, number32, is_argument}
-use Rattle.fmp_text.specs.Grammar.{IsNumber, SpellsValue, SpellsPieces, SpellsArguments}
+use Rattle.fmp_text.specs.Grammar.{IsNumber, SpellsValue, SpellsPieces, SpellsArguments, FollowsName}
 use Rattle.fmp_names.specs.Names.{NameLists, AreValid, name_of}
 use Rattle.fmp_text.specs.Reading.{call_in}
 use Rattle.fmp_text.proofs.Spelled.{value_at-spelled}
 use Rattle.fmp_text.proofs.SpelledCalls.{call_in-spelled}
-use Rattle.fmp_bytes.proofs.Tokens.{AreOfArgument, identifier_bytes, number_bytes}
-use Rattle.fmp_trace.specs.Values.{named, object_text, value_text, arguments_from, call_text}
-use Rattle.fmp_trace.proofs.Bytes.{inner, inner-argument}
+use Rattle.fmp_bytes.proofs.Tokens.{AreOfArgument, identifier_bytes, identifier_words, number_bytes}
+use Rattle.fmp_trace.specs.Guess.{is_bare_name, cut_call}
+use Rattle.fmp_trace.specs.Values.{named, object_text, value_text, arguments_from, behind_name, call_text}
+use Rattle.fmp_trace.proofs.Bytes.{other_than, inner, inner-argument, printed-inner}
 use Rattle.fmp_trace.proofs.FittingArguments.{ArgumentFits, ArgumentsFit, call_arguments_fit}
 use Rattle.fmp_trace.proofs.GuessedValues.{is_signed}
 
@@ -183,15 +186,28 @@ arguments_bytes names (kind ∷ kinds) [] valid fits = absurd fits
 -- ---- calls
 
 -- a call without its closing parenthesis
-abbrev pub unclosed : NameLists → Call → List ℕ
+abbrev unclosed : NameLists → Call → List ℕ
 unclosed names call = table.text_of call ++ (40 ∷ arguments_from names 0 (table.kinds_of call) (table.values_of call))
 
-pub call_text-unclosed : (names : NameLists) (call : Call) → call_text names call ≡ unclosed names call ++ (41 ∷ [])
-unfolding call_text
-call_text-unclosed names call =
-    ap (λ (r : List ℕ). r ++ (41 ∷ [])) (append_assoc (table.text_of call) (40 ∷ []) (arguments_from names 0 (table.kinds_of call) (table.values_of call)))
+behind_name-bare : (names : NameLists) (call : Call) → table.is_bare call ≡ true → behind_name names call ≡ []
+unfolding behind_name
+behind_name-bare names call bare = rw bare refl
 
-pub unclosed_bytes : (names : NameLists) (call : Call) → AreValid names → CallInBits call → list_all inner (unclosed names call) ≡ true
+behind_name-enclosed : (names : NameLists) (call : Call) → table.is_bare call ≡ false
+    → behind_name names call ≡ 40 ∷ (arguments_from names 0 (table.kinds_of call) (table.values_of call) ++ (41 ∷ []))
+unfolding behind_name
+behind_name-enclosed names call bare = rw bare refl
+
+call_text-bare : (names : NameLists) (call : Call) → table.is_bare call ≡ true → call_text names call ≡ table.text_of call
+unfolding call_text
+call_text-bare names call bare = ap (λ (r : List ℕ). table.text_of call ++ r) (behind_name-bare names call bare) ∙ append-nil (table.text_of call)
+
+call_text-unclosed : (names : NameLists) (call : Call) → table.is_bare call ≡ false → call_text names call ≡ unclosed names call ++ (41 ∷ [])
+unfolding call_text
+call_text-unclosed names call bare =
+    ap (λ (r : List ℕ). table.text_of call ++ r) (behind_name-enclosed names call bare) ∙ sym (append_assoc (table.text_of call) (40 ∷ arguments_from names 0 (table.kinds_of call) (table.values_of call)) (41 ∷ []))
+
+unclosed_bytes : (names : NameLists) (call : Call) → AreValid names → CallInBits call → list_all inner (unclosed names call) ≡ true
 unfolding is_of
 unclosed_bytes names call valid fits =
     let word = (identifier_bytes (table.text_of call) (is_identifier-text_of call)).1 in
@@ -199,8 +215,74 @@ unclosed_bytes names call valid fits =
     (list_all-weaker (is_of Argument) inner inner-argument (table.text_of call) word)
     (arguments_bytes names (table.kinds_of call) (table.values_of call) valid (call_arguments_fit call fits))
 
-pub call_read : (names : NameLists) (call : Call) → AreValid names → CallInBits call → call_in names (call_text names call) ≡ Ok call
+name_followed : (names : NameLists) (call : Call) → CallInBits call → FollowsName names call (behind_name names call)
+name_followed names call fits =
+    elim (cases_Bool (table.is_bare call)) [
+      | inl t ↦ inl (t, ap (list_all (is_of Blank)) (behind_name-bare names call t))
+      | inr f ↦
+          inr (f, record { between = []; inner = arguments_from names 0 (table.kinds_of call) (table.values_of call); behind = []; between_blank = refl; behind_blank = refl; arguments = arguments_spelled names (table.kinds_of call) (table.values_of call) (call_arguments_fit call fits); parts = behind_name-enclosed names call f })
+    ]
+
+-- what stands behind a name does not go on with it
+name_ends : (names : NameLists) (call : Call) (rest : List ℕ) → prefix_len (is_of Word) (behind_name names call ++ 32 ∷ rest) ≡ 0
 unfolding is_of
+name_ends names call rest =
+    elim (cases_Bool (table.is_bare call)) [
+      | inl t ↦ ap (λ (r : List ℕ). prefix_len (is_of Word) (r ++ 32 ∷ rest)) (behind_name-bare names call t) ∙ stops-cons (is_of Word) 32 rest refl
+      | inr f ↦
+          ap (λ (r : List ℕ). prefix_len (is_of Word) (r ++ 32 ∷ rest)) (behind_name-enclosed names call f)
+          ∙ stops-cons (is_of Word) 40 ((arguments_from names 0 (table.kinds_of call) (table.values_of call) ++ (41 ∷ [])) ++ 32 ∷ rest) refl
+    ]
+
+pub call_read : (names : NameLists) (call : Call) → AreValid names → CallInBits call → call_in names (call_text names call) ≡ Ok call
+unfolding call_text
 call_read names call valid fits =
     call_in-spelled names (call_text names call) call valid
-    (record { before = []; between = []; inner = arguments_from names 0 (table.kinds_of call) (table.values_of call); behind = []; before_blank = refl; between_blank = refl; behind_blank = refl; arguments = arguments_spelled names (table.kinds_of call) (table.values_of call) (call_arguments_fit call fits); parts = call_text-unclosed names call ∙ append_assoc (table.text_of call) (40 ∷ arguments_from names 0 (table.kinds_of call) (table.values_of call)) (41 ∷ []) })
+    (record { before = []; rest = behind_name names call; before_blank = refl; follows = name_followed names call fits; parts = refl })
+
+-- the first word of a printed call is its name
+pub call_word : (names : NameLists) (call : Call) (rest : List ℕ)
+    → (front Word (call_text names call ++ 32 ∷ rest) ≡ table.text_of call) × (after Word (call_text names call ++ 32 ∷ rest) ≡ behind_name names call ++ 32 ∷ rest)
+unfolding call_text
+call_word names call rest =
+    let whole = append_assoc (table.text_of call) (behind_name names call) (32 ∷ rest) in
+    let word = front-append Word (table.text_of call) (behind_name names call ++ 32 ∷ rest) (identifier_words (table.text_of call) (is_identifier-text_of call)) (name_ends names call rest) in
+    (ap (front Word) whole ∙ word.0, ap (after Word) whole ∙ word.1)
+
+is_bare_name-text_of : (call : Call) → is_bare_name (table.text_of call) ≡ table.is_bare call
+unfolding is_bare_name
+is_bare_name-text_of call = ap (λ (found : Option Call). option_map_or table.is_bare found false) (named-text_of call) ∙ is_bare-name_of call
+
+-- a printed call ends where it is cut
+pub call_cut : (names : NameLists) (call : Call) (rest : List ℕ) → AreValid names → CallInBits call → cut_call (call_text names call ++ 32 ∷ rest) ≡ Some (call_text names call, 32 ∷ rest)
+unfolding cut_call is_of
+call_cut names call rest valid fits =
+    let word = call_word names call rest in
+    let bare_word : is_bare_name (front Word (call_text names call ++ 32 ∷ rest)) ≡ table.is_bare call = ap is_bare_name word.0 ∙ is_bare_name-text_of call in
+    elim (cases_Bool (table.is_bare call)) [
+      | inl t ↦
+          let text = call_text-bare names call t in
+          let follows : after Word (call_text names call ++ 32 ∷ rest) ≡ 32 ∷ rest = word.1 ∙ ap (λ (r : List ℕ). r ++ 32 ∷ rest) (behind_name-bare names call t) in
+          rw (bare_word ∙ t, word.0, follows, text) refl
+      | inr f ↦
+          let text = call_text-unclosed names call f in
+          let whole : call_text names call ++ 32 ∷ rest ≡ unclosed names call ++ 41 ∷ (32 ∷ rest) = ap (λ (t : List ℕ). t ++ 32 ∷ rest) text ∙ append_assoc (unclosed names call) (41 ∷ []) (32 ∷ rest) in
+          let cut : cut_at 41 (call_text names call ++ 32 ∷ rest) ≡ (unclosed names call, Some (32 ∷ rest)) =
+          ap (cut_at 41) whole ∙ cut_at-append 41 (unclosed names call) (32 ∷ rest) (other_than inner 41 refl (unclosed names call) (unclosed_bytes names call valid fits)) in
+          let long : length (call_text names call) ≡ length (unclosed names call) + 1 = ap length text ∙ length-append (unclosed names call) (41 ∷ []) in
+          let taken : take (length (unclosed names call) + 1) (call_text names call ++ 32 ∷ rest) ≡ call_text names call = take_at (call_text names call) (32 ∷ rest) (length (unclosed names call) + 1) long in
+          rw (bare_word ∙ f, cut, taken) refl
+    ]
+
+-- a printed call holds printed bytes
+pub call_printed : (names : NameLists) (call : Call) → AreValid names → CallInBits call → list_all (is_of Printed) (call_text names call) ≡ true
+unfolding is_of
+call_printed names call valid fits =
+    elim (cases_Bool (table.is_bare call)) [
+      | inl t ↦
+          let word = (identifier_bytes (table.text_of call) (is_identifier-text_of call)).1 in
+          ap (list_all (is_of Printed)) (call_text-bare names call t) ∙ list_all-weaker (is_of Argument) (is_of Printed) (λ b h. printed-inner b (inner-argument b h)) (table.text_of call) word
+      | inr f ↦
+          ap (list_all (is_of Printed)) (call_text-unclosed names call f)
+          ∙ list_all-both (is_of Printed) (unclosed names call) (41 ∷ []) (list_all-weaker inner (is_of Printed) printed-inner (unclosed names call) (unclosed_bytes names call valid fits)) refl
+    ]

@@ -1,31 +1,28 @@
 -- A printed line is guessed right, and its bytes are printed ones.
-use Rattle.std.proofs.Common.{◌≡◌, ℕ, ◌+◌, ◌<◌, ◌^◌, true, not, eqb, List, [], ◌∷◌, ◌++◌, length, length-append, take, Some, refl, sym, ap, ◌∙◌, arith, append_assoc}
+use Rattle.std.proofs.Common.{◌≡◌, ℕ, ◌<◌, ◌^◌, true, not, eqb, List, [], ◌∷◌, ◌++◌, Some, refl, sym, ap, ◌∙◌, arith, append_assoc}
 use Rattle.std.specs.Prelude.{decimal}
 use Rattle.std.specs.List.{list_all}
 use Rattle.std.proofs.lemmas.Bool.{and_parts, and_from}
-use Rattle.std.proofs.lemmas.List.{take_at}
 use Rattle.fmp_codes.specs.declared.calls.Call.{Call}
 use Rattle.fmp_codes.specs.declared.numbers.Proc.{Proc}
 use Rattle.fmp_codes.specs.declared.records.Event.{Event}
 use Rattle.fmp_codes.specs.declared.records.Event.TheVariants as events
 use Rattle.fmp_codes.specs.declared.records.Record.{Record}
-use Rattle.fmp_bytes.specs.declared.classes.Class.TheVariants.{Word, Argument, Printed}
-use Rattle.fmp_bytes.specs.Bytes.{is_of, front, cut_at, pieces_of}
+use Rattle.fmp_bytes.specs.declared.classes.Class.TheVariants.{Argument, Printed}
+use Rattle.fmp_bytes.specs.Bytes.{is_of, cut_at, pieces_of}
 use Rattle.fmp_bytes.proofs.Cutting.{pieces_left, cut_at-append, pieces_of-cut, pieces_of-join}
-use Rattle.fmp_bytes.proofs.Fronts.{front-append, stops-cons, list_all-weaker, list_all-both}
+use Rattle.fmp_bytes.proofs.Fronts.{list_all-weaker, list_all-both}
 use Rattle.fmp_bytes.proofs.Spelled.{behind-same}
-use Rattle.fmp_bytes.proofs.Tokens.{identifier_words}
-use Rattle.fmp_calls.proofs.Matched.{is_identifier-text_of, no_tick, no_ipi}
-use Rattle.fmp_calls.specs.Table as table
+use Rattle.fmp_calls.proofs.Matched.{no_tick, no_ipi}
 use Rattle.fmp_calls.specs.Arguments.{CallInBits, EventInBits}
 use Rattle.fmp_codes.specs.Records.{processor_of}
 use Rattle.fmp_names.specs.Names.{NameLists, AreValid}
 use Rattle.fmp_trace.specs.Fits.{FitsNames}
 use Rattle.fmp_trace.specs.Guess.{guess_answer, guess_call, guess_event, guess_runner, guess_processor, guess}
 use Rattle.fmp_trace.specs.Lines.{event_text, runner_text, answer_text, tail_text, head_text, core_text}
-use Rattle.fmp_trace.specs.Values.{arguments_from, call_text}
-use Rattle.fmp_trace.proofs.Bytes.{other_than, solid, inner, printed-solid, printed-inner, solid-argument, decimal_bytes}
-use Rattle.fmp_trace.proofs.GuessedCalls.{led, join-led, unclosed, call_text-unclosed, unclosed_bytes, call_read}
+use Rattle.fmp_trace.specs.Values.{call_text}
+use Rattle.fmp_trace.proofs.Bytes.{other_than, solid, printed-solid, solid-argument, decimal_bytes}
+use Rattle.fmp_trace.proofs.GuessedCalls.{led, join-led, call_word, call_cut, call_read, call_printed}
 use Rattle.fmp_trace.proofs.GuessedRunners.{runner_guessed, runner_bytes}
 use Rattle.fmp_trace.proofs.GuessedTails.{tail_words, tail-led, tail_guessed, tail_solid, answer_solid, AllSolid}
 use Rattle.fmp_trace.proofs.GuessedValues.{processor_guessed, answer_guessed}
@@ -68,20 +65,11 @@ module _ (names : NameLists) (r : Record) (valid : AreValid names) (fits : FitsN
       rw (behind-same 32 rest_text, first, answer_guessed r.answer fits.answer, words) (tail_guessed names r valid fits.releases fits.few fits.lost fits.run_change fits.requests)
 
   call_guessed : (p : Proc) (call : Call) → CallInBits call → r.event ≡ events.Call p call → guess_event names r.runner p (call_text names call ++ 32 ∷ rest_text) ≡ Some r
-  unfolding guess_event guess_call is_of
+  unfolding guess_event guess_call
   call_guessed p call call_fits is_event =
-      let name = table.text_of call in
-      let whole : call_text names call ++ 32 ∷ rest_text ≡ unclosed names call ++ 41 ∷ (32 ∷ rest_text) = ap (λ (t : List ℕ). t ++ 32 ∷ rest_text) (call_text-unclosed names call) ∙ append_assoc (unclosed names call) (41 ∷ []) (32 ∷ rest_text) in
-      let opened : call_text names call ++ 32 ∷ rest_text ≡ table.text_of call ++ 40 ∷ (arguments_from names 0 (table.kinds_of call) (table.values_of call) ++ 41 ∷ (32 ∷ rest_text)) =
-      whole ∙ append_assoc (table.text_of call) (40 ∷ arguments_from names 0 (table.kinds_of call) (table.values_of call)) (41 ∷ (32 ∷ rest_text)) in
-      let word : front Word (call_text names call ++ 32 ∷ rest_text) ≡ table.text_of call =
-      ap (front Word) opened ∙ (front-append Word (table.text_of call) (40 ∷ (arguments_from names 0 (table.kinds_of call) (table.values_of call) ++ 41 ∷ (32 ∷ rest_text))) (identifier_words (table.text_of call) (is_identifier-text_of call)) (stops-cons (is_of Word) 40 (arguments_from names 0 (table.kinds_of call) (table.values_of call) ++ 41 ∷ (32 ∷ rest_text)) refl)).0 in
-      let cut : cut_at 41 (call_text names call ++ 32 ∷ rest_text) ≡ (unclosed names call, Some (32 ∷ rest_text)) =
-      ap (cut_at 41) whole ∙ cut_at-append 41 (unclosed names call) (32 ∷ rest_text) (other_than inner 41 refl (unclosed names call) (unclosed_bytes names call valid call_fits)) in
-      let long : length (call_text names call) ≡ length (unclosed names call) + 1 = ap length (call_text-unclosed names call) ∙ length-append (unclosed names call) (41 ∷ []) in
-      let taken : take (length (unclosed names call) + 1) (call_text names call ++ 32 ∷ rest_text) ≡ call_text names call = take_at (call_text names call) (32 ∷ rest_text) (length (unclosed names call) + 1) long in
+      let word = (call_word names call rest_text).0 in
       let tick = no_tick call in let ipi = no_ipi call in
-      rw (word, tick, ipi, cut, taken, call_read names call valid call_fits, ← is_event) rest_guessed
+      rw (word, tick, ipi, call_cut names call rest_text valid call_fits, call_read names call valid call_fits, ← is_event) rest_guessed
 
   event_guessed : (e : Event) → EventInBits e → r.event ≡ e → guess_event names r.runner (processor_of e) (event_text names e ++ 32 ∷ rest_text) ≡ Some r
   unfolding guess_event is_of
@@ -121,9 +109,7 @@ module _ (names : NameLists) (r : Record) (valid : AreValid names) (fits : FitsN
 
   event_printed : (e : Event) → EventInBits e → list_all (is_of Printed) (event_text names e) ≡ true
   unfolding is_of
-  event_printed (events.Call p call) event_fits =
-      ap (list_all (is_of Printed)) (call_text-unclosed names call)
-      ∙ list_all-both (is_of Printed) (unclosed names call) (41 ∷ []) (list_all-weaker inner (is_of Printed) printed-inner (unclosed names call) (unclosed_bytes names call valid event_fits)) refl
+  event_printed (events.Call p call) event_fits = call_printed names call valid event_fits
   event_printed (events.Tick p) event_fits = refl
   event_printed (events.Ipi p) event_fits = refl
 

@@ -3,7 +3,7 @@ use Rattle.std.proofs.Common.{◌≡◌, ℕ, zero, suc, ◌+◌, ◌/◌, ◌%�
 use Rattle.std.specs.Prelude.{codes, decimal}
 use Rattle.std.specs.Fmt.{signed_decimal, digits, digits_onto, digit_glyph}
 use Rattle.std.specs.List.{list_all}
-use Rattle.std.proofs.lemmas.Bool.{cases_Bool, ne_eqb, and_from}
+use Rattle.std.proofs.lemmas.Bool.{cases_Bool, cond_both, ne_eqb, and_from}
 use Rattle.fmp_codes.specs.Codes as code
 use Rattle.fmp_codes.specs.declared.calls.Call.{Call}
 use Rattle.fmp_codes.specs.declared.calls.Mode.{Mode}
@@ -36,7 +36,7 @@ use Rattle.fmp_names.specs.Names.{NameLists, AreValid, name_of}
 use Rattle.fmp_codes.specs.Records.{processor_of}
 use Rattle.fmp_trace.specs.Lines.{event_text, task_text, runner_text, code_text, answer_text, release_text, releases_text, lost_text, run_change_text, request_lead, requests_from, head_text, tail_text, core_text}
 use Rattle.fmp_trace.specs.Prints.{IsUnended}
-use Rattle.fmp_trace.specs.Values.{named, object_text, mode_text, value_text, separator, arguments_from, call_text}
+use Rattle.fmp_trace.specs.Values.{named, object_text, mode_text, value_text, separator, arguments_from, behind_name, call_text}
 use Rattle.fmp_trace.proofs.Bytes.{other_than, of_words, code_words}
 use Rattle.fmp_trace.proofs.GuessedRunners.{printed_words}
 
@@ -138,11 +138,17 @@ module _ (names : NameLists) (valid : AreValid names) where
   arguments_are i (kind ∷ kinds) [] = refl
   arguments_are i (kind ∷ kinds) (value ∷ values) = both (separator i ++ value_text names kind value) (arguments_from names (i + 1) kinds values) (both (separator i) (value_text names kind value) (separator_is i) (value_is kind value)) (arguments_are (i + 1) kinds values)
 
+  behind_name_is : (call : Call) → IsUnended (behind_name names call)
+  unfolding behind_name
+  behind_name_is call =
+      let arguments = has (arguments_from names 0 (table.kinds_of call) (table.values_of call)) (arguments_are 0 (table.kinds_of call) (table.values_of call)) in
+      cond_both (table.is_bare call) [] _ IsUnended (λ _. refl) (λ _. (join (join (has (codes "(") refl) arguments) (has (codes ")") refl)).none)
+
   call_is : (call : Call) → IsUnended (call_text names call)
   unfolding call_text
   call_is call =
       let word = of_argument (table.text_of call) (identifier_bytes (table.text_of call) (is_identifier-text_of call)).1 in
-      (join (join (join (has (table.text_of call) word) (has (codes "(") refl)) (has (arguments_from names 0 (table.kinds_of call) (table.values_of call)) (arguments_are 0 (table.kinds_of call) (table.values_of call)))) (has (codes ")") refl)).none
+      both (table.text_of call) (behind_name names call) word (behind_name_is call)
 
   -- ---- the parts of a line
 

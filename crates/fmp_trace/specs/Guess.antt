@@ -1,5 +1,5 @@
 -- The record that a line is guessed to print. It is the right one of a printed line, and any one or none of another.
-use Rattle.std.specs.Prelude.{ℕ, ◌+◌, List, [], ◌∷◌, ◌++◌, length, take, Option, None, Some, Result, Ok, Err, ◌==◌, if◌then◌else◌, codes}
+use Rattle.std.specs.Prelude.{ℕ, ◌+◌, Bool, false, List, [], ◌∷◌, ◌++◌, length, take, Option, None, Some, Result, Ok, Err, ◌==◌, if◌then◌else◌, codes}
 use Rattle.std.specs.Option.{option_map_or}
 use Rattle.std.specs.Str.{bytes_eq}
 use Rattle.fmp_codes.specs.Records.{answer_record}
@@ -10,6 +10,7 @@ use Rattle.fmp_codes.specs.declared.records.Runner.{Runner}
 use Rattle.fmp_codes.specs.declared.records.Record.{Record}
 use Rattle.fmp_bytes.specs.declared.classes.Class.TheVariants.{Word}
 use Rattle.fmp_bytes.specs.Bytes.{front, after, behind, cut_at, pieces_of}
+use Rattle.fmp_calls.specs.Table.{is_bare, named}
 use Rattle.fmp_text.specs.Argument.{◌>>=◌}
 use Rattle.fmp_text.specs.Lines.{processor_numbered}
 use Rattle.fmp_names.specs.Names.{NameLists}
@@ -76,11 +77,21 @@ abbrev pub read : {A E : Type 0} → Result A E → Option A
 read (Ok a) = Some a
 read (Err e) = None
 
+-- the word is the name of a call that is written without parentheses
+unfoldable pub is_bare_name : List ℕ → Bool
+is_bare_name word = option_map_or is_bare (named word) false
+
+-- the text of a call and what follows it: a bare name alone, or all up to the first closing parenthesis
+unfoldable pub cut_call : List ℕ → Option (List ℕ × List ℕ)
+cut_call text =
+    if is_bare_name (front Word text) then Some (front Word text, after Word text)
+    else ((cut_at 41 text).1 >>= λ rest. Some (take (length (cut_at 41 text).0 + 1) text, rest))
+
 unfoldable pub guess_call : NameLists → Option Runner → Proc → List ℕ → Option Record
 guess_call names runner p text = do
-  rest ← (cut_at 41 text).1
-  call ← read (call_in names (take (length (cut_at 41 text).0 + 1) text))
-  guess_answer names runner (events.Call p call) rest
+  parts ← cut_call text
+  call ← read (call_in names parts.0)
+  guess_answer names runner (events.Call p call) parts.1
 
 unfoldable pub guess_event : NameLists → Option Runner → Proc → List ℕ → Option Record
 guess_event names runner p text =

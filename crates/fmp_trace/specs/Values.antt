@@ -1,5 +1,5 @@
 -- How names, values and calls are printed.
-use Rattle.std.specs.Prelude.{ℕ, zero, suc, ◌+◌, ℤ, pos, negsuc, List, [], ◌∷◌, ◌++◌, unwrap_or, codes, decimal}
+use Rattle.std.specs.Prelude.{ℕ, zero, suc, ◌+◌, ℤ, pos, negsuc, List, [], ◌∷◌, ◌++◌, unwrap_or, if◌then◌else◌, codes, decimal}
 use Rattle.std.specs.Fmt.{signed_decimal}
 use Rattle.fmp_codes.specs.declared.calls.Call.{Call}
 use Rattle.fmp_codes.specs.declared.calls.Mode.{Mode}
@@ -47,7 +47,12 @@ arguments_from lists i [] values = []
 arguments_from lists i (kind ∷ kinds) [] = []
 arguments_from lists i (kind ∷ kinds) (value ∷ values) = separator i ++ value_text lists kind value ++ arguments_from lists (i + 1) kinds values
 
+-- what stands behind a call's name: nothing where the call is bare, else its arguments in parentheses
+unfoldable pub behind_name : NameLists → Call → List ℕ
+behind_name lists call =
+    if table.is_bare call then []
+    else (codes "(" ++ arguments_from lists 0 (table.kinds_of call) (table.values_of call) ++ codes ")")
+
 -- a call with its arguments
 unfoldable pub call_text : NameLists → Call → List ℕ
-call_text lists call =
-    table.text_of call ++ codes "(" ++ arguments_from lists 0 (table.kinds_of call) (table.values_of call) ++ codes ")"
+call_text lists call = table.text_of call ++ behind_name lists call

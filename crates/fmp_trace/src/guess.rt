@@ -1,7 +1,7 @@
 //! Guessing the record that a line prints.
 //!
 //! The guess is right where the line is printed, so what it is can be told by printing it again.
-ghost use Rattle.std.specs.Prelude.{◌≡◌, ◌≤◌, ◌<◌, [], IfSome};
+ghost use Rattle.std.specs.Prelude.{◌≡◌, ◌≤◌, ◌<◌, [], IfSome, option_map};
 ghost use Rattle.fmp_bytes.specs.Bytes.{pieces_of};
 ghost use Rattle.fmp_calls.specs.Kinds.{most_of};
 ghost use Rattle.fmp_names.specs.Names.{number_of};
@@ -10,7 +10,7 @@ ghost use Rattle.fmp_trace.specs.Guess as spec;
 ghost use Rattle.fmp_trace.specs.GuessParts as parts;
 
 use fmp_bytes::{Class, behind, cut, signed64, spelled_number, split_front};
-use fmp_calls::{NameKind, ObjectKind};
+use fmp_calls::{NameKind, ObjectKind, find_call, form};
 use fmp_codes::{Answer, Code, Event, Object, Proc, Record, Release, Requests, Runner, Task};
 use fmp_text::{Names, processor_numbered, read_call};
 
@@ -278,13 +278,37 @@ fn guess_answer(names: &Names, runner: Option<Runner>, event: Event, text: &[u8]
     with_words(names, Record::answer(event, runner, answer), words)
 }
 
+/// Whether the word is the name of a call that is written without parentheses.
+#[tactic(auto, unfolding(crate::specs::Guess::is_bare_name))]
+fn is_bare_name(word: &[u8]) -> bool
+    ensures { result ≡ spec.is_bare_name word.now }
+{
+    match find_call(word) {
+        Some(call) => form(call).bare,
+        None => false,
+    }
+}
+
+/// The text of a call, and what follows it.
+#[tactic(auto, unfolding(crate::specs::Guess::cut_call))]
+fn cut_call(text: &[u8]) -> Option<(&[u8], &[u8])>
+    ensures { option_map (λ parts. (parts.0.now, parts.1.now)) result ≡ spec.cut_call text.now }
+{
+    let (word, rest) = split_front(Class::Word, text);
+    if is_bare_name(word) {
+        return Some((word, rest));
+    }
+    let (inner, rest) = cut(b')', text);
+    let rest = rest?;
+    Some((&text[..inner.len() + 1], rest))
+}
+
 #[tactic(auto, unfolding(crate::specs::Guess::guess_call))]
 fn guess_call(names: &Names, runner: Option<Runner>, p: Proc, text: &[u8]) -> Option<Record>
     ensures { result ≡ spec.guess_call names.now runner p text.now }
 {
-    let (inner, rest) = cut(b')', text);
-    let rest = rest?;
-    let call = read_call(&text[..inner.len() + 1], names).ok()?;
+    let (text, rest) = cut_call(text)?;
+    let call = read_call(text, names).ok()?;
     guess_answer(names, runner, Event::Call(p, call), rest)
 }
 

@@ -108,15 +108,26 @@ fn put_arguments(
     Ok(())
 }
 
+/// Adds what stands behind a call's name: its arguments in parentheses, if it has any.
+#[tactic(auto, unfolding(crate::specs::Values::behind_name))]
+fn put_behind_name(out: &mut Vec<u8>, names: &Names, call: Call) -> Result<(), AllocError>
+    ensures { OnOk result (out.new.items ≡ out.old.items ++ spec.behind_name names.now call) }
+{
+    let form = form(call);
+    if form.bare {
+        return Ok(());
+    }
+    out.push(b'(')?;
+    put_arguments(out, names, form.kinds, values(call).as_slice())?;
+    out.push(b')')?;
+    Ok(())
+}
+
 /// Adds a call with its arguments.
 #[tactic(auto, unfolding(crate::specs::Values::call_text))]
 pub fn put_call(out: &mut Vec<u8>, names: &Names, call: Call) -> Result<(), AllocError>
     ensures { OnOk result (out.new.items ≡ out.old.items ++ spec.call_text names.now call) }
 {
-    let form = form(call);
-    out.extend_from_slice(form.text)?;
-    out.push(b'(')?;
-    put_arguments(out, names, form.kinds, values(call).as_slice())?;
-    out.push(b')')?;
-    Ok(())
+    out.extend_from_slice(form(call).text)?;
+    put_behind_name(out, names, call)
 }

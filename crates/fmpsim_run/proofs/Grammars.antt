@@ -11,6 +11,7 @@ use Rattle.fmp_machine.specs.Setup.{Setup}
 use Rattle.fmp_machine.specs.Step.{answers}
 use Rattle.fmp_names.specs.Names.{NameLists}
 use Rattle.fmp_safety.specs.Runs.{IsSafeThroughout}
+use Rattle.fmp_balance.specs.Balance.{IsBalancedThroughout}
 use Rattle.fmp_text.specs.TextGrammar.{SpellsText}
 use Rattle.fmp_trace.specs.Lines.{lines_from}
 use Rattle.fmpsim_run.specs.declared.fault.RunFault.{RunFault}
@@ -28,9 +29,9 @@ one_config text a b one other = one_machine text a b one.configures other.config
 
 -- what was read of both texts, what the machine answers, and what that prints
 pub answered : (config_text event_text output : List ℕ) (c : Setup) (names others : NameLists) (events list : List Event) (records printed : List Record) → SaysConfig config_text c → names ≡ c.names
-    → SpellsText names event_text events → list ≡ events → records ≡ answers numbered (booted c) list → IsSafeThroughout (booted c) list → printed ≡ records → others ≡ c.names → output ≡ lines_from others 1 printed
+    → SpellsText names event_text events → list ≡ events → records ≡ answers numbered (booted c) list → IsSafeThroughout (booted c) list → IsBalancedThroughout c list records → printed ≡ records → others ≡ c.names → output ≡ lines_from others 1 printed
     → Answered config_text event_text output
-answered config_text event_text output c names others events list records printed says named lists same made safe shown named_too prints =
+answered config_text event_text output c names others events list records printed says named lists same made safe balanced shown named_too prints =
     record {
       config = c;
       events = events;
@@ -38,6 +39,9 @@ answered config_text event_text output c names others events list records printe
       lists = subst (λ (n : NameLists). SpellsText n event_text events) named lists;
       prints = prints ∙ rw (named_too, shown, made, same) refl;
       safe = subst (λ (es : List Event). IsSafeThroughout (booted c) es) same safe;
+      balanced =
+          let so_far = subst (λ (rs : List Record). IsBalancedThroughout c list rs) made balanced in
+          subst (λ (es : List Event). IsBalancedThroughout c es (answers numbered (booted c) es)) same so_far;
     }
 
 -- a text that says a configuration has no fault but want of memory

@@ -12,6 +12,7 @@ use Rattle.fmp_machine.specs.Boot.{booted}
 use Rattle.fmp_machine.specs.Numbers.{numbered}
 use Rattle.fmp_machine.specs.Step.{answers}
 use Rattle.fmp_safety.specs.Runs.{IsSafeThroughout}
+use Rattle.fmp_balance.specs.Balance.{IsBalancedThroughout}
 use Rattle.fmp_trace.specs.Lines.{lines_from}
 use Rattle.fmpsim_run.specs.declared.fault.RunFault.{RunFault}
 use Rattle.fmpsim_run.specs.declared.fault.RunFault.TheVariants as run
@@ -23,7 +24,8 @@ pub record SaysConfig (text : List ℕ) (config : Setup) : Type 0 where
   pub configures : Configures text config
   pub short : length text ≤ most_bytes
 
--- the output is the trace of the one text's machine over the other's events, and every front of these leads to a safe state
+-- The output is the trace of the one text's machine over the other's events. Every front of these leads to a safe state, in
+-- which what the records so far say came in and went out agrees with what is there.
 pub record Answered (config_text event_text output : List ℕ) : Type 0 where
   pub config : Setup
   pub events : List Event
@@ -31,6 +33,7 @@ pub record Answered (config_text event_text output : List ℕ) : Type 0 where
   pub lists : SpellsText config.names event_text events
   pub prints : output ≡ lines_from config.names 1 (answers numbered (booted config) events)
   pub safe : IsSafeThroughout (booted config) events
+  pub balanced : IsBalancedThroughout config events (answers numbered (booted config) events)
 
 -- the output was written after old, all of it
 abbrev pub IsAnswered : List ℕ → List ℕ → List ℕ → List ℕ → Type 0

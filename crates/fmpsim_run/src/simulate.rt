@@ -5,19 +5,22 @@ ghost use Rattle.fmp_machine.specs.Boot.{booted};
 ghost use Rattle.fmp_machine.specs.Numbers.{numbered};
 ghost use Rattle.fmp_machine.specs.Step.{answers};
 ghost use Rattle.fmp_safety.specs.Runs.{IsSafeThroughout};
+ghost use Rattle.fmp_balance.specs.Balance.{IsBalancedThroughout};
 
 use fmp_codes::{Event, Record};
 use fmp_machine::Config;
 use fmp_plain::Plain;
 use std::alloc::{AllocError, Global};
 
-/// The records of a list of events on processors of the machine. Each front of the list leads to a safe state. The room for
-/// all records is asked for before the first event.
+/// The records of a list of events on processors of the machine. Each front of the list leads to a safe state, and the records
+/// of a front account for every unit of a semaphore, every block and every value. The room for all records is asked for before
+/// the first event.
 pub fn simulate(alloc: Global, config: &Config, events: &[Event]) -> Result<Vec<Record>, AllocError>
     requires few { length events.now ≤ 1000000 }
     requires on { AreOn config.now.processors events.now }
     ensures answers { IfOk result (λ v. v.items ≡ answers numbered (booted config.now) events.now) }
     ensures safe { IfOk result (λ v. IsSafeThroughout (booted config.now) events.now) }
+    ensures balanced { IfOk result (λ v. IsBalancedThroughout config.now events.now v.items) }
     ensures count { IfOk result (λ v. length v.items ≡ length events.now) }
 {
     let mut records = Vec::with_capacity(alloc, events.len())?;
