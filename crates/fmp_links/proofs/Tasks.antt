@@ -1,0 +1,101 @@
+-- Lists of tasks against lists of items.
+use Rattle.std.proofs.Common.{◌≡◌, ℕ, ◌+◌, ◌-◌, ◌<◌, ◌≤◌, ◌==◌, Bool, true, false, not, cond, List, [], ◌∷◌, ◌++◌, map, nat_eq, refl, sym, ap, ◌∙◌, subst, arith, ⊎_elim}
+use Rattle.std.specs.Coded.{le_prop}
+use Rattle.std.specs.Option.{option_map}
+use Rattle.std.proofs.lemmas.Bool.{cases_eq, eq-eqb, ne_eqb}
+use Rattle.fmp_codes.specs.declared.numbers.Task.{Task}
+use Rattle.fmp_links.specs.Lists as links
+use Rattle.fmp_links.specs.Lists.{has, first_of}
+use Rattle.fmp_links.specs.Tasks.{task_at, has_task, without, inserted, AreDistinct}
+use Rattle.fmp_links.proofs.Having.{has_here, has_there, or_left, or_right}
+
+made_same : (n k : ℕ) → n ≡ k → (l : 1 ≤ n) (m : n ≤ 64) (l' : 1 ≤ k) (m' : k ≤ 64) →
+    ◌≡◌ {A = Task} (record { number = n; least = l; most = m }) (record { number = k; least = l'; most = m' })
+made_same n k e l m =
+    let make : (n : ℕ) → 1 ≤ n → n ≤ 64 → Task = λ n l m. record { number = n; least = l; most = m } in
+    let P : ℕ → Type 0 = λ k. (l' : 1 ≤ k) (m' : k ≤ 64) → make n l m ≡ make k l' m' in
+    subst P e (λ l' m'. ap (λ x. make n x m) (le_prop l l') ∙ ap (λ x. make n l' x) (le_prop m m'))
+
+pub task_same : (t u : Task) → t.number ≡ u.number → t ≡ u
+task_same t u e = made_same t.number u.number e t.least t.most u.least u.most
+
+pub number_at : (k : ℕ) → k < 64 → (task_at k).number ≡ k + 1
+number_at k h = omega arith
+
+pub task_is : (t : Task) (k : ℕ) → k + 1 ≡ t.number → task_at k ≡ t
+task_is t k e = task_same (task_at k) t (let low = t.most in omega (arith, e, low, t.least))
+
+same_test : (t : Task) (k x : ℕ) → k + 1 ≡ t.number → x < 64 → (t.number == (task_at x).number) ≡ nat_eq k x
+same_test t k x e h =
+    ⊎_elim (λ (f : k ≡ x). eq-eqb t.number (task_at x).number (omega (arith, e, f, number_at x h)) ∙ sym (eq-eqb k x f))
+    (λ (f : k ≡ x → ⊥). ne_eqb t.number (task_at x).number (λ (g : t.number ≡ (task_at x).number). f (omega (arith, e, g, number_at x h))) ∙ sym (ne_eqb k x f))
+    (cases_eq k x)
+
+other_test : (t : Task) (k x : ℕ) → k + 1 ≡ t.number → x < 64 → ((task_at x).number == t.number) ≡ (x == k)
+other_test t k x e h =
+    ⊎_elim (λ (f : x ≡ k). eq-eqb (task_at x).number t.number (omega (arith, e, f, number_at x h)) ∙ sym (eq-eqb x k f))
+    (λ (f : x ≡ k → ⊥). ne_eqb (task_at x).number t.number (λ (g : (task_at x).number ≡ t.number). f (omega (arith, e, g, number_at x h))) ∙ sym (ne_eqb x k f))
+    (cases_eq x k)
+
+pub has_task-map : (t : Task) (k : ℕ) (xs : List ℕ) → k + 1 ≡ t.number → ((u : ℕ) → has u xs ≡ true → u < 64) → has_task t (map task_at xs) ≡ has k xs
+has_task-map t k [] e h = refl
+has_task-map t k (x ∷ xs) e h = rw (same_test t k x e (h x (has_here x xs)), has_task-map t k xs e (λ u g. h u (has_there u x xs g))) refl
+
+pub without-map : (t : Task) (k : ℕ) (xs : List ℕ) → k + 1 ≡ t.number → ((u : ℕ) → has u xs ≡ true → u < 64) → map task_at (links.without k xs) ≡ without t (map task_at xs)
+without-map t k [] e h = refl
+without-map t k (x ∷ xs) e h =
+    let rest = without-map t k xs e (λ u g. h u (has_there u x xs g)) in
+    rw (other_test t k x e (h x (has_here x xs)))
+    (elim (x == k) as (λ (b : Bool). map task_at (cond (not b) (x ∷ links.without k xs) (links.without k xs)) ≡ cond (not b) (task_at x ∷ without t (map task_at xs)) (without t (map task_at xs)))
+    [ true ↦ rest | false ↦ ap (λ (r : List Task). task_at x ∷ r) rest ])
+
+pub gone_from : (t : Task) (ts : List Task) → has_task t (without t ts) ≡ false
+gone_from t [] = refl
+gone_from t (u ∷ us) =
+    ⊎_elim (λ (f : t.number ≡ u.number). rw (eq-eqb u.number t.number (sym f)) (gone_from t us))
+    (λ (f : t.number ≡ u.number → ⊥). rw (ne_eqb u.number t.number (λ g. f (sym g)), ne_eqb t.number u.number f) (gone_from t us)) (cases_eq t.number u.number)
+
+pub without_lacking : (t : Task) (ts : List Task) → has_task t ts ≡ false → without t ts ≡ ts
+without_lacking t [] h = refl
+without_lacking t (u ∷ us) h =
+    let out : u.number ≡ t.number → ⊥ = λ f. let yes : nat_eq t.number u.number ≡ true = eq-eqb t.number u.number (sym f) in let bad = or_left (nat_eq t.number u.number) (has_task t us) h in cc in
+    rw (ne_eqb u.number t.number out) (ap (λ (r : List Task). u ∷ r) (without_lacking t us (or_right (nat_eq t.number u.number) (has_task t us) h)))
+
+pub distinct-map : (xs : List ℕ) → ((u : ℕ) → has u xs ≡ true → u < 64) → links.AreDistinct xs → AreDistinct (map task_at xs)
+distinct-map [] h d = tt
+distinct-map (x ∷ xs) h d =
+    let rest : (u : ℕ) → has u xs ≡ true → u < 64 = λ u g. h u (has_there u x xs g) in
+    (has_task-map (task_at x) x xs (sym (number_at x (h x (has_here x xs)))) rest ∙ d.0, distinct-map xs rest d.1)
+
+-- a task before another one
+pub inserted-map : (b t : Task) (j k : ℕ) (xs : List ℕ) → j + 1 ≡ b.number → task_at k ≡ t → ((u : ℕ) → has u xs ≡ true → u < 64) → map task_at (links.inserted j k xs) ≡ inserted b t (map task_at xs)
+inserted-map b t j k [] e f h = ap (λ (u : Task). u ∷ []) f
+inserted-map b t j k (x ∷ xs) e f h =
+    let rest = inserted-map b t j k xs e f (λ u g. h u (has_there u x xs g)) in
+    rw (other_test b j x e (h x (has_here x xs)))
+    (elim (x == j) as (λ (c : Bool). map task_at (cond c (k ∷ x ∷ xs) (x ∷ links.inserted j k xs)) ≡ cond c (t ∷ task_at x ∷ map task_at xs) (task_at x ∷ inserted b t (map task_at xs)))
+    [ true ↦ ap (λ (u : Task). u ∷ task_at x ∷ map task_at xs) f | false ↦ ap (λ (us : List Task). task_at x ∷ us) rest ])
+
+pub first_of-map : (xs : List ℕ) → first_of (map task_at xs) ≡ option_map task_at (first_of xs)
+first_of-map [] = refl
+first_of-map (x ∷ xs) = refl
+
+-- the items of two parts of a list of tasks
+pub record Parts (xs : List ℕ) (t : Task) (behind : List Task) : Type 0 where
+  pub before_items : List ℕ
+  pub behind_items : List ℕ
+  pub whole : xs ≡ before_items ++ (t.number - 1) ∷ behind_items
+  pub behind_is : map task_at behind_items ≡ behind
+
+pub parts_of : (xs : List ℕ) (before behind : List Task) (t : Task) → ((u : ℕ) → has u xs ≡ true → u < 64) → map task_at xs ≡ before ++ t ∷ behind → Parts xs t behind
+parts_of [] [] behind t h e = cc
+parts_of [] (u ∷ before) behind t h e = cc
+parts_of (x ∷ xs) [] behind t h e =
+    let same : task_at x ≡ t = cc in
+    let rest : map task_at xs ≡ behind = cc in
+    let at : x ≡ t.number - 1 = omega (arith, ap (λ (u : Task). u.number) same, number_at x (h x (has_here x xs))) in
+    record { before_items = []; behind_items = xs; whole = ap (λ (y : ℕ). y ∷ xs) at; behind_is = rest }
+parts_of (x ∷ xs) (u ∷ before) behind t h e =
+    let rest : map task_at xs ≡ before ++ t ∷ behind = cc in
+    let p = parts_of xs before behind t (λ v g. h v (has_there v x xs g)) rest in
+    record { before_items = x ∷ p.before_items; behind_items = p.behind_items; whole = ap (λ (ys : List ℕ). x ∷ ys) p.whole; behind_is = p.behind_is }

@@ -1,0 +1,59 @@
+-- Ready queues as lists of tasks, one for each processor and priority.
+use Rattle.std.specs.Prelude.{◌≡◌, ℕ, ◌+◌, ◌-◌, ◌*◌, ◌==◌, Bool, true, false, Option, Some, None, List, [], ◌∷◌, ◌++◌, slice_set, slice_index_or, map, take, drop}
+use Rattle.fmp_codes.specs.declared.numbers.Proc.{Proc}
+use Rattle.fmp_codes.specs.declared.numbers.Pri.{Pri}
+use Rattle.fmp_codes.specs.declared.numbers.Task.{Task}
+use Rattle.fmp_links.specs.Tasks.{has_task, without, AreDistinct}
+
+pub record Queues : Type 0 where
+  pub lists : List (List Task)  -- of each processor the lists of its priorities, from the highest
+  pub marks : List (Option Task)  -- the first task of each processor when they were marked last
+
+-- the place of the list of a processor and a priority among all lists
+abbrev pub list_number : Proc → Pri → ℕ
+list_number p n = 32 * (p.number - 1) + (n.number - 1)
+
+abbrev pub list_at : List (List Task) → ℕ → List Task
+list_at q i = slice_index_or q i []
+
+-- the first task goes last
+abbrev pub rotated : List Task → List Task
+rotated [] = []
+rotated (t ∷ ts) = ts ++ t ∷ []
+
+abbrev pub push_last : List (List Task) → ℕ → Task → List (List Task)
+push_last q i t = slice_set q i (list_at q i ++ t ∷ [])
+
+-- a task is in no list any more
+abbrev pub take_out : List (List Task) → Task → List (List Task)
+take_out q t = map (without t) q
+
+-- the first of the first list that is not empty
+abbrev pub first_of : List (List Task) → Option Task
+first_of [] = None
+first_of ([] ∷ qs) = first_of qs
+first_of ((t ∷ ts) ∷ qs) = Some t
+
+-- the first task of a processor, by priority and then by place
+abbrev pub top_of : List (List Task) → Proc → Option Task
+top_of q p = first_of (take 32 (drop (32 * (p.number - 1)) q))
+
+-- the task marked on a processor
+abbrev pub marked_on : List (Option Task) → Proc → Option Task
+marked_on marks p = slice_index_or marks (p.number - 1) None
+
+abbrev pub is_same : Option Task → Option Task → Bool
+is_same None None = true
+is_same None (Some u) = false
+is_same (Some t) None = false
+is_same (Some t) (Some u) = t.number == u.number
+
+-- 1 where a list is not empty
+abbrev pub bit_of : {X : Type 0} → List X → ℕ
+bit_of [] = 0
+bit_of (x ∷ xs) = 1
+
+-- no list has a task twice, and no two lists have one
+pub record AreDisjoint (q : List (List Task)) : Type 0 where
+  pub apart : (i : ℕ) → AreDistinct (list_at q i)
+  pub one : (i j : ℕ) (t : Task) → has_task t (list_at q i) ≡ true → has_task t (list_at q j) ≡ true → i ≡ j

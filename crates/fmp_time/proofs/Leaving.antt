@@ -1,0 +1,59 @@
+-- What was taken out is nowhere, and taking out what is nowhere changes nothing.
+use Rattle.std.proofs.Common.{◌≡◌, ℕ, zero, suc, ◌+◌, ◌≤◌, Bool, true, false, cond, Some, List, [], ◌∷◌, nat_eq, refl, sym, ap, ◌∙◌, arith, ⊎_elim}
+use Rattle.std.proofs.lemmas.Bool.{cases_eq, eq-eqb, ne_eqb}
+use Rattle.fmp_links.specs.Lists as links
+use Rattle.fmp_links.specs.Lists.{has}
+use Rattle.fmp_links.proofs.Having as having
+use Rattle.fmp_links.proofs.Having.{or_left, or_right}
+use Rattle.fmp_time.specs.Differences.{Entry, list_at, has_entry, without, take_out, ticks_in, entries_from, sum_of, FirstIsLater}
+
+gone_from : (k : ℕ) (es : List Entry) → has_entry k (without k es) ≡ false
+gone_from k [] = refl
+gone_from k (e ∷ es) =
+    ⊎_elim (λ (f : k ≡ e.0). rw (eq-eqb e.0 k (sym f)) (gone_from k es))
+    (λ (f : k ≡ e.0 → ⊥). rw (ne_eqb e.0 k (λ g. f (sym g)), ne_eqb k e.0 f) (gone_from k es)) (cases_eq k e.0)
+
+pub gone : (q : List (List Entry)) (k i : ℕ) → has_entry k (list_at (take_out q k) i) ≡ false
+gone [] k i = refl
+gone (x ∷ q) k zero = gone_from k x
+gone (x ∷ q) k (suc i) = gone q k i
+
+stays_in : (k : ℕ) (es : List Entry) → has_entry k es ≡ false → without k es ≡ es
+stays_in k [] h = refl
+stays_in k (e ∷ es) h =
+    let out : e.0 ≡ k → ⊥ = λ f. let yes : nat_eq k e.0 ≡ true = eq-eqb k e.0 (sym f) in let bad = or_left (nat_eq k e.0) (has_entry k es) h in cc in
+    rw (ne_eqb e.0 k out) (ap (λ (r : List Entry). e ∷ r) (stays_in k es (or_right (nat_eq k e.0) (has_entry k es) h)))
+
+pub stays : (q : List (List Entry)) (k : ℕ) → ((i : ℕ) → has_entry k (list_at q i) ≡ false) → take_out q k ≡ q
+stays [] k h = refl
+stays (x ∷ q) k h = rw (stays_in k x (h 0)) (ap (λ (r : List (List Entry)). x ∷ r) (stays q k (λ i. h (suc i))))
+
+pub items_stay : (q : List (List ℕ)) (k : ℕ) → ((i : ℕ) → has k (links.list_at q i) ≡ false) → links.take_out q k ≡ q
+items_stay [] k h = refl
+items_stay (x ∷ q) k h = rw (having.without_lacking k x (h 0)) (ap (λ (r : List (List ℕ)). x ∷ r) (items_stay q k (λ i. h (suc i))))
+
+-- ticks left are between those before and the sum
+pub ticks_from : (d : ℕ → ℕ) (s : ℕ) (xs : List ℕ) (k r : ℕ) → ticks_in (entries_from d s xs) k ≡ Some r → (s ≤ r) × (r ≤ s + sum_of d xs)
+ticks_from d s [] k r e = cc
+ticks_from d s (x ∷ xs) k r e =
+    ⊎_elim (λ (f : x ≡ k).
+    let same : Some (s + d x) ≡ Some r = sym (ap (λ (c : Bool). cond c (Some (s + d x)) (ticks_in (entries_from d (s + d x) xs) k)) (eq-eqb x k f)) ∙ e in
+    let at : s + d x ≡ r = cc in (omega (arith, at), omega (arith, at)))
+    (λ (f : x ≡ k → ⊥).
+    let on = ticks_from d (s + d x) xs k r (sym (ap (λ (c : Bool). cond c (Some (s + d x)) (ticks_in (entries_from d (s + d x) xs) k)) (ne_eqb x k f)) ∙ e) in
+    (omega (arith, on.0), omega (arith, on.1)))
+    (cases_eq x k)
+
+pub ticks_range : (d : ℕ → ℕ) (xs : List ℕ) (k r : ℕ) → FirstIsLater d xs → ticks_in (entries_from d 0 xs) k ≡ Some r → (1 ≤ r) × (r ≤ sum_of d xs)
+ticks_range d [] k r l e = cc
+ticks_range d (x ∷ xs) k r l e =
+    let all = ticks_from d 0 (x ∷ xs) k r e in (
+      ⊎_elim (λ (f : x ≡ k).
+          let same : Some (0 + d x) ≡ Some r = sym (ap (λ (c : Bool). cond c (Some (0 + d x)) (ticks_in (entries_from d (0 + d x) xs) k)) (eq-eqb x k f)) ∙ e in
+          let at : 0 + d x ≡ r = cc in omega (arith, at, l))
+          (λ (f : x ≡ k → ⊥).
+          let on = ticks_from d (0 + d x) xs k r (sym (ap (λ (c : Bool). cond c (Some (0 + d x)) (ticks_in (entries_from d (0 + d x) xs) k)) (ne_eqb x k f)) ∙ e) in
+          omega (arith, on.0, l))
+          (cases_eq x k),
+      omega (arith, all.1),
+    )

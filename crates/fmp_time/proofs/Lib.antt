@@ -1,0 +1,13 @@
+pub mod Sums
+pub mod Spots
+pub mod Entries
+pub mod Removing
+pub mod Reading
+pub mod Expiring
+pub mod Leaving
+pub mod Found
+pub mod Lefts
+pub mod Tables
+pub mod Effects
+pub mod Waits
+pub mod Served

@@ -1,0 +1,4 @@
+pub mod Differences
+pub mod Left
+pub mod Times
+pub mod Shown

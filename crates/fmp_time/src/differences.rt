@@ -1,0 +1,214 @@
+//! Difference lists, one for each processor: items in ascending ticks left, of which each stores what it adds to the sum of
+//! those before it. So a tick lowers one number, and an item that goes hands on what it added to the one behind it.
+ghost use Rattle.std.specs.Prelude.{◌≡◌, ℕ, ◌^◌, ◌<◌, ◌≤◌, false, true, IfSome, is_some, Some, [], length, replicate, slice_index, slice_set};
+ghost use Rattle.std.specs.Option.{option_map};
+ghost use Rattle.fmp_links.specs.Lists as lists;
+ghost use Rattle.fmp_time.specs.Differences.{list_at, has_entry, sorted_in, take_out, ticks_in, least_of, lowered, due, not_due, entries_from, sum_of, spot_in, rest_in, zeros_of, rest_of, items_of, items_given, IsLeastIn};
+ghost use Rattle.fmp_time.specs.Left.{left_in, ticks_of, AreDisjoint};
+
+use arrayvec::ArrayVec;
+use fmp_links::Links;
+use std::marker::Model;
+
+/// For each processor its items in ascending ticks left.
+#[derive(Drop)]
+pub struct Differences {
+    links: Links<136, 128>,
+    /// What an item adds to the ticks left of the one before it.
+    more: [u32; 128],
+}
+
+impl Model for Differences {
+    ghost use Rattle.std.specs.Prelude.{List};
+    ghost use Rattle.fmp_time.specs.Differences.{Entry, entries_of, IsSummed};
+
+    ghost Value = { List (List Entry) };
+
+    ghost view = { λ a. entries_of a.more a.links };
+
+    ghost invariant = { λ a. IsSummed a.more a.links };
+}
+
+impl Differences {
+    /// Empty lists.
+    pub fn new() -> Self
+        ensures { result ≡ replicate 8 [] }
+    {
+        Differences {
+            links: Links::new(),
+            more: [0; 128],
+        }
+    }
+
+    /// Puts an item that stands in no list into one, behind all that have no more ticks left.
+    pub fn insert(&mut self, list: usize, item: usize, ticks: u32)
+        requires list_in { list < 8 }
+        requires item_in { item < 128 }
+        requires positive { 1 ≤ ticks }
+        requires in_range { ticks ≤ 2 ^ 31 }
+        requires nowhere { (i : ℕ) → has_entry item (list_at self.old i) ≡ false }
+        ensures entries { self.new ≡ slice_set self.old list (sorted_in item ticks (list_at self.old list)) }
+        ensures count { length self.old ≡ 8 }
+    {
+        let (behind, rest) = spot(&self.links, &self.more, list, ticks);
+        match behind {
+            Some(behind) => {
+                self.more[behind] -= rest;
+                self.more[item] = rest;
+                self.links.insert_before(list, behind, item);
+            }
+            None => {
+                self.more[item] = rest;
+                self.links.push_last(list, item);
+            }
+        }
+    }
+
+    /// Takes an item out of the list in which it stands.
+    fn remove(&mut self, item: usize)
+        requires item_in { item < 128 }
+        requires somewhere { (i : ℕ) × (has_entry item (list_at self.old i) ≡ true) }
+        ensures { self.new ≡ take_out self.old item }
+    {
+        match self.links.next(item) {
+            Some(behind) => {
+                self.more[behind] += self.more[item];
+                self.links.remove(item);
+            }
+            None => self.links.remove(item),
+        }
+    }
+
+    /// Whether an item stands in a list.
+    pub fn stands(&self, item: usize) -> bool
+        requires { item < 128 }
+        ensures yes { result ≡ true → (i : ℕ) × (has_entry item (list_at self.now i) ≡ true) }
+        ensures no_list { result ≡ false → (i : ℕ) → has_entry item (list_at self.now i) ≡ false }
+        ensures value { result ≡ is_some (left_in self.now item) }
+    {
+        match self.links.place(item) {
+            Some(_list) => true,
+            None => false,
+        }
+    }
+
+    /// Takes an item out of the list in which it stands, if it stands in one.
+    pub fn take_out(&mut self, item: usize)
+        requires { item < 128 }
+        ensures { self.new ≡ take_out self.old item }
+    {
+        if self.stands(item) {
+            self.remove(item);
+        }
+    }
+
+    /// The ticks left of an item.
+    pub fn left(&self, item: usize) -> Option<u32>
+        requires { item < 128 }
+        ensures value { result ≡ option_map ticks_of (left_in self.now item) }
+        ensures range { IfSome result (λ n. (1 ≤ n) × (n ≤ 2 ^ 31)) }
+    {
+        let list = self.links.place(item)?;
+        Some(ticks_at(&self.links, &self.more, list, item))
+    }
+
+    /// The least ticks left in a list.
+    pub fn next(&self, list: usize) -> Option<u32>
+        requires { list < 8 }
+        ensures value { result ≡ least_of (list_at self.now list) }
+        ensures least { IsLeastIn (list_at self.now list) result }
+        ensures disjoint { AreDisjoint self.now }
+    {
+        let item = self.links.first(list)?;
+        Some(self.more[item])
+    }
+
+    /// A tick: each item of a list has one tick less, and those that have none left are taken out and given, in their order.
+    /// Where there is none of these, one number changes.
+    pub fn tick(&mut self, list: usize) -> Option<ArrayVec<usize, 128>>
+        requires { list < 8 }
+        ensures entries { self.new ≡ slice_set self.old list (not_due (lowered (list_at self.old list))) }
+        ensures due { items_given result ≡ items_of (due (lowered (list_at self.old list))) }
+        ensures disjoint { AreDisjoint self.old }
+    {
+        let first = self.links.first(list)?;
+        self.more[first] -= 1;
+        if self.more[first] > 0 {
+            return None;
+        }
+        Some(expire(&mut self.links, &self.more, list))
+    }
+}
+
+/// Takes out of a list the items in front that add nothing.
+fn expire(links: &mut Links<136, 128>, more: &[u32; 128], list: usize) -> ArrayVec<usize, 128>
+    requires list_in { list < 8 }
+    requires counted { length links.old ≡ 8 }
+    ensures lists { links.new ≡ slice_set links.old list (rest_of (slice_index more.now) (lists.list_at links.old list)) }
+    ensures items { result.items ≡ zeros_of (slice_index more.now) (lists.list_at links.old list) }
+{
+    let mut items = ArrayVec::new();
+    let mut here = links.first(list);
+    for _ in 0..128usize {
+        match here {
+            Some(item) => {
+                if more[item] > 0 {
+                    return items;
+                }
+                links.remove(item);
+                items.push(item);
+                here = links.first(list);
+            }
+            None => return items,
+        }
+    }
+    items
+}
+
+/// The ticks left of an item in a list.
+fn ticks_at(links: &Links<136, 128>, more: &[u32; 128], list: usize, item: usize) -> u32
+    requires list_in { list < 8 }
+    requires there { lists.has item (lists.list_at links.now list) ≡ true }
+    requires bound { sum_of (slice_index more.now) (lists.list_at links.now list) ≤ 2 ^ 31 }
+    ensures { ticks_in (entries_from (slice_index more.now) 0 (lists.list_at links.now list)) item ≡ Some result }
+{
+    let mut here = links.first(list);
+    let mut sum = 0;
+    for _ in 0..128usize {
+        match here {
+            Some(next) => {
+                sum += more[next];
+                if next == item {
+                    return sum;
+                }
+                here = links.next(next);
+            }
+            None => return sum,
+        }
+    }
+    sum
+}
+
+/// Before which item a number of ticks comes, and what of it is left over there.
+fn spot(links: &Links<136, 128>, more: &[u32; 128], list: usize, ticks: u32) -> (Option<usize>, u32)
+    requires { list < 8 }
+    ensures item { result.0 ≡ spot_in (slice_index more.now) ticks (lists.list_at links.now list) }
+    ensures rest { result.1 ≡ rest_in (slice_index more.now) ticks (lists.list_at links.now list) }
+    ensures disjoint { lists.AreDisjoint 128 links.now }
+{
+    let mut here = links.first(list);
+    let mut rest = ticks;
+    for _ in 0..128usize {
+        match here {
+            Some(item) => {
+                if rest < more[item] {
+                    return (Some(item), rest);
+                }
+                rest -= more[item];
+                here = links.next(item);
+            }
+            None => return (None, rest),
+        }
+    }
+    (None, rest)
+}
