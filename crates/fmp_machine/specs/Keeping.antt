@@ -96,14 +96,10 @@ arrive k q r t = if is_runnable r then k.put_last q r t else q
 abbrev pub place : {Q : Type 0} → Keeping Q → World Q → Task → TaskRecord → World Q
 place k w t r = record w { tasks = with_item w.tasks t.number r; order = arrive k (depart k w.order (task w t) t) r t }
 
--- a task of this record leaves the queue in which it waits and the timed waits, if it waits
-abbrev pub without_wait : {Q : Type 0} → Keeping Q → Q → TaskRecord → Task → Q
-without_wait k q r t = if is_some r.wait then k.leave q r t else q
-
 -- The wait of t is over, if it has one, and its fields change: it leaves its queue and the timed waits, and goes last where it is ready then.
 abbrev pub end_wait : {Q : Type 0} → Keeping Q → World Q → Task → TaskRecord → World Q
 end_wait k w t r =
-    place k (record w { order = without_wait k w.order (task w t) t; waits_left = with_item w.waits_left t.number None }) t r
+    place k (record w { order = k.leave w.order (task w t) t; waits_left = with_item w.waits_left t.number None }) t r
 
 -- The task t waits for this with so many ticks left, or for ever. It leaves its ready queue, and is the last in the queue and of the timed waits.
 abbrev pub begin_wait : {Q : Type 0} → Keeping Q → World Q → Task → Wait → Option ℕ → World Q
