@@ -12,3 +12,4 @@ pub mod Classes
 pub mod Named
 pub mod Growing
 pub mod Objects
+pub mod Same

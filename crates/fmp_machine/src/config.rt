@@ -3,6 +3,7 @@ ghost use Rattle.std.specs.Prelude.{◌≡◌, ◌≤◌};
 ghost use Rattle.std.specs.List.{list_any};
 ghost use Rattle.fmp_machine.specs.Valid.{is_class_of};
 
+use crate::equality::are_same_parts;
 use crate::parts::{NamedClass, Parts};
 use crate::setup::{
     AlarmSetup, Class, CyclicSetup, DataQueueSetup, EventflagSetup, Limits, PoolSetup,
@@ -32,7 +33,7 @@ impl Model for Config {
 }
 
 impl Config {
-    ghost use Rattle.std.specs.Prelude.{◌≡◌, map};
+    ghost use Rattle.std.specs.Prelude.{◌≡◌, ◌↔◌, IsTrue, map};
     ghost use Rattle.fmp_machine.specs.Parts.{setup_of};
     ghost use Rattle.fmp_machine.specs.Valid.{IsValid};
 
@@ -152,6 +153,13 @@ impl Config {
         ensures valid { IsValid self.now }
     {
         self.parts.spin_locks
+    }
+
+    /// Whether all that two configurations say is equal, the names and their order included.
+    pub fn is_same(&self, other: &Config) -> bool
+        ensures { IsTrue result ↔ (self.now ≡ other.now) }
+    {
+        are_same_parts(&self.parts, &other.parts)
     }
 }
 

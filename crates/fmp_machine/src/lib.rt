@@ -6,6 +6,7 @@
 
 mod config;
 mod effect;
+mod equality;
 mod machine;
 mod parts;
 mod setup;

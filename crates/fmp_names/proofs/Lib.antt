@@ -1,4 +1,5 @@
 pub mod Defined
 pub mod Listed
 pub mod Placed
+pub mod Same
 pub mod Valid

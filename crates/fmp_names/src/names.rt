@@ -1,5 +1,5 @@
 //! The names of a configuration.
-ghost use Rattle.std.specs.Prelude.{◌≡◌, ◌≤◌, ◌++◌, ◌∷◌, [], ◌<◌, map, get_or, slice_set, OnOk, OnErr, IfSome, slice_get, option_map, pos, true, false};
+ghost use Rattle.std.specs.Prelude.{◌≡◌, ◌≤◌, ◌++◌, ◌∷◌, [], ◌<◌, map, get_or, slice_set, OnOk, OnErr, IfSome, slice_get, option_map, pos, true, false, IsTrue, ◌↔◌};
 ghost use Rattle.std.specs.Option.{option_copied};
 ghost use Rattle.std.specs.List.{list_any};
 ghost use Rattle.std.specs.Map.{keys_of};
@@ -125,6 +125,29 @@ fn insert_definition(
     Ok(())
 }
 
+fn is_same_set(one: &IndexSet<Vec<u8>>, other: &IndexSet<Vec<u8>>) -> bool
+    ensures { IsTrue result ↔ (spec.texts one.now ≡ spec.texts other.now) }
+{
+    one.as_slice() == other.as_slice()
+}
+
+fn are_same_sets(one: &[IndexSet<Vec<u8>>; 8], other: &[IndexSet<Vec<u8>>; 8]) -> bool
+    ensures { IsTrue result ↔ (map spec.texts one.now ≡ map spec.texts other.now) }
+{
+    for place in 0..8 {
+        if !is_same_set(&one[place], &other[place]) {
+            return false;
+        }
+    }
+    true
+}
+
+fn are_same_definitions(one: &IndexMap<Vec<u8>, u32>, other: &IndexMap<Vec<u8>, u32>) -> bool
+    ensures { IsTrue result ↔ (spec.definitions one.now ≡ spec.definitions other.now) }
+{
+    one.as_slice() == other.as_slice()
+}
+
 impl Names {
     /// No names yet, for a number of processors.
     pub fn new(alloc: Global, processors: u8) -> Self
@@ -241,6 +264,16 @@ impl Names {
         ensures { result ≡ spec.is_defined self.now name.now }
     {
         self.defined.contains_key(name)
+    }
+
+    /// Whether two have the same number of processors and the same names in the same order, the defined ones with the same numbers.
+    pub fn is_same(&self, other: &Names) -> bool
+        ensures { IsTrue result ↔ (self.now ≡ other.now) }
+    {
+        self.processors == other.processors
+            && are_same_sets(&self.objects, &other.objects)
+            && is_same_set(&self.functions, &other.functions)
+            && are_same_definitions(&self.defined, &other.defined)
     }
 
     /// How many processors there are.
