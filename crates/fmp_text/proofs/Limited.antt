@@ -1,5 +1,5 @@
 -- What a text spells is on the processors of the names, and its arguments are within their kinds' bits.
-use Rattle.std.proofs.Common.{◌≡◌, ℕ, zero, suc, ◌-◌, ◌<◌, ◌≤◌, ◌^◌, ℤ, pos, negsuc, Bool, true, false, not, ◌&&◌, ◌||◌, eqb, leb, ltb, inl, inr, List, [], ◌∷◌, Option, Some, None, option_map, refl, sym, ap, subst, arith}
+use Rattle.std.proofs.Common.{◌≡◌, ℕ, zero, suc, ◌-◌, ◌<◌, ◌≤◌, ◌^◌, ℤ, pos, negsuc, Bool, true, false, not, ◌&&◌, ◌||◌, eqb, leb, ltb, inl, inr, List, [], ◌∷◌, Option, Some, None, option_map, Ok, refl, sym, ap, subst, arith}
 use Rattle.std.specs.Prelude.{All}
 use Rattle.std.proofs.lemmas.Bool.{and_parts, leb-true, ltb-true}
 use Rattle.std.proofs.lemmas.List.Elements.{All-nil, All-cons}
@@ -23,6 +23,7 @@ use Rattle.fmp_names.specs.declared.constants.Constant.{Constant}
 use Rattle.fmp_names.specs.declared.constants.Constant.TheVariants.{TskSelf, TpriSelf, TpriIni, TprcIni, TmoPol, TmoFevr, TwfAndw, TwfOrw}
 use Rattle.fmp_text.specs.Argument.{ranged, number32, constant_of}
 use Rattle.fmp_names.specs.Constants.{constant_in, value_of}
+use Rattle.fmp_text.specs.Lines.{line_event}
 use Rattle.fmp_text.specs.Events.{reading_of, faultless}
 use Rattle.fmp_text.specs.Grammar.{IsObjectName, SpellsValue, SpellsPieces, SpellsArguments, FollowsName, SpellsCall}
 use Rattle.fmp_names.specs.Names.{NameLists, AreValid, names_of}
@@ -31,7 +32,7 @@ use Rattle.fmp_bytes.proofs.Parsed.{and_then_parts, tested_some}
 use Rattle.fmp_calls.proofs.Matched.{bare_alone}
 use Rattle.fmp_names.proofs.Placed.{numbered}
 use Rattle.fmp_names.proofs.Valid.{most_of-le}
-use Rattle.fmp_text.proofs.SpelledTexts.{text_is_spelled}
+use Rattle.fmp_text.proofs.SpelledTexts.{line_spelled, text_is_spelled}
 
 -- ---- values
 
@@ -134,6 +135,13 @@ event_in_bits : (names : NameLists) (text : List ℕ) (e : Event) → AreValid n
 event_in_bits names text (events.Call p call) valid s = call_in_bits names s.rest call valid s.happens
 event_in_bits names text (events.Tick p) valid s = tt
 event_in_bits names text (events.Ipi p) valid s = tt
+
+-- the event of a line
+pub line_on : (names : NameLists) (line : List ℕ) (e : Event) → line_event names line ≡ Ok (Some e) → (processor_of e).number ≤ names.processors
+line_on names line e is = let s = line_spelled names line (Some e) is in event_on names s.0 e s.2
+
+pub line_in_bits : (names : NameLists) (line : List ℕ) (e : Event) → AreValid names → line_event names line ≡ Ok (Some e) → EventInBits e
+line_in_bits names line e valid is = let s = line_spelled names line (Some e) is in event_in_bits names s.0 e valid s.2
 
 -- what holds of each event that is spelled holds of all that lines spell
 module _ (names : NameLists) (P : Event → Type 0) (one : (text : List ℕ) (e : Event) → SpellsEvent names text e → P e) where

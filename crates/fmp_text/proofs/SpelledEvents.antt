@@ -112,14 +112,14 @@ after-blanks between rest blank = rw (prefix_len-more (is_of Blank) between rest
 after-none : (text : List ℕ) → prefix_len (is_of Blank) text ≡ 0 → after Blank text ≡ text
 after-none text none = rw none refl
 
-blanks_stop : (between rest : List ℕ) → AreBlank between → 1 ≤ length between → prefix_len (is_of Word) (between ++ rest) ≡ 0
+pub blanks_stop : (between rest : List ℕ) → AreBlank between → 1 ≤ length between → prefix_len (is_of Word) (between ++ rest) ≡ 0
 blanks_stop [] rest blank apart = absurd (omega (arith, apart))
 blanks_stop (b ∷ between) rest blank apart = stops-cons (is_of Word) b (between ++ rest) (not_word-blank b (and_parts (is_of Blank b) (list_all (is_of Blank) between) blank).0)
 
 line_of_blanks : (bytes : List ℕ) → AreBlank bytes → list_all (is_of Line) bytes ≡ true
 line_of_blanks bytes blank = list_all-weaker (is_of Blank) (is_of Line) line-blank bytes blank
 
-line_of_words : (bytes : List ℕ) → list_all (is_of Word) bytes ≡ true → list_all (is_of Line) bytes ≡ true
+pub line_of_words : (bytes : List ℕ) → list_all (is_of Word) bytes ≡ true → list_all (is_of Line) bytes ≡ true
 line_of_words bytes words = list_all-weaker (is_of Word) (is_of Line) (λ b h. line-argument b (argument-word b h)) bytes words
 
 module _ (names : NameLists) (processor : Proc) (Happens : List ℕ → Type 0) (text : List ℕ) (valid : AreValid names) (s : OnProcessor names processor Happens text) where
@@ -182,7 +182,7 @@ no_blank t [] word e =
     absurd (omega (arith, word, ap length empty))
 no_blank t (b ∷ between) word e = omega arith
 
-blank_between : (t : List ℕ) → 1 ≤ length (front Word (after Blank (after Word t))) → 1 ≤ length (front Blank (after Word t))
+pub blank_between : (t : List ℕ) → 1 ≤ length (front Word (after Blank (after Word t))) → 1 ≤ length (front Blank (after Word t))
 blank_between t word = no_blank t (front Blank (after Word t)) word refl
 
 on_processor_spelled : (names : NameLists) (text : List ℕ) (processor : Proc) (Happens : List ℕ → Type 0) → processor_in names (front Word (after Blank text)) ≡ Ok processor

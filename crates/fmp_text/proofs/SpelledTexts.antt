@@ -59,7 +59,7 @@ without_return-cases line =
       | inr f ↦ inr (f, rw f refl)
     ]
 
-ended : (line : List ℕ) → Ended (without_return line) line
+pub ended : (line : List ℕ) → Ended (without_return line) line
 ended line = elim (without_return-cases line) [ inl t ↦ inr t.1 | inr f ↦ inl (sym f.1) ]
 
 -- bytes of lines are no carriage return
@@ -76,7 +76,7 @@ line_kept core line =
     ]
 
 -- the core of a line of an event's bytes
-core_of : (core line : List ℕ) → Ended core line → list_all (is_of Line) core ≡ true → without_return line ≡ core
+pub core_of : (core line : List ℕ) → Ended core line → list_all (is_of Line) core ≡ true → without_return line ≡ core
 core_of core line (inl e) bytes = ap without_return e ∙ line_kept core bytes
 core_of core line (inr e) bytes = ap without_return e ∙ without_return-push core
 
@@ -87,7 +87,7 @@ or_from_right true = refl
 or_from_right false = refl
 
 -- what follows the blanks before a byte that is none
-after_first : (before : List ℕ) (b : ℕ) (rest : List ℕ) → AreBlank before → is_of Blank b ≡ false → after Blank (before ++ (b ∷ rest)) ≡ b ∷ rest
+pub after_first : (before : List ℕ) (b : ℕ) (rest : List ℕ) → AreBlank before → is_of Blank b ≡ false → after Blank (before ++ (b ∷ rest)) ≡ b ∷ rest
 after_first before b rest blank other = (front-append Blank before (b ∷ rest) blank (stops-cons (is_of Blank) b rest other)).1
 
 blank_skipped : (core : List ℕ) → AreBlank core → is_skipped core ≡ true
@@ -119,14 +119,14 @@ comment_kept line s =
       | inr f ↦ rw f s
     ]
 
-line_of_blanks : (bytes : List ℕ) → AreBlank bytes → list_all (is_of Line) bytes ≡ true
+pub line_of_blanks : (bytes : List ℕ) → AreBlank bytes → list_all (is_of Line) bytes ≡ true
 line_of_blanks bytes blank = list_all-weaker (is_of Blank) (is_of Line) line-blank bytes blank
 
-nothing_read : (line : List ℕ) → SpellsNothing line → is_skipped (without_return line) ≡ true
+pub nothing_read : (line : List ℕ) → SpellsNothing line → is_skipped (without_return line) ≡ true
 nothing_read line (inl s) = ap is_skipped (core_of s.0 line s.1 (line_of_blanks s.0 s.2)) ∙ blank_skipped s.0 s.2
 nothing_read line (inr comment) = comment_skipped (without_return line) (comment_kept line comment)
 
-rest_read : (last : List ℕ) → IsRest last → is_skipped last ≡ true
+pub rest_read : (last : List ℕ) → IsRest last → is_skipped last ≡ true
 rest_read last (inl blank) = blank_skipped last blank
 rest_read last (inr comment) = comment_skipped last comment
 
@@ -134,7 +134,7 @@ some_parts : {A : Type 0} (found : Option A) → is_some found ≡ true → (a :
 some_parts (Some a) e = (a, refl)
 some_parts None e = absurd cc
 
-skipped_parts : (core : List ℕ) → is_skipped core ≡ true → IsRest core
+pub skipped_parts : (core : List ℕ) → is_skipped core ≡ true → IsRest core
 unfolding is_skipped
 skipped_parts core e =
     elim (or_cases (list_all (is_of Blank) core) (is_some (behind 35 (after Blank core))) e) [
@@ -148,7 +148,7 @@ comment_ended : (core line : List ℕ) → Ended core line → IsComment core �
 comment_ended core line (inl e) s = record { before = s.before; rest = s.rest; before_blank = s.before_blank; parts = e ∙ s.parts }
 comment_ended core line (inr e) s = record { before = s.before; rest = s.rest ++ (13 ∷ []); before_blank = s.before_blank; parts = e ∙ ap (λ (c : List ℕ). c ++ (13 ∷ [])) s.parts ∙ append_assoc s.before (35 ∷ s.rest) (13 ∷ []) }
 
-nothing_spelled : (line : List ℕ) → is_skipped (without_return line) ≡ true → SpellsNothing line
+pub nothing_spelled : (line : List ℕ) → is_skipped (without_return line) ≡ true → SpellsNothing line
 nothing_spelled line e =
     elim (skipped_parts (without_return line) e) [
       | inl blank ↦ inl (without_return line, ended line, blank)
@@ -193,7 +193,7 @@ no_event : (names : NameLists) (line : List ℕ) (found : Option Event) → Spel
 no_event names line None s e = s
 no_event names line (Some event) s e = absurd cc
 
-line_spelled : (names : NameLists) (line : List ℕ) (found : Option Event) → line_event names line ≡ Ok found → LineSpelled names line found
+pub line_spelled : (names : NameLists) (line : List ℕ) (found : Option Event) → line_event names line ≡ Ok found → LineSpelled names line found
 unfolding line_event
 line_spelled names line found e =
     elim (cases_Bool (is_skipped (without_return line))) [
@@ -203,7 +203,7 @@ line_spelled names line found e =
 
 -- ---- lines
 
-no_feed : (line : List ℕ) → list_all (λ b. not (eqb b 10)) line ≡ true → HasNoFeed line
+pub no_feed : (line : List ℕ) → list_all (λ b. not (eqb b 10)) line ≡ true → HasNoFeed line
 no_feed line apart k lt is = false≢true (sym (ap (λ (b : ℕ). not (eqb b 10)) is) ∙ list_all-at (λ b. not (eqb b 10)) line k 0 lt apart)
 
 -- one line more in front of what is read

@@ -1,5 +1,5 @@
 -- Reading the lines of an event text, up to the first fault.
-use Rattle.std.specs.Prelude.{◌≡◌, ◌≢◌, ◌<◌, ℕ, ◌+◌, ◌⊎◌, ◌==◌, nat_lt, Bool, false, List, [], ◌∷◌, ◌++◌, length, drop, slice_index, Option, Some, None, Result, Ok, Err, if◌then◌else◌}
+use Rattle.std.specs.Prelude.{◌≡◌, ◌≢◌, ◌<◌, ℕ, ◌+◌, ◌⊎◌, ◌==◌, nat_lt, Bool, false, List, [], ◌∷◌, ◌++◌, length, take, drop, slice_index, Option, Some, None, Result, Ok, Err, if◌then◌else◌}
 use Rattle.fmp_codes.specs.declared.records.Event.{Event}
 use Rattle.fmp_text.specs.Limits.{most_bytes, most_events}
 use Rattle.fmp_text.specs.declared.fault.TextFault.{TextFault}
@@ -59,6 +59,11 @@ reading_from names cut lines count begun (byte ∷ bytes) =
 -- what a whole text gives. One that is too long has that fault before all others
 unfoldable pub reading_of : NameLists → List ℕ → Reading
 reading_of names text = if nat_lt most_bytes (length text) then fault_at TooMany 0 else reading_from names false 0 0 [] text
+
+-- what a text gives that is answered line by line. That it is too long comes behind the faults of its whole lines
+-- within the limit
+unfoldable pub reading_by_line : NameLists → List ℕ → Reading
+reading_by_line names text = reading_from names (nat_lt most_bytes (length text)) 0 0 [] (take most_bytes text)
 
 -- there is no line feed among the bytes
 abbrev pub HasNoFeed : List ℕ → Type 0

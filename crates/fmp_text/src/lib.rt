@@ -20,4 +20,5 @@ pub use laws::{
     spelled_calls_are_read, spelled_texts_are_read, spelled_values_are_read,
     texts_are_read_line_by_line, texts_spell_one_list,
 };
-pub use line::processor_numbered;
+pub use line::{is_skipped, line_event, processor_numbered, without_return};
+pub use scan::{Scan, first_said};

@@ -104,8 +104,9 @@ pub fn is_skipped(line: &[u8]) -> bool
     all_of(Class::Blank, line) || behind(b'#', skip(Class::Blank, line)).is_some()
 }
 
+/// A line without the carriage return at its end, if it has one.
 #[tactic(auto, unfolding(crate::specs::Lines::without_return))]
-fn without_return(line: &[u8]) -> &[u8]
+pub fn without_return(line: &[u8]) -> &[u8]
     ensures { result.now ≡ spec.without_return line.now }
 {
     let length = line.len();

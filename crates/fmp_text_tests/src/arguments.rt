@@ -179,8 +179,7 @@ fn calls_of_several_kinds(rt: HostRuntime) -> Result<(), Fail> {
     Ok(())
 }
 
-/// Each call, with arguments that only those of its kinds can be: names and constants of the kinds, else the greatest number, or
-/// the least where it is a time or a block.
+/// Each call, with arguments that tell the kinds apart, but for times and blocks.
 const EACH: [&[u8]; 78] = [
     b"act_tsk(T1)",
     b"iact_tsk(T1)",

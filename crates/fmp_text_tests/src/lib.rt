@@ -20,6 +20,10 @@ mod config_limits;
 #[cfg(test)]
 mod config_places;
 #[cfg(test)]
+mod feed;
+#[cfg(test)]
+mod scripts;
+#[cfg(test)]
 mod text;
 #[cfg(test)]
 mod tokens;

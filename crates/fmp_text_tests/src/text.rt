@@ -1,3 +1,6 @@
+ghost use Rattle.std.specs.Prelude.{◌≡◌, true, false};
+ghost use Rattle.fmp_names.specs.Names as spec;
+
 use fmp_calls::{NameKind, ObjectKind};
 use fmp_codes::{Call, Event, TaskCall};
 use fmp_text::TextKind::*;
@@ -5,15 +8,22 @@ use fmp_text::{Names, TextKind, is_name, is_reserved, read_call, read_events};
 use std::alloc::Global;
 use std::test::Fail;
 
-/// Adds a name where it may be added, and tells whether it may.
-fn add(names: &mut Names, kind: NameKind, name: &[u8]) -> Result<bool, Fail> {
-    let taken = match kind {
+/// Whether no other name of this kind's name space is the same, and none is reserved.
+fn is_free(names: &Names, kind: NameKind, name: &[u8]) -> bool
+    ensures free { result ≡ true → spec.is_free kind name.now ≡ true }
+    ensures new { result ≡ true → spec.is_taken names.now kind name.now ≡ false }
+{
+    match kind {
         NameKind::Object(_) => {
-            is_reserved(name) || names.contains_object(name) || names.contains_defined(name)
+            !is_reserved(name) && !names.contains_object(name) && !names.contains_defined(name)
         }
-        NameKind::Function => names.contains_function(name),
-    };
-    if taken || !is_name(name) || !names.has_room(kind) {
+        NameKind::Function => !names.contains_function(name),
+    }
+}
+
+/// Adds a name where it may be added, and tells whether it may.
+pub fn add(names: &mut Names, kind: NameKind, name: &[u8]) -> Result<bool, Fail> {
+    if !is_name(name) || !names.has_room(kind) || !is_free(names, kind, name) {
         return Ok(false);
     }
     names.add(kind, name)?;
@@ -60,7 +70,7 @@ pub fn machine(rt: &HostRuntime) -> Result<Names, Fail> {
 }
 
 /// Texts with faults, and the kind and the line of the first one.
-const REFUSED: [(&[u8], TextKind, u32); 30] = [
+pub const REFUSED: [(&[u8], TextKind, u32); 30] = [
     (b"P3 tick\n", NumberOutOfRange, 1),
     (b"P1 act_tsk(T9)\n", UnknownName, 1),
     (b"P1 act_tsk()\n", WrongArguments, 1),

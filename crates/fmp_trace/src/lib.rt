@@ -10,5 +10,5 @@ mod values;
 
 pub use checking::{Verdict, check};
 pub use laws::{answers_fit_the_names, texts_print_one_list};
-pub use lines::trace_text;
+pub use lines::{trace_line, trace_text};
 pub use reading::read_trace;

@@ -1,5 +1,5 @@
 //! Printing records, a line for each.
-ghost use Rattle.std.specs.Prelude.{◌≡◌, ◌<◌, ◌^◌, ◌++◌, length, OnOk, IfOk};
+ghost use Rattle.std.specs.Prelude.{◌≡◌, ◌<◌, ◌^◌, [], ◌++◌, length, OnOk, OnErr, IfOk};
 ghost use Rattle.fmp_codes.specs.Records as records;
 ghost use Rattle.fmp_trace.specs.Lines as spec;
 
@@ -196,6 +196,24 @@ fn put_line(out: &mut Vec<u8>, names: &Names, n: u32, entry: &Record) -> Result<
     put_core(out, names, n, entry)?;
     out.push(b'\n')?;
     Ok(())
+}
+
+/// Replaces what the vector holds by line n, with its line feed. After an error it is empty.
+pub fn trace_line(
+    n: u32,
+    entry: &Record,
+    names: &Names,
+    line: &mut Vec<u8>,
+) -> Result<(), AllocError>
+    ensures ok { OnOk result (line.new.items ≡ spec.line_text names.now n entry.now) }
+    ensures err { OnErr result (line.new.items ≡ []) }
+{
+    line.clear();
+    let made = put_line(line, names, n, entry);
+    if made.is_err() {
+        line.clear();
+    }
+    made
 }
 
 /// The text of the records: a line for each, numbered from 1. docs/FORMATS.md has its form.

@@ -1,0 +1,4 @@
+pub mod Ahead
+pub mod Cut
+pub mod Fitting
+pub mod Searched

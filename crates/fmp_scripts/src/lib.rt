@@ -1,0 +1,22 @@
+//! Scripts: what the tasks and handlers of a function ask, one call after the other.
+//!
+//! Contracts see `Scripts` as a list of functions, each by its number, with their steps, in the order of the text. The
+//! script of a function is the first of the list with its number; a function without one asks nothing.
+//!
+//! `read_scripts` gives the scripts of a text, or its first fault. What a text spells is said twice: by how it is read
+//! (`scripts_in`), and by a grammar that does not know the reader (`SpellsScripts`); the laws say that the two agree.
+//! No function has two scripts, and no script more than 256 steps. Only reading allocates.
+#![tactic(auto)]
+
+mod equality;
+mod laws;
+mod line;
+mod reader;
+mod script;
+
+pub use equality::is_same_call;
+pub use laws::{
+    read_scripts_are_spelled, spelled_scripts_are_read, texts_spell_one_list_of_scripts,
+};
+pub use reader::{MOST_STEPS, read_scripts};
+pub use script::{Script, Scripts};
