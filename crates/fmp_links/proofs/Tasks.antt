@@ -1,5 +1,5 @@
 -- Lists of tasks against lists of items.
-use Rattle.std.proofs.Common.{◌≡◌, ℕ, ◌+◌, ◌-◌, ◌<◌, ◌≤◌, ◌==◌, Bool, true, false, not, cond, List, [], ◌∷◌, ◌++◌, map, nat_eq, refl, sym, ap, ◌∙◌, subst, arith, ⊎_elim}
+use Rattle.std.proofs.Common.{◌≡◌, ℕ, ◌+◌, ◌-◌, ◌<◌, ◌≤◌, ◌==◌, Bool, true, false, not, ◌||◌, ◌&&◌, cond, List, [], ◌∷◌, ◌++◌, filter, map, nat_eq, refl, sym, ap, ◌∙◌, subst, arith, ⊎_elim}
 use Rattle.std.specs.Coded.{le_prop}
 use Rattle.std.specs.Option.{option_map}
 use Rattle.std.proofs.lemmas.Bool.{cases_eq, eq-eqb, ne_eqb}
@@ -99,3 +99,34 @@ parts_of (x ∷ xs) (u ∷ before) behind t h e =
     let rest : map task_at xs ≡ before ++ t ∷ behind = cc in
     let p = parts_of xs before behind t (λ v g. h v (has_there v x xs g)) rest in
     record { before_items = x ∷ p.before_items; behind_items = p.behind_items; whole = ap (λ (ys : List ℕ). x ∷ ys) p.whole; behind_is = p.behind_is }
+
+pub has_task-append : (u t : Task) (ts : List Task) → has_task u (ts ++ t ∷ []) ≡ (has_task u ts || (u.number == t.number))
+has_task-append u t [] = elim (u.number == t.number) as (λ b. (b || false) ≡ (false || b)) [ true ↦ refl | false ↦ refl ]
+has_task-append u t (x ∷ ts) = elim (u.number == x.number) as (λ b. (b || has_task u (ts ++ t ∷ [])) ≡ ((b || has_task u ts) || (u.number == t.number))) [ true ↦ refl | false ↦ has_task-append u t ts ]
+
+-- a task is among those that a test of the number keeps where it is there and the test keeps it
+has_kept : (u x : Task) (f : ℕ → Bool) (ts us : List Task) (b : Bool) → u.number ≡ x.number → f u.number ≡ b → has_task u us ≡ (has_task u ts && f u.number) → has_task u (cond b (x ∷ us) us) ≡ b
+has_kept u x f ts us true e g ih = ap (λ (c : Bool). c || has_task u us) (eq-eqb u.number x.number e)
+has_kept u x f ts us false e g ih = ih ∙ ap (λ (c : Bool). has_task u ts && c) g ∙ none (has_task u ts)
+  where
+    none : (b : Bool) → (b && false) ≡ false
+    none true = refl
+    none false = refl
+
+pub has_task-filter : (u : Task) (f : ℕ → Bool) (ts : List Task) → has_task u (filter (λ t. f t.number) ts) ≡ (has_task u ts && f u.number)
+has_task-filter u f [] = refl
+has_task-filter u f (x ∷ ts) =
+    let us = filter (λ (t : Task). f t.number) ts in
+    let ih = has_task-filter u f ts in
+    ⊎_elim (λ (e : u.number ≡ x.number).
+    ap (λ (b : Bool). has_task u (cond b (x ∷ us) us)) (ap f (sym e)) ∙ has_kept u x f ts us (f u.number) e refl ih
+    ∙ sym (ap (λ (c : Bool). (c || has_task u ts) && f u.number) (eq-eqb u.number x.number e)))
+    (λ (e : u.number ≡ x.number → ⊥).
+    elim (f x.number) as (λ (b : Bool). has_task u (cond b (x ∷ us) us) ≡ (has_task u ts && f u.number)) [
+      | true ↦ ap (λ (c : Bool). c || has_task u us) (ne_eqb u.number x.number e) ∙ ih
+      | false ↦ ih
+    ] ∙ sym (ap (λ (c : Bool). (c || has_task u ts) && f u.number) (ne_eqb u.number x.number e)))
+    (cases_eq u.number x.number)
+
+pub has_task-without : (u t : Task) (ts : List Task) → has_task u (without t ts) ≡ (has_task u ts && not (u.number == t.number))
+has_task-without u t ts = has_task-filter u (λ n. not (n == t.number)) ts

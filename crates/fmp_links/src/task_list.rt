@@ -1,5 +1,5 @@
 //! One list of tasks.
-ghost use Rattle.std.specs.Prelude.{◌≡◌, false, true, List, [], ◌∷◌, ◌++◌};
+ghost use Rattle.std.specs.Prelude.{◌≡◌, ◌≤◌, false, true, length, List, [], ◌∷◌, ◌++◌};
 ghost use Rattle.fmp_codes.specs.declared.numbers.Task.{Task as AnyTask};
 ghost use Rattle.fmp_links.specs.Lists.{first_of};
 ghost use Rattle.fmp_links.specs.Tasks.{has_task, without, inserted, AreDistinct};
@@ -68,7 +68,8 @@ impl TaskList {
 
     /// The first task.
     pub fn first(&self) -> Option<Task>
-        ensures { result ≡ first_of self.now }
+        ensures value { result ≡ first_of self.now }
+        ensures few { length self.now ≤ 64 }
     {
         let item = self.links.first(0)?;
         Some(Task::from_index(item))

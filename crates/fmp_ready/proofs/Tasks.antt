@@ -1,5 +1,5 @@
 -- The lists of tasks against the lists of items.
-use Rattle.std.proofs.Common.{◌≡◌, ℕ, zero, suc, ◌+◌, ◌-◌, ◌*◌, ◌<◌, ◌≤◌, true, false, Option, Some, None, List, [], ◌∷◌, ◌++◌, map, take, drop, set, refl, sym, ap, ◌∙◌, subst, arith, ⊎_elim}
+use Rattle.std.proofs.Common.{◌≡◌, ℕ, zero, suc, ◌+◌, ◌-◌, ◌*◌, ◌<◌, ◌≤◌, true, false, Option, Some, None, List, [], ◌∷◌, ◌++◌, map, option_map, take, drop, set, refl, sym, ap, ◌∙◌, subst, arith, ⊎_elim}
 use Rattle.std.proofs.lemmas.Bool.{cases_lt}
 use Rattle.std.proofs.lemmas.List.{map_push, get_or-take, get_or-drop, get_or_past, length-take}
 use Rattle.fmp_codes.specs.declared.numbers.Proc.{Proc}
@@ -7,7 +7,7 @@ use Rattle.fmp_codes.specs.declared.numbers.Task.{Task}
 use Rattle.fmp_links.specs.Lists as links
 use Rattle.fmp_links.specs.Lists.{has}
 use Rattle.fmp_links.specs.Tasks.{AreDistinct, has_task, task_at, without}
-use Rattle.fmp_links.proofs.Tasks.{distinct-map, gone_from, has_task-map, without-map, without_lacking}
+use Rattle.fmp_links.proofs.Tasks.{distinct-map, first_of-map, gone_from, has_task-map, without-map, without_lacking}
 use Rattle.fmp_ready.specs.Queues.{Queues, list_at, push_last, take_out, rotated, first_of, top_of, bit_of, AreDisjoint}
 use Rattle.fmp_ready.specs.Kept.{tasks_of}
 
@@ -15,6 +15,9 @@ pub list_at-tasks_of : (q : List (List ℕ)) (i : ℕ) → list_at (tasks_of q) 
 list_at-tasks_of [] i = refl
 list_at-tasks_of (x ∷ q) zero = refl
 list_at-tasks_of (x ∷ q) (suc i) = list_at-tasks_of q i
+
+pub first_in : (q : List (List ℕ)) (i : ℕ) → links.first_of (list_at (tasks_of q) i) ≡ option_map task_at (links.first_of (links.list_at q i))
+first_in q i = ap links.first_of (list_at-tasks_of q i) ∙ first_of-map (links.list_at q i)
 
 pub set_tasks : (q : List (List ℕ)) (i : ℕ) (xs : List ℕ) → tasks_of (set q i xs) ≡ set (tasks_of q) i (map task_at xs)
 set_tasks [] i xs = refl

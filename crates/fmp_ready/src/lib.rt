@@ -11,6 +11,7 @@ ghost use Rattle.std.specs.Prelude.{◌≡◌, ℕ, ◌+◌, ◌-◌, ◌*◌, �
 ghost use Rattle.std.specs.Int.{bit_at};
 ghost use Rattle.fmp_codes.specs.declared.numbers.Proc.{Proc as AnyProc};
 ghost use Rattle.fmp_codes.specs.declared.numbers.Pri.{Pri as AnyPri};
+ghost use Rattle.fmp_links.specs.Lists.{first_of};
 ghost use Rattle.fmp_links.specs.Tasks.{has_task};
 ghost use Rattle.fmp_ready.specs.Queues.{list_number, list_at, push_last, take_out, rotated, top_of, marked_on, is_same, bit_of, AreDisjoint};
 
@@ -98,6 +99,14 @@ impl ReadyQueues {
         let processor = processor.index();
         let place = lowest_bit(self.words[processor])?;
         let item = self.links.first(32 * processor + place)?;
+        Some(Task::from_index(item))
+    }
+
+    /// The first task of a priority on a processor.
+    pub fn first(&self, processor: Proc, priority: Pri) -> Option<Task>
+        ensures { result ≡ first_of (list_at self.now.lists (list_number processor priority)) }
+    {
+        let item = self.links.first(list_of(processor, priority))?;
         Some(Task::from_index(item))
     }
 

@@ -10,10 +10,11 @@ use Rattle.fmp_time.specs.declared.item.Item.{Item}
 use Rattle.fmp_time.specs.declared.item.Item.TheVariants.{Wait, Alarm, Cyclic}
 use Rattle.fmp_time.specs.Differences.{Entry, list_at, has_entry, sorted_in, take_out, ticks_in, least_of, lowered, not_due, IsLeastIn}
 use Rattle.fmp_time.specs.Left.{Left, left_in, AreDisjoint}
-use Rattle.fmp_time.specs.Times.{Times, place_of, item_at, left_of, began, ended, armed, cancelled, moved, moved_to, renewed, ticks_on, counted_down, IsLeastOn}
+use Rattle.fmp_time.specs.Times.{Times, place_of, item_at, left_of, began, ended, armed, cancelled, moved, moved_to, renewed, ticks_on, lowered_on, counted_down, IsLeastOn}
+use Rattle.fmp_time.specs.Times as times
 use Rattle.fmp_time.specs.Shown.{table, times_of}
 use Rattle.fmp_time.proofs.Leaving.{gone}
-use Rattle.fmp_time.proofs.Lefts.{left-take_out, left-insert, ticks_on-left, left-tick}
+use Rattle.fmp_time.proofs.Lefts.{left-take_out, left-insert, ticks_on-left, left-tick, left-lower}
 use Rattle.fmp_time.proofs.Tables.{at-table, table-same, table-set, table-map}
 
 pub place-low : (x : Item) → place_of x < 128
@@ -89,6 +90,9 @@ renewed_not m x e = times_same _ _ _ _ refl (sym (ap (λ (b : Bool). cond b (beg
 
 pub ticked_left : (q : List (List Entry)) (p : Proc) → AreDisjoint q → table (left_in (set q (p.number - 1) (not_due (lowered (list_at q (p.number - 1)))))) ≡ map (counted_down p) (table (left_in q))
 ticked_left q p d = table-same _ (λ k. counted_down p (left_in q k)) (λ k l. left-tick q d p k) ∙ table-map (counted_down p) (left_in q)
+
+pub lowered_is : (q : List (List Entry)) (w : List Task) (p : Proc) → AreDisjoint q → times_of (set q (p.number - 1) (lowered (list_at q (p.number - 1)))) w ≡ times.lowered (times_of q w) p
+lowered_is q w p d = times_same _ _ _ _ (table-same _ (λ k. lowered_on p (left_in q k)) (λ k l. left-lower q d p k) ∙ table-map (lowered_on p) (left_in q)) refl
 
 pub least_is : (q : List (List Entry)) (w : List Task) (p : Proc) (next : Option ℕ) → AreDisjoint q → next ≡ least_of (list_at q (p.number - 1)) → IsLeastIn (list_at q (p.number - 1)) next → IsLeastOn (times_of q w) p next
 least_is q w p None d e least = λ x. read x ∙ none (list_at q (p.number - 1)) e (place_of x)

@@ -1,13 +1,13 @@
 -- The lists of entries_of after a change of one list of items.
-use Rattle.std.proofs.Common.{◌≡◌, ℕ, zero, suc, ◌+◌, ◌-◌, ◌^◌, ◌<◌, ◌≤◌, true, false, Some, None, List, [], ◌∷◌, ◌++◌, length, set, refl, sym, ap, ◌∙◌, subst, arith, ⊎_elim}
+use Rattle.std.proofs.Common.{◌≡◌, ℕ, zero, suc, ◌+◌, ◌-◌, ◌^◌, ◌<◌, true, false, Some, None, List, [], ◌∷◌, ◌++◌, length, set, refl, sym, ap, ◌∙◌, subst, arith, ⊎_elim}
 use Rattle.std.specs.Prelude.{slice_index}
 use Rattle.std.proofs.lemmas.Bool.{cases_eq}
 use Rattle.std.proofs.lemmas.List.{get_or-set_same, get_or-set_other, length-set}
 use Rattle.fmp_links.specs.Lists as links
 use Rattle.fmp_links.specs.Lists.{has, inserted, AreDistinct, AreDisjoint, first_of}
-use Rattle.fmp_links.proofs.Having.{has_here, ne}
-use Rattle.fmp_time.specs.Differences.{Entry, list_at, has_entry, sorted_in, entries_from, entries_of, sum_of, spot_in, rest_in, FirstIsLater, IsSummed}
-use Rattle.fmp_time.proofs.Sums.{frame, frame_sum, spot_there, insert_some, insert_none, insert_some_total, insert_none_total, insert_some_later, insert_none_later}
+use Rattle.fmp_links.proofs.Having.{ne}
+use Rattle.fmp_time.specs.Differences.{Entry, list_at, has_entry, sorted_in, entries_from, entries_of, sum_of, spot_in, rest_in, IsSummed}
+use Rattle.fmp_time.proofs.Sums.{frame, frame_sum, spot_there, insert_some, insert_none, insert_some_total, insert_none_total}
 
 pub list_at-entries_of : (d : List ℕ) (q : List (List ℕ)) (i : ℕ) → list_at (entries_of d q) i ≡ entries_from (slice_index d) 0 (links.list_at q i)
 list_at-entries_of d [] i = refl
@@ -34,23 +34,17 @@ entries_set d e (x ∷ q) (suc i) ys zs l here others =
     (entries_set d e q i ys zs (omega arith) here (λ j n. others (suc j) (λ f. n (omega (arith, f))))))
 
 -- a list was replaced, and the stored numbers of the others stayed
-pub summed_set : (d e : List ℕ) (q : List (List ℕ)) (i : ℕ) (ys : List ℕ) → IsSummed d q → i < 8 → FirstIsLater (slice_index e) ys → sum_of (slice_index e) ys ≤ 2 ^ 31 →
+pub summed_set : (d e : List ℕ) (q : List (List ℕ)) (i : ℕ) (ys : List ℕ) → IsSummed d q → i < 8 → sum_of (slice_index e) ys < 2 ^ 64 →
     ((j : ℕ) → (j ≡ i → ⊥) → (u : ℕ) → has u (links.list_at q j) ≡ true → slice_index e u ≡ slice_index d u) → IsSummed e (set q i ys)
-summed_set d e q i ys s l later bound others =
+summed_set d e q i ys s l bound others =
     let same : links.list_at (set q i ys) i ≡ ys = get_or-set_same q i ys [] (omega (arith, l, s.count)) in
     let rest : (j : ℕ) → (j ≡ i → ⊥) → links.list_at (set q i ys) j ≡ links.list_at q j = λ j n. get_or-set_other q i j ys [] n in
     record {
       count = length-set q i ys ∙ s.count;
-      later = λ j. ⊎_elim (λ (f : j ≡ i). subst (λ (k : ℕ). FirstIsLater (slice_index e) (links.list_at (set q i ys) k)) (sym f) (subst (FirstIsLater (slice_index e)) (sym same) later))
-          (λ (n : j ≡ i → ⊥). subst (FirstIsLater (slice_index e)) (sym (rest j n)) (later_same (links.list_at q j) (others j n) (s.later j))) (cases_eq j i);
-      bound = λ j. ⊎_elim (λ (f : j ≡ i). subst (λ (k : ℕ). sum_of (slice_index e) (links.list_at (set q i ys) k) ≤ 2 ^ 31) (sym f) (subst (λ (xs : List ℕ). sum_of (slice_index e) xs ≤ 2 ^ 31) (sym same) bound))
-          (λ (n : j ≡ i → ⊥). subst (λ (xs : List ℕ). sum_of (slice_index e) xs ≤ 2 ^ 31) (sym (rest j n))
-          (subst (λ (m : ℕ). m ≤ 2 ^ 31) (sym (frame_sum (slice_index d) (slice_index e) (links.list_at q j) (others j n))) (s.bound j))) (cases_eq j i);
+      bound = λ j. ⊎_elim (λ (f : j ≡ i). subst (λ (k : ℕ). sum_of (slice_index e) (links.list_at (set q i ys) k) < 2 ^ 64) (sym f) (subst (λ (xs : List ℕ). sum_of (slice_index e) xs < 2 ^ 64) (sym same) bound))
+          (λ (n : j ≡ i → ⊥). subst (λ (xs : List ℕ). sum_of (slice_index e) xs < 2 ^ 64) (sym (rest j n))
+          (subst (λ (m : ℕ). m < 2 ^ 64) (sym (frame_sum (slice_index d) (slice_index e) (links.list_at q j) (others j n))) (s.bound j))) (cases_eq j i);
     }
-  where
-    later_same : (xs : List ℕ) → ((u : ℕ) → has u xs ≡ true → slice_index e u ≡ slice_index d u) → FirstIsLater (slice_index d) xs → FirstIsLater (slice_index e) xs
-    later_same [] h f = tt
-    later_same (x ∷ xs) h f = subst (λ (m : ℕ). 1 ≤ m) (sym (h x (has_here x xs))) f
 
 -- the stored numbers after k was put before b
 writes_some : (d : List ℕ) (k b m : ℕ) → length d ≡ 128 → k < 128 → b < 128 → (k ≡ b → ⊥) →
@@ -63,15 +57,14 @@ writes_some d k b m l hk hb n = (
 )
 
 -- k comes before b, with n ticks left
-pub some_summed : (d : List ℕ) (q : List (List ℕ)) (i k b n m : ℕ) → IsSummed d q → AreDisjoint 128 q → length d ≡ 128 → i < 8 → k < 128 → 1 ≤ n → ((j : ℕ) → has k (links.list_at q j) ≡ false) →
+pub some_summed : (d : List ℕ) (q : List (List ℕ)) (i k b n m : ℕ) → IsSummed d q → AreDisjoint 128 q → length d ≡ 128 → i < 8 → k < 128 → ((j : ℕ) → has k (links.list_at q j) ≡ false) →
     spot_in (slice_index d) n (links.list_at q i) ≡ Some b → m ≡ rest_in (slice_index d) n (links.list_at q i) →
     IsSummed (set (set d b (slice_index d b - m)) k m) (links.insert_before q i b k)
-some_summed d q i k b n m s t l hi hk pos out spot rest =
+some_summed d q i k b n m s t l hi hk out spot rest =
     let there = spot_there (slice_index d) n (links.list_at q i) b spot in
     let w = writes_some d k b m l hk (t.small i b there) (λ (f : k ≡ b). ne b k (links.list_at q i) there (out i) (sym f)) in
     summed_set d (set (set d b (slice_index d b - m)) k m) q i (inserted b k (links.list_at q i)) s hi
-    (insert_some_later (slice_index d) _ k b n (links.list_at q i) spot (w.0 ∙ rest) w.2 (out i) (t.apart i) pos (s.later i))
-    (subst (λ (x : ℕ). x ≤ 2 ^ 31) (sym (insert_some_total (slice_index d) _ k b n (links.list_at q i) spot (w.0 ∙ rest) (w.1 ∙ ap (λ (x : ℕ). slice_index d b - x) rest) w.2 (out i) (t.apart i))) (s.bound i))
+    (subst (λ (x : ℕ). x < 2 ^ 64) (sym (insert_some_total (slice_index d) _ k b n (links.list_at q i) spot (w.0 ∙ rest) (w.1 ∙ ap (λ (x : ℕ). slice_index d b - x) rest) w.2 (out i) (t.apart i))) (s.bound i))
     (λ j other u h. w.2 u (λ (f : u ≡ k). ne u k (links.list_at q j) h (out j) f) (λ (f : u ≡ b). other (t.one j i b (subst (λ (x : ℕ). has x (links.list_at q j) ≡ true) f h) there)))
 
 pub some_entries : (d : List ℕ) (q : List (List ℕ)) (i k b n m : ℕ) → IsSummed d q → AreDisjoint 128 q → length d ≡ 128 → i < 8 → k < 128 → ((j : ℕ) → has k (links.list_at q j) ≡ false) →
@@ -87,14 +80,13 @@ some_entries d q i k b n m s t l hi hk out spot rest =
     (λ u h. w.2 u (λ (f : u ≡ k). ne u k (links.list_at q j) h (out j) f) (λ (f : u ≡ b). other (t.one j i b (subst (λ (x : ℕ). has x (links.list_at q j) ≡ true) f h) there))))
 
 -- k comes last, with n ticks left
-pub none_summed : (d : List ℕ) (q : List (List ℕ)) (i k n m : ℕ) → IsSummed d q → length d ≡ 128 → i < 8 → k < 128 → 1 ≤ n → n ≤ 2 ^ 31 → ((j : ℕ) → has k (links.list_at q j) ≡ false) →
+pub none_summed : (d : List ℕ) (q : List (List ℕ)) (i k n m : ℕ) → IsSummed d q → length d ≡ 128 → i < 8 → k < 128 → n < 2 ^ 64 → ((j : ℕ) → has k (links.list_at q j) ≡ false) →
     spot_in (slice_index d) n (links.list_at q i) ≡ None → m ≡ rest_in (slice_index d) n (links.list_at q i) → IsSummed (set d k m) (links.push_last q i k)
-none_summed d q i k n m s l hi hk pos most out spot rest =
+none_summed d q i k n m s l hi hk most out spot rest =
     let own : slice_index (set d k m) k ≡ rest_in (slice_index d) n (links.list_at q i) = get_or-set_same d k m 0 (omega (arith, hk, l)) ∙ rest in
     let others : (u : ℕ) → (u ≡ k → ⊥) → slice_index (set d k m) u ≡ slice_index d u = λ u n. get_or-set_other d k u m 0 n in
     summed_set d (set d k m) q i (links.list_at q i ++ k ∷ []) s hi
-    (insert_none_later (slice_index d) _ k n (links.list_at q i) own others (out i) pos (s.later i))
-    (subst (λ (x : ℕ). x ≤ 2 ^ 31) (sym (insert_none_total (slice_index d) _ k n (links.list_at q i) spot own others (out i))) most)
+    (subst (λ (x : ℕ). x < 2 ^ 64) (sym (insert_none_total (slice_index d) _ k n (links.list_at q i) spot own others (out i))) most)
     (λ j other u h. others u (λ (f : u ≡ k). ne u k (links.list_at q j) h (out j) f))
 
 pub none_entries : (d : List ℕ) (q : List (List ℕ)) (i k n m : ℕ) → IsSummed d q → length d ≡ 128 → i < 8 → k < 128 → ((j : ℕ) → has k (links.list_at q j) ≡ false) →

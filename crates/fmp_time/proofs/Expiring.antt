@@ -8,8 +8,8 @@ use Rattle.fmp_links.specs.Lists.{has, AreDistinct, AreDisjoint, first_of}
 use Rattle.fmp_links.proofs.Having as having
 use Rattle.fmp_links.proofs.Having.{has_here, has_there, lacks_from, lacks_first, ne}
 use Rattle.fmp_links.proofs.Soundness.{list_at-take_out}
-use Rattle.fmp_time.specs.Differences.{Entry, list_at, lowered, due, not_due, entries_from, entries_of, sum_of, zeros_of, rest_of, items_of, FirstIsLater, IsSummed}
-use Rattle.fmp_time.proofs.Sums.{frame, frame_sum, lower_first}
+use Rattle.fmp_time.specs.Differences.{Entry, list_at, lowered, due, not_due, entries_from, entries_of, sum_of, first_adding, zeros_of, rest_of, items_of, IsSummed}
+use Rattle.fmp_time.proofs.Sums.{frame, adding_there, adding_adds, lower_adding, lower_none, fewer_total}
 use Rattle.fmp_time.proofs.Entries.{list_at-entries_of, entries_set, summed_set}
 
 none_due : (d : ℕ → ℕ) (s : ℕ) (xs : List ℕ) → 1 ≤ s → due (entries_from d s xs) ≡ []
@@ -39,11 +39,6 @@ rest_stays d (x ∷ xs) =
     (λ (e : d x ≡ 0 → ⊥).
     rw (ne_eqb (d x) 0 e, ne_eqb (0 + d x) 0 (λ f. e (omega (arith, f)))) (ap (λ (es : List Entry). (x, 0 + d x) ∷ es) (sym (all_stay d (0 + d x) xs (omega (arith, e))))))
     (cases_eq (d x) 0)
-
-rest_later : (d : ℕ → ℕ) (xs : List ℕ) → FirstIsLater d (rest_of d xs)
-rest_later d [] = tt
-rest_later d (x ∷ xs) =
-    ⊎_elim (λ (e : d x ≡ 0). rw (eq-eqb (d x) 0 e) (rest_later d xs)) (λ (e : d x ≡ 0 → ⊥). rw (ne_eqb (d x) 0 e) (omega (arith, e))) (cases_eq (d x) 0)
 
 rest_total : (d : ℕ → ℕ) (xs : List ℕ) → sum_of d (rest_of d xs) ≤ sum_of d xs
 rest_total d [] = omega arith
@@ -90,76 +85,74 @@ pop_is q i x ys t l e =
     ∙ sym (get_or-set_other q i j ys [] n))
     (cases_eq j i))
 
--- a tick of the list i, whose first item is x
-module _ (d : List ℕ) (q : List (List ℕ)) (i x : ℕ) (s : IsSummed d q) (t : AreDisjoint 128 q) (count : length d ≡ 128) (within : i < 8) (first : first_of (links.list_at q i) ≡ Some x) where
-  low : List ℕ
-  low = set d x (slice_index d x - 1)
-
-  ys : List ℕ
-  ys = tail_of (links.list_at q i)
-
-  whole : links.list_at q i ≡ x ∷ tail_of (links.list_at q i)
-  whole = first_is (links.list_at q i) x first
-
+-- in the list i all have a tick less, of which x is the first that adds something
+module _ (d : List ℕ) (q : List (List ℕ)) (i x : ℕ) (s : IsSummed d q) (t : AreDisjoint 128 q) (count : length d ≡ 128) (within : i < 8) (adding : first_adding (slice_index d) (links.list_at q i) ≡ Some x) where
   there : has x (links.list_at q i) ≡ true
-  there = subst (λ (zs : List ℕ). has x zs ≡ true) (sym whole) (has_here x (tail_of (links.list_at q i)))
+  there = adding_there (slice_index d) (links.list_at q i) x adding
+
+  pub small : x < 128
+  small = t.small i x there
+
+  pub positive : 1 ≤ slice_index d x
+  positive = adding_adds (slice_index d) (links.list_at q i) x adding
 
   less : slice_index (set d x (slice_index d x - 1)) x ≡ slice_index d x - 1
-  less = get_or-set_same d x (slice_index d x - 1) 0 (let h = t.small i x there in omega (arith, h, count))
+  less = get_or-set_same d x (slice_index d x - 1) 0 (omega (arith, small, count))
 
   others : (u : ℕ) → (u ≡ x → ⊥) → slice_index (set d x (slice_index d x - 1)) u ≡ slice_index d u
   others u n = get_or-set_other d x u (slice_index d x - 1) 0 n
 
-  pub positive : 1 ≤ slice_index d x
-  positive = subst (FirstIsLater (slice_index d)) whole (s.later i)
-
   elsewhere : (j : ℕ) → (j ≡ i → ⊥) → (u : ℕ) → has u (links.list_at q j) ≡ true → slice_index (set d x (slice_index d x - 1)) u ≡ slice_index d u
   elsewhere j n u h = others u (λ (f : u ≡ x). n (t.one j i u h (subst (λ (y : ℕ). has y (links.list_at q i) ≡ true) (sym f) there)))
 
-  -- the list with its first one lowered is the list lowered
-  pub lower_is : entries_from (slice_index (set d x (slice_index d x - 1))) 0 (links.list_at q i) ≡ lowered (list_at (entries_of d q) i)
-  lower_is =
-      let a : AreDistinct (x ∷ tail_of (links.list_at q i)) = subst AreDistinct whole (t.apart i) in
-      ap (entries_from (slice_index (set d x (slice_index d x - 1))) 0) whole
-      ∙ lower_first (slice_index d) (slice_index (set d x (slice_index d x - 1))) x (tail_of (links.list_at q i)) positive less others a.0
-      ∙ ap (λ (zs : List ℕ). lowered (entries_from (slice_index d) 0 zs)) (sym whole) ∙ ap lowered (sym (list_at-entries_of d q i))
+  -- the list with that one lowered is the list lowered
+  lower_is : entries_from (slice_index (set d x (slice_index d x - 1))) 0 (links.list_at q i) ≡ lowered (list_at (entries_of d q) i)
+  lower_is = lower_adding (slice_index d) (slice_index (set d x (slice_index d x - 1))) (links.list_at q i) x adding less others (t.apart i) ∙ ap lowered (sym (list_at-entries_of d q i))
 
-  pub tick_entries : entries_of (set d x (slice_index d x - 1)) (set q i (rest_of (slice_index (set d x (slice_index d x - 1))) (links.list_at q i))) ≡ set (entries_of d q) i (not_due (lowered (list_at (entries_of d q) i)))
-  tick_entries = entries_set d (set d x (slice_index d x - 1)) q i _ _ (omega (arith, within, s.count))
-      (rest_stays (slice_index (set d x (slice_index d x - 1))) (links.list_at q i) ∙ ap not_due lower_is)
+  pub lower_entries : entries_of (set d x (slice_index d x - 1)) q ≡ set (entries_of d q) i (lowered (list_at (entries_of d q) i))
+  lower_entries = ap (entries_of (set d x (slice_index d x - 1))) (sym (set-get_or q i []))
+      ∙ entries_set d (set d x (slice_index d x - 1)) q i _ _ (omega (arith, within, s.count)) lower_is
       (λ j n. frame (slice_index d) _ 0 (links.list_at q j) (elsewhere j n))
 
-  pub tick_summed : IsSummed (set d x (slice_index d x - 1)) (set q i (rest_of (slice_index (set d x (slice_index d x - 1))) (links.list_at q i)))
-  tick_summed = summed_set d (set d x (slice_index d x - 1)) q i _ s within (rest_later _ (links.list_at q i))
-      (let a : AreDistinct (x ∷ tail_of (links.list_at q i)) = subst AreDistinct whole (t.apart i) in
-      let fewer = rest_total (slice_index (set d x (slice_index d x - 1))) (links.list_at q i) in
-      let new = ap (sum_of (slice_index (set d x (slice_index d x - 1)))) whole in
-      let old = ap (sum_of (slice_index d)) whole in
-      let same = frame_sum (slice_index d) (slice_index (set d x (slice_index d x - 1))) (tail_of (links.list_at q i)) (λ u h. others u (λ (f : u ≡ x). ne u x (tail_of (links.list_at q i)) h a.0 f)) in
-      omega (arith, fewer, new, old, same, less, s.bound i))
-      elsewhere
+  pub lower_summed : IsSummed (set d x (slice_index d x - 1)) q
+  lower_summed = record {
+    count = s.count;
+    bound = λ j. let most = s.bound j in
+        let fewer = fewer_total (slice_index d) (slice_index (set d x (slice_index d x - 1))) (links.list_at q j)
+        (λ u. ⊎_elim (λ (f : u ≡ x). subst (λ (v : ℕ). slice_index (set d x (slice_index d x - 1)) v ≤ slice_index d v) (sym f) (omega (arith, less))) (λ (f : u ≡ x → ⊥). omega (arith, others u f)) (cases_eq u x)) in
+        omega (arith, most, fewer);
+  }
 
-  pub tick_due : zeros_of (slice_index (set d x (slice_index d x - 1))) (links.list_at q i) ≡ items_of (due (lowered (list_at (entries_of d q) i)))
-  tick_due = sym (zeros_due (slice_index (set d x (slice_index d x - 1))) (links.list_at q i)) ∙ ap (λ (es : List Entry). items_of (due es)) lower_is
+-- in the list i nobody has a tick left
+pub idle_entries : (d : List ℕ) (q : List (List ℕ)) (i : ℕ) → first_adding (slice_index d) (links.list_at q i) ≡ None → entries_of d q ≡ set (entries_of d q) i (lowered (list_at (entries_of d q) i))
+idle_entries d q i none =
+    sym (ap (set (entries_of d q) i) (ap lowered (list_at-entries_of d q i) ∙ lower_none (slice_index d) (links.list_at q i) none ∙ sym (list_at-entries_of d q i)) ∙ set-get_or (entries_of d q) i [])
+
+-- the items of the list i go that have no ticks left
+module _ (d : List ℕ) (q : List (List ℕ)) (i : ℕ) (s : IsSummed d q) (within : i < 8) where
+  pub rest_entries : entries_of d (set q i (rest_of (slice_index d) (links.list_at q i))) ≡ set (entries_of d q) i (not_due (list_at (entries_of d q) i))
+  rest_entries = entries_set d d q i _ _ (omega (arith, within, s.count)) (rest_stays (slice_index d) (links.list_at q i) ∙ ap not_due (sym (list_at-entries_of d q i))) (λ j n. refl)
+
+  pub rest_summed : IsSummed d (set q i (rest_of (slice_index d) (links.list_at q i)))
+  rest_summed = summed_set d d q i _ s within (let fewer = rest_total (slice_index d) (links.list_at q i) in omega (arith, fewer, s.bound i)) (λ j n u h. refl)
+
+  pub rest_due : zeros_of (slice_index d) (links.list_at q i) ≡ items_of (due (list_at (entries_of d q) i))
+  rest_due = sym (zeros_due (slice_index d) (links.list_at q i)) ∙ ap (λ (es : List Entry). items_of (due es)) (sym (list_at-entries_of d q i))
 
   -- where the first one has a tick left, the lists stay
-  module _ (some : 0 < slice_index (set d x (slice_index d x - 1)) x) where
-    quiet_rest : rest_of (slice_index (set d x (slice_index d x - 1))) (links.list_at q i) ≡ links.list_at q i
-    quiet_rest = ap (rest_of (slice_index (set d x (slice_index d x - 1)))) whole ∙ rest_end (slice_index (set d x (slice_index d x - 1))) x (tail_of (links.list_at q i)) (λ e. omega (arith, e, some)) ∙ sym whole
+  module _ (x : ℕ) (first : first_of (links.list_at q i) ≡ Some x) (some : 0 < slice_index d x) where
+    whole : links.list_at q i ≡ x ∷ tail_of (links.list_at q i)
+    whole = first_is (links.list_at q i) x first
 
-    quiet_lists : set q i (rest_of (slice_index (set d x (slice_index d x - 1))) (links.list_at q i)) ≡ q
-    quiet_lists = ap (set q i) quiet_rest ∙ set-get_or q i []
+    quiet_lists : set q i (rest_of (slice_index d) (links.list_at q i)) ≡ q
+    quiet_lists = ap (set q i) (ap (rest_of (slice_index d)) whole ∙ rest_end (slice_index d) x (tail_of (links.list_at q i)) (λ e. omega (arith, e, some)) ∙ sym whole) ∙ set-get_or q i []
 
-    pub quiet_entries : entries_of (set d x (slice_index d x - 1)) q ≡ set (entries_of d q) i (not_due (lowered (list_at (entries_of d q) i)))
-    quiet_entries = ap (entries_of (set d x (slice_index d x - 1))) (sym quiet_lists) ∙ tick_entries
+    pub quiet_entries : entries_of d q ≡ set (entries_of d q) i (not_due (list_at (entries_of d q) i))
+    quiet_entries = ap (entries_of d) (sym quiet_lists) ∙ rest_entries
 
-    pub quiet_summed : IsSummed (set d x (slice_index d x - 1)) q
-    quiet_summed = subst (IsSummed (set d x (slice_index d x - 1))) quiet_lists tick_summed
+    pub quiet_due : [] ≡ items_of (due (list_at (entries_of d q) i))
+    quiet_due = sym (ap (zeros_of (slice_index d)) whole ∙ zeros_end (slice_index d) x (tail_of (links.list_at q i)) (λ e. omega (arith, e, some))) ∙ rest_due
 
-    pub quiet_due : [] ≡ items_of (due (lowered (list_at (entries_of d q) i)))
-    quiet_due = sym (ap (zeros_of (slice_index (set d x (slice_index d x - 1)))) whole
-        ∙ zeros_end (slice_index (set d x (slice_index d x - 1))) x (tail_of (links.list_at q i)) (λ e. omega (arith, e, some))) ∙ tick_due
-
--- a tick of an empty list
-pub idle_is : (d : List ℕ) (q : List (List ℕ)) (i : ℕ) → first_of (links.list_at q i) ≡ None → list_at (entries_of d q) i ≡ []
-idle_is d q i e = list_at-entries_of d q i ∙ ap (entries_from (slice_index d) 0) (no_first (links.list_at q i) e)
+-- an empty list
+pub empty_is : (d : List ℕ) (q : List (List ℕ)) (i : ℕ) → first_of (links.list_at q i) ≡ None → list_at (entries_of d q) i ≡ []
+empty_is d q i e = list_at-entries_of d q i ∙ ap (entries_from (slice_index d) 0) (no_first (links.list_at q i) e)

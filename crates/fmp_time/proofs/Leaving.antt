@@ -5,7 +5,7 @@ use Rattle.fmp_links.specs.Lists as links
 use Rattle.fmp_links.specs.Lists.{has}
 use Rattle.fmp_links.proofs.Having as having
 use Rattle.fmp_links.proofs.Having.{or_left, or_right}
-use Rattle.fmp_time.specs.Differences.{Entry, list_at, has_entry, without, take_out, ticks_in, entries_from, sum_of, FirstIsLater}
+use Rattle.fmp_time.specs.Differences.{Entry, list_at, has_entry, without, take_out, ticks_in, entries_from, sum_of}
 
 gone_from : (k : ℕ) (es : List Entry) → has_entry k (without k es) ≡ false
 gone_from k [] = refl
@@ -43,17 +43,3 @@ ticks_from d s (x ∷ xs) k r e =
     let on = ticks_from d (s + d x) xs k r (sym (ap (λ (c : Bool). cond c (Some (s + d x)) (ticks_in (entries_from d (s + d x) xs) k)) (ne_eqb x k f)) ∙ e) in
     (omega (arith, on.0), omega (arith, on.1)))
     (cases_eq x k)
-
-pub ticks_range : (d : ℕ → ℕ) (xs : List ℕ) (k r : ℕ) → FirstIsLater d xs → ticks_in (entries_from d 0 xs) k ≡ Some r → (1 ≤ r) × (r ≤ sum_of d xs)
-ticks_range d [] k r l e = cc
-ticks_range d (x ∷ xs) k r l e =
-    let all = ticks_from d 0 (x ∷ xs) k r e in (
-      ⊎_elim (λ (f : x ≡ k).
-          let same : Some (0 + d x) ≡ Some r = sym (ap (λ (c : Bool). cond c (Some (0 + d x)) (ticks_in (entries_from d (0 + d x) xs) k)) (eq-eqb x k f)) ∙ e in
-          let at : 0 + d x ≡ r = cc in omega (arith, at, l))
-          (λ (f : x ≡ k → ⊥).
-          let on = ticks_from d (0 + d x) xs k r (sym (ap (λ (c : Bool). cond c (Some (0 + d x)) (ticks_in (entries_from d (0 + d x) xs) k)) (ne_eqb x k f)) ∙ e) in
-          omega (arith, on.0, l))
-          (cases_eq x k),
-      omega (arith, all.1),
-    )

@@ -1,6 +1,7 @@
 -- What each change of the lists does to what they say of an item.
-use Rattle.std.proofs.Common.{◌≡◌, ℕ, zero, suc, ◌+◌, ◌-◌, ◌<◌, ◌≤◌, ◌==◌, ◌&&◌, Bool, true, false, not, cond, Option, Some, None, List, [], ◌∷◌, length, set, refl, sym, ap, ◌∙◌, subst, arith, ⊎_elim}
+use Rattle.std.proofs.Common.{◌≡◌, ℕ, zero, suc, ◌+◌, ◌-◌, ◌<◌, ◌≤◌, ◌==◌, ◌&&◌, ◌||◌, Bool, true, false, not, cond, Option, Some, None, List, [], ◌∷◌, length, set, refl, sym, ap, ◌∙◌, subst, arith, ⊎_elim}
 use Rattle.std.specs.Prelude.{nat_lt, is_some}
+use Rattle.std.specs.List.{list_any}
 use Rattle.std.specs.Coded.{le_prop}
 use Rattle.std.proofs.lemmas.Bool.{cases_eq, eq-eqb, ne_eqb}
 use Rattle.std.proofs.lemmas.List.{get_or-set_same, get_or-set_other, length-set}
@@ -9,7 +10,7 @@ use Rattle.fmp_codes.specs.declared.numbers.Proc.{Proc}
 use Rattle.fmp_links.specs.Lists as links
 use Rattle.fmp_links.specs.Lists.{has}
 use Rattle.fmp_time.specs.Differences.{Entry, list_at, has_entry, sorted_in, without, take_out, ticks_in, lowered, due, not_due, items_of}
-use Rattle.fmp_time.specs.Left.{Left, left_on, left_from, left_in, AreDisjoint}
+use Rattle.fmp_time.specs.Left.{Left, left_on, left_from, left_in, is_over, AreDisjoint}
 use Rattle.fmp_time.specs.Times.{ticks_on, is_due, lowered_on, counted_down}
 use Rattle.fmp_time.proofs.Found.{has_ticks, no_ticks, left_nowhere, left_there}
 
@@ -83,6 +84,42 @@ ticks_ticked k (e ∷ es) d =
     (elim ((e.1 - 1) == 0) as (λ (b : Bool). ticks_in (cond (not b) ((e.0, e.1 - 1) ∷ not_due (lowered es)) (not_due (lowered es))) k ≡ ticks_after (ticks_in es k)) [
       | true ↦ ih
       | false ↦ rw (ne_eqb e.0 k f) ih
+    ]))
+    (cases_eq e.0 k)
+
+-- ticks after they were lowered
+abbrev less_one : Option ℕ → Option ℕ
+less_one None = None
+less_one (Some n) = Some (n - 1)
+
+ticks_lowered : (k : ℕ) (es : List Entry) → ticks_in (lowered es) k ≡ less_one (ticks_in es k)
+ticks_lowered k [] = refl
+ticks_lowered k (e ∷ es) =
+    elim (e.0 == k) as (λ (b : Bool). cond b (Some (e.1 - 1)) (ticks_in (lowered es) k) ≡ less_one (cond b (Some e.1) (ticks_in es k))) [
+      | true ↦ refl
+      | false ↦ ticks_lowered k es
+    ]
+
+abbrev zero_left : Option ℕ → Bool
+zero_left None = false
+zero_left (Some n) = n == 0
+
+has_over : (k : ℕ) (es : List Entry) → links.AreDistinct (items_of es) → has k (items_of (due es)) ≡ zero_left (ticks_in es k)
+has_over k [] d = refl
+has_over k (e ∷ es) d =
+    let ih = has_over k es d.1 in
+    ⊎_elim (λ (f : e.0 ≡ k).
+    let none : ticks_in es k ≡ None = no_ticks k es (sym (has_items k es) ∙ ap (λ (u : ℕ). has u (items_of es)) (sym f) ∙ d.0) in
+    rw (eq-eqb e.0 k f)
+    (elim (e.1 == 0) as (λ (b : Bool). has k (items_of (cond b (e ∷ due es) (due es))) ≡ b) [
+      | true ↦ rw (eq-eqb k e.0 (sym f)) refl
+      | false ↦ ih ∙ ap zero_left none
+    ]))
+    (λ (f : e.0 ≡ k → ⊥).
+    rw (ne_eqb e.0 k f)
+    (elim (e.1 == 0) as (λ (b : Bool). has k (items_of (cond b (e ∷ due es) (due es))) ≡ zero_left (ticks_in es k)) [
+      | true ↦ rw (ne_eqb k e.0 (λ g. f (sym g))) ih
+      | false ↦ ih
     ]))
     (cases_eq e.0 k)
 
@@ -174,12 +211,12 @@ off_due : (p : Proc) (l : Option Left) → is_on p l ≡ false → is_due p l �
 off_due p None e = refl
 off_due p (Some l) e = ap (λ (b : Bool). b && ((l.ticks - 1) == 0)) e
 
+off_lowered : (p : Proc) (l : Option Left) → is_on p l ≡ false → lowered_on p l ≡ l
+off_lowered p None e = refl
+off_lowered p (Some l) e = ap (λ (b : Bool). cond b (Some (record { processor = l.processor; ticks = l.ticks - 1 })) (Some l)) e
+
 off_stays : (p : Proc) (l : Option Left) → is_on p l ≡ false → counted_down p l ≡ l
-off_stays p l e = ap (λ (b : Bool). cond b None (lowered_on p l)) (off_due p l e) ∙ by l e
-  where
-    by : (l : Option Left) → is_on p l ≡ false → lowered_on p l ≡ l
-    by None e = refl
-    by (Some l) e = ap (λ (b : Bool). cond b (Some (record { processor = l.processor; ticks = l.ticks - 1 })) (Some l)) e
+off_stays p l e = ap (λ (b : Bool). cond b None (lowered_on p l)) (off_due p l e) ∙ off_lowered p l e
 
 -- what the list of a processor has counts there
 module _ (q : List (List Entry)) (d : AreDisjoint q) (p : Proc) where
@@ -262,3 +299,66 @@ module _ (q : List (List Entry)) (d : AreDisjoint q) (p : Proc) where
           ∙ ap (λ (s : Proc). Some (record { processor = s; ticks = n - 1 })) (ap as_proc place ∙ proc_is p)
           ∙ sym (ap (counted_down p) (left-on k n e) ∙ over n ∙ ap (λ (b : Bool). cond b None (Some (record { processor = p; ticks = n - 1 }))) (ne_eqb (n - 1) 0 z)))
           (cases_eq (n - 1) 0)
+
+  pub left-lower : (k : ℕ) → left_in (set q (p.number - 1) (lowered (list_at q (p.number - 1)))) k ≡ lowered_on p (left_in q k)
+  left-lower k = by (ticks_in (list_at q (p.number - 1)) k) refl
+    where
+      r : List (List Entry)
+      r = set q (p.number - 1) (lowered (list_at q (p.number - 1)))
+
+      at : ticks_in (list_at (set q (p.number - 1) (lowered (list_at q (p.number - 1)))) (p.number - 1)) k ≡ less_one (ticks_in (list_at q (p.number - 1)) k)
+      at = ap (λ (es : List Entry). ticks_in es k) (get_or-set_same q (p.number - 1) (lowered (list_at q (p.number - 1))) [] place_in)
+          ∙ ticks_lowered k (list_at q (p.number - 1))
+
+      rest : (j : ℕ) → (j ≡ p.number - 1 → ⊥) → list_at (set q (p.number - 1) (lowered (list_at q (p.number - 1)))) j ≡ list_at q j
+      rest j f = get_or-set_other q (p.number - 1) j (lowered (list_at q (p.number - 1))) [] f
+
+      same : ticks_in (list_at q (p.number - 1)) k ≡ None → (j : ℕ) → ticks_in (list_at (set q (p.number - 1) (lowered (list_at q (p.number - 1)))) j) k ≡ ticks_in (list_at q j) k
+      same e j =
+          ⊎_elim (λ (f : j ≡ p.number - 1). ap (λ (i : ℕ). ticks_in (list_at r i) k) f ∙ at ∙ ap less_one e ∙ sym e ∙ ap (λ (i : ℕ). ticks_in (list_at q i) k) (sym f))
+          (λ (f : j ≡ p.number - 1 → ⊥). ap (λ (es : List Entry). ticks_in es k) (rest j f)) (cases_eq j (p.number - 1))
+
+      others : (n : ℕ) → ticks_in (list_at q (p.number - 1)) k ≡ Some n → (j : ℕ) → (j ≡ p.number - 1 → ⊥) → has_entry k (list_at (set q (p.number - 1) (lowered (list_at q (p.number - 1)))) j) ≡ false
+      others n e j f = ap (has_entry k) (rest j f) ∙ alone k n e j f
+
+      by : (o : Option ℕ) → ticks_in (list_at q (p.number - 1)) k ≡ o → left_in (set q (p.number - 1) (lowered (list_at q (p.number - 1)))) k ≡ lowered_on p (left_in q k)
+      by None e = left_same 0 r q k (length-set q (p.number - 1) (lowered (list_at q (p.number - 1)))) (same e) ∙ sym (off_lowered p (left_in q k) (is_off k e))
+      by (Some n) e =
+          let place : 0 + (p.number - 1) + 1 ≡ p.number - 1 + 1 = omega arith in
+          left_there 0 r k (p.number - 1) (n - 1) (at ∙ ap less_one e) (others n e)
+          ∙ ap (λ (s : Proc). Some (record { processor = s; ticks = n - 1 })) (ap as_proc place ∙ proc_is p)
+          ∙ sym (ap (lowered_on p) (left-on k n e)
+          ∙ ap (λ (b : Bool). cond b (Some (record { processor = p; ticks = n - 1 })) (Some (record { processor = p; ticks = n }))) (eq-eqb p.number p.number refl))
+
+or_false : (b : Bool) → (b || false) ≡ b
+or_false true = refl
+or_false false = refl
+
+abbrev some_over : ℕ → List (List Entry) → Bool
+some_over k q = list_any (λ es. has k (items_of (due es))) q
+
+over_step : (i : ℕ) (es : List Entry) (q : List (List Entry)) (k : ℕ) (o : Option ℕ) → links.AreDistinct (items_of es) → ((j : ℕ) → is_some o ≡ true → has_entry k (list_at q j) ≡ false) → ticks_in es k ≡ o →
+    some_over k q ≡ is_over (left_from (i + 1) q k) → (has k (items_of (due es)) || some_over k q) ≡ is_over (left_from i (es ∷ q) k)
+over_step i es q k None apart out e ih =
+    ap (λ (b : Bool). b || some_over k q) (has_over k es apart ∙ ap zero_left e) ∙ ih
+    ∙ ap (λ (o : Option ℕ). is_over (left_on (as_proc (i + 1)) o (left_from (i + 1) q k))) (sym e)
+over_step i es q k (Some n) apart out e ih =
+    ap (λ (b : Bool). b || some_over k q) (has_over k es apart ∙ ap zero_left e)
+    ∙ ap (λ (b : Bool). (n == 0) || b) (ih ∙ ap is_over (left_nowhere (i + 1) q k (λ j. out j refl))) ∙ or_false (n == 0)
+    ∙ ap (λ (o : Option ℕ). is_over (left_on (as_proc (i + 1)) o (left_from (i + 1) q k))) (sym e)
+
+lacks : (b : Bool) → (b ≡ true → ⊥) → b ≡ false
+lacks true h = absurd (h refl)
+lacks false h = refl
+
+-- an item has no ticks left where a list has it among those that are due
+over_from : (i : ℕ) (q : List (List Entry)) (k : ℕ) → ((j : ℕ) → links.AreDistinct (items_of (list_at q j))) → ((j l : ℕ) → has_entry k (list_at q j) ≡ true → has_entry k (list_at q l) ≡ true → j ≡ l) →
+    some_over k q ≡ is_over (left_from i q k)
+over_from i [] k apart one = refl
+over_from i (es ∷ q) k apart one =
+    over_step i es q k (ticks_in es k) (apart 0)
+    (λ j h. lacks (has_entry k (list_at q j)) (λ f. let bad = one 0 (suc j) (has_ticks k es ∙ h) f in omega (arith, bad)))
+    refl (over_from (i + 1) q k (λ j. apart (suc j)) (λ j l e f. let next = one (suc j) (suc l) e f in omega (arith, next)))
+
+pub over-left : (q : List (List Entry)) (k : ℕ) → AreDisjoint q → list_any (λ es. has k (items_of (due es))) q ≡ is_over (left_in q k)
+over-left q k d = over_from 0 q k d.apart (λ j l. d.one j l k)

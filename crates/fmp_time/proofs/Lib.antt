@@ -11,3 +11,4 @@ pub mod Tables
 pub mod Effects
 pub mod Waits
 pub mod Served
+pub mod Dues

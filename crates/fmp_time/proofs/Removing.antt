@@ -8,7 +8,7 @@ use Rattle.fmp_links.specs.Lists.{has, AreDistinct, AreDisjoint, first_of}
 use Rattle.fmp_links.proofs.Having as having
 use Rattle.fmp_links.proofs.Having.{has_here, has_there, has_behind, lacks_first, lacks_behind, lacks_from, ne}
 use Rattle.fmp_links.proofs.Soundness.{list_at-take_out}
-use Rattle.fmp_time.specs.Differences.{Entry, list_at, has_entry, without, take_out, entries_from, entries_of, sum_of, FirstIsLater, IsSummed}
+use Rattle.fmp_time.specs.Differences.{Entry, list_at, has_entry, without, take_out, entries_from, entries_of, sum_of, IsSummed}
 use Rattle.fmp_time.proofs.Entries.{has_entry-entries_of}
 use Rattle.fmp_time.proofs.Sums.{frame, frame_sum, remove_sums, without_lacking}
 
@@ -68,13 +68,6 @@ remove_total d e k (x ∷ before) behind g a =
     let same : e x ≡ d x = g.others x (λ (f : first_of behind ≡ Some x). ne x x (before ++ k ∷ behind) (later x (k ∷ behind) before (has_there x k behind (first_has x behind f))) a.0 refl) in
     omega (arith, same, remove_total d e k before behind g a.1)
 
-remove_later : (d e : ℕ → ℕ) (k : ℕ) (before behind : List ℕ) → Gains d e k behind → AreDistinct (before ++ k ∷ behind) → FirstIsLater d (before ++ k ∷ behind) → FirstIsLater e (before ++ behind)
-remove_later d e k [] [] g a l = tt
-remove_later d e k [] (b ∷ ys) g a l = omega (arith, l, g.gain b refl)
-remove_later d e k (x ∷ before) behind g a l =
-    let same : e x ≡ d x = g.others x (λ (f : first_of behind ≡ Some x). ne x x (before ++ k ∷ behind) (later x (k ∷ behind) before (has_there x k behind (first_has x behind f))) a.0 refl) in
-    omega (arith, same, l)
-
 absent : (q : List (List ℕ)) (i j k : ℕ) → AreDisjoint 128 q → has k (links.list_at q i) ≡ true → (j ≡ i → ⊥) → has k (links.list_at q j) ≡ false
 absent q i j k t h n = lacks_from k (links.list_at q j) (λ (g : has k (links.list_at q j) ≡ true). n (t.one j i k g h))
 
@@ -112,35 +105,33 @@ removed_summed d e q i k before behind s t whole g =
     let rest : (j : ℕ) → (j ≡ i → ⊥) → links.list_at (links.take_out q k) j ≡ links.list_at q j = λ j n. list_at-take_out q k j ∙ having.without_lacking k (links.list_at q j) (absent q i j k t there n) in
     record {
       count = length-map q (links.without k) ∙ s.count;
-      later = λ j. ⊎_elim
-          (λ (f : j ≡ i). subst (λ (m : ℕ). FirstIsLater (slice_index e) (links.list_at (links.take_out q k) m)) (sym f)
-          (subst (FirstIsLater (slice_index e)) (sym here) (remove_later (slice_index d) (slice_index e) k before behind g a (subst (FirstIsLater (slice_index d)) whole (s.later i)))))
-          (λ (n : j ≡ i → ⊥). subst (FirstIsLater (slice_index e)) (sym (rest j n)) (later_same (links.list_at q j) (stays d e q i k before behind t whole g j n) (s.later j)))
-          (cases_eq j i);
       bound = λ j. ⊎_elim
-          (λ (f : j ≡ i). subst (λ (m : ℕ). sum_of (slice_index e) (links.list_at (links.take_out q k) m) ≤ 2 ^ 31) (sym f)
-          (subst (λ (xs : List ℕ). sum_of (slice_index e) xs ≤ 2 ^ 31) (sym here)
-          (le_trans (remove_total (slice_index d) (slice_index e) k before behind g a) (subst (λ (xs : List ℕ). sum_of (slice_index d) xs ≤ 2 ^ 31) whole (s.bound i)))))
-          (λ (n : j ≡ i → ⊥). subst (λ (xs : List ℕ). sum_of (slice_index e) xs ≤ 2 ^ 31) (sym (rest j n))
-          (subst (λ (m : ℕ). m ≤ 2 ^ 31) (sym (frame_sum (slice_index d) (slice_index e) (links.list_at q j) (stays d e q i k before behind t whole g j n))) (s.bound j)))
+          (λ (f : j ≡ i). subst (λ (m : ℕ). sum_of (slice_index e) (links.list_at (links.take_out q k) m) < 2 ^ 64) (sym f)
+          (subst (λ (xs : List ℕ). sum_of (slice_index e) xs < 2 ^ 64) (sym here)
+          (le_lt (remove_total (slice_index d) (slice_index e) k before behind g a) (subst (λ (xs : List ℕ). sum_of (slice_index d) xs < 2 ^ 64) whole (s.bound i)))))
+          (λ (n : j ≡ i → ⊥). subst (λ (xs : List ℕ). sum_of (slice_index e) xs < 2 ^ 64) (sym (rest j n))
+          (subst (λ (m : ℕ). m < 2 ^ 64) (sym (frame_sum (slice_index d) (slice_index e) (links.list_at q j) (stays d e q i k before behind t whole g j n))) (s.bound j)))
           (cases_eq j i);
     }
   where
-    later_same : (xs : List ℕ) → ((u : ℕ) → has u xs ≡ true → slice_index e u ≡ slice_index d u) → FirstIsLater (slice_index d) xs → FirstIsLater (slice_index e) xs
-    later_same [] h f = tt
-    later_same (x ∷ xs) h f = subst (λ (m : ℕ). 1 ≤ m) (sym (h x (has_here x xs))) f
-
-    le_trans : {a b c : ℕ} → a ≤ b → b ≤ c → a ≤ c
-    le_trans {a} {b} {c} h l = omega (arith, h, l)
+    le_lt : {a b c : ℕ} → a ≤ b → b < c → a < c
+    le_lt {a} {b} {c} h l = omega (arith, h, l)
 
 -- nothing has_entry behind k
 pub gains_none : (d : List ℕ) (k : ℕ) (behind : List ℕ) → first_of behind ≡ None → Gains (slice_index d) (slice_index d) k behind
 gains_none d k behind e = record { gain = λ b f. let bad : None ≡ Some b = sym e ∙ f in cc; others = λ u f. refl }
 
 -- b has_entry behind k
-pub gains_some : (d : List ℕ) (k b : ℕ) (behind : List ℕ) → b < length d → first_of behind ≡ Some b → Gains (slice_index d) (slice_index (set d b (slice_index d b + slice_index d k))) k behind
+gains_some : (d : List ℕ) (k b : ℕ) (behind : List ℕ) → b < length d → first_of behind ≡ Some b → Gains (slice_index d) (slice_index (set d b (slice_index d b + slice_index d k))) k behind
 gains_some d k b behind l e = record {
   gain = λ c f. let same : Some b ≡ Some c = sym e ∙ f in let at : b ≡ c = cc in
       subst (λ (m : ℕ). slice_index (set d b (slice_index d b + slice_index d k)) m ≡ slice_index d m + slice_index d k) at (get_or-set_same d b (slice_index d b + slice_index d k) 0 l);
   others = λ u f. get_or-set_other d b u (slice_index d b + slice_index d k) 0 (λ (h : u ≡ b). f (e ∙ ap Some (sym h)));
 }
+
+-- the item behind k in its list gains
+pub gains_next : (d : List ℕ) (q : List (List ℕ)) (i k b : ℕ) (p : Parts (links.list_at q i) k) → AreDisjoint 128 q → length d ≡ 128 → first_of p.behind ≡ Some b →
+    Gains (slice_index d) (slice_index (set d b (slice_index d b + slice_index d k))) k p.behind
+gains_next d q i k b p t count f =
+    let low = t.small i b (behind_in (links.list_at q i) k b p.before p.behind p.whole f) in
+    gains_some d k b p.behind (omega (arith, low, count)) f

@@ -3,7 +3,7 @@ use Rattle.std.proofs.Common.{◌≡◌, ℕ, ◌+◌, ◌-◌, ◌<◌, ◌≤�
 use Rattle.std.proofs.lemmas.Bool.{cases_eq, cases_lt, eq-eqb, ne_eqb, lt-ltb, le-ltb}
 use Rattle.fmp_links.specs.Lists.{has, inserted, AreDistinct, first_of}
 use Rattle.fmp_links.proofs.Having.{has_here, has_there, lacks_first, lacks_behind, ne}
-use Rattle.fmp_time.specs.Differences.{Entry, sorted_in, without, lowered, entries_from, sum_of, spot_in, rest_in, FirstIsLater}
+use Rattle.fmp_time.specs.Differences.{Entry, sorted_in, without, lowered, entries_from, sum_of, spot_in, rest_in, first_adding}
 
 pub frame : (d e : ℕ → ℕ) (s : ℕ) (xs : List ℕ) → ((u : ℕ) → has u xs ≡ true → e u ≡ d u) → entries_from e s xs ≡ entries_from d s xs
 frame d e s [] h = refl
@@ -106,6 +106,54 @@ lower_first d e x xs h less others out =
     rw first (ap (λ (es : List Entry). (x, 0 + d x - 1) ∷ es)
     (frame d e (0 + d x - 1) xs (λ u g. others u (λ (f : u ≡ x). ne u x xs g out f)) ∙ shifted d (0 + d x) xs (omega (arith, h))))
 
+-- the first one that adds something
+pub adding_there : (d : ℕ → ℕ) (xs : List ℕ) (b : ℕ) → first_adding d xs ≡ Some b → has b xs ≡ true
+adding_there d [] b f = cc
+adding_there d (x ∷ xs) b f =
+    ⊎_elim (λ (z : d x ≡ 0). has_there b x xs (adding_there d xs b (sym (ap (λ (c : Bool). cond c (first_adding d xs) (Some x)) (eq-eqb (d x) 0 z)) ∙ f)))
+    (λ (z : d x ≡ 0 → ⊥). let same : Some x ≡ Some b = sym (ap (λ (c : Bool). cond c (first_adding d xs) (Some x)) (ne_eqb (d x) 0 z)) ∙ f in
+    let at : x ≡ b = cc in subst (λ (y : ℕ). has y (x ∷ xs) ≡ true) at (has_here x xs))
+    (cases_eq (d x) 0)
+
+pub adding_adds : (d : ℕ → ℕ) (xs : List ℕ) (b : ℕ) → first_adding d xs ≡ Some b → 1 ≤ d b
+adding_adds d [] b f = cc
+adding_adds d (x ∷ xs) b f =
+    ⊎_elim (λ (z : d x ≡ 0). adding_adds d xs b (sym (ap (λ (c : Bool). cond c (first_adding d xs) (Some x)) (eq-eqb (d x) 0 z)) ∙ f))
+    (λ (z : d x ≡ 0 → ⊥). let same : Some x ≡ Some b = sym (ap (λ (c : Bool). cond c (first_adding d xs) (Some x)) (ne_eqb (d x) 0 z)) ∙ f in
+    let at : x ≡ b = cc in subst (λ (y : ℕ). 1 ≤ d y) at (omega (arith, z)))
+    (cases_eq (d x) 0)
+
+-- that one lowered alone is a tick less for each that has one
+pub lower_adding : (d e : ℕ → ℕ) (xs : List ℕ) (b : ℕ) → first_adding d xs ≡ Some b → e b ≡ d b - 1 → ((u : ℕ) → (u ≡ b → ⊥) → e u ≡ d u) → AreDistinct xs →
+    entries_from e 0 xs ≡ lowered (entries_from d 0 xs)
+lower_adding d e [] b f less others apart = cc
+lower_adding d e (x ∷ xs) b f less others apart =
+    ⊎_elim (λ (z : d x ≡ 0).
+    let on : first_adding d xs ≡ Some b = sym (ap (λ (c : Bool). cond c (first_adding d xs) (Some x)) (eq-eqb (d x) 0 z)) ∙ f in
+    let same : e x ≡ d x = others x (λ (g : x ≡ b). ne b x xs (adding_there d xs b on) apart.0 (sym g)) in
+    let now : 0 + e x ≡ 0 = omega (arith, same, z) in
+    let before : 0 + d x ≡ 0 = omega (arith, z) in
+    rw (now, before) (ap (λ (es : List Entry). (x, 0) ∷ es) (lower_adding d e xs b on less others apart.1)))
+    (λ (z : d x ≡ 0 → ⊥).
+    let same : Some x ≡ Some b = sym (ap (λ (c : Bool). cond c (first_adding d xs) (Some x)) (ne_eqb (d x) 0 z)) ∙ f in
+    let at : x ≡ b = cc in
+    lower_first d e x xs (omega (arith, z)) (subst (λ (y : ℕ). e y ≡ d y - 1) (sym at) less) (λ u n. others u (λ (g : u ≡ b). n (g ∙ sym at))) apart.0)
+    (cases_eq (d x) 0)
+
+-- where none adds anything, nothing is lowered
+pub lower_none : (d : ℕ → ℕ) (xs : List ℕ) → first_adding d xs ≡ None → lowered (entries_from d 0 xs) ≡ entries_from d 0 xs
+lower_none d [] f = refl
+lower_none d (x ∷ xs) f =
+    ⊎_elim (λ (z : d x ≡ 0).
+    let before : 0 + d x ≡ 0 = omega (arith, z) in
+    rw before (ap (λ (es : List Entry). (x, 0) ∷ es) (lower_none d xs (sym (ap (λ (c : Bool). cond c (first_adding d xs) (Some x)) (eq-eqb (d x) 0 z)) ∙ f))))
+    (λ (z : d x ≡ 0 → ⊥). let bad : Some x ≡ None = sym (ap (λ (c : Bool). cond c (first_adding d xs) (Some x)) (ne_eqb (d x) 0 z)) ∙ f in cc)
+    (cases_eq (d x) 0)
+
+pub fewer_total : (d e : ℕ → ℕ) (xs : List ℕ) → ((u : ℕ) → e u ≤ d u) → sum_of e xs ≤ sum_of d xs
+fewer_total d e [] h = omega arith
+fewer_total d e (x ∷ xs) h = omega (arith, h x, fewer_total d e xs h)
+
 -- what is left over is less than what the item of the spot adds
 pub spot_less : (d : ℕ → ℕ) (r : ℕ) (xs : List ℕ) (b : ℕ) → spot_in d r xs ≡ Some b → rest_in d r xs < d b
 spot_less d r [] b e = cc
@@ -152,17 +200,3 @@ insert_none_total d e k r (x ∷ xs) spot own others out =
     let same : e x ≡ d x = others x (λ (f : x ≡ k). lacks_first k x xs out (sym f)) in
     omega (arith, l, same, insert_none_total d e k (r - d x) xs on (own ∙ rest) others (lacks_behind k x xs out)))
     (cases_lt r (d x))
-
-pub insert_some_later : (d e : ℕ → ℕ) (k b r : ℕ) (xs : List ℕ) → spot_in d r xs ≡ Some b → e k ≡ rest_in d r xs → ((u : ℕ) → (u ≡ k → ⊥) → (u ≡ b → ⊥) → e u ≡ d u) →
-    has k xs ≡ false → AreDistinct xs → 1 ≤ r → FirstIsLater d xs → FirstIsLater e (inserted b k xs)
-insert_some_later d e k b r [] spot own others out apart pos later = cc
-insert_some_later d e k b r (x ∷ xs) spot own others out apart pos later =
-    ⊎_elim (λ (at : x ≡ b).
-    ⊎_elim (λ (l : r < d x). rw (eq-eqb x b at) (let rest : rest_in d r (x ∷ xs) ≡ r = ap (λ (c : Bool). cond c r (rest_in d (r - d x) xs)) (lt-ltb r (d x) l) in omega (arith, own, rest, pos)))
-    (λ (l : d x ≤ r). absurd (ne b x xs (spot_there d (r - d x) xs b (sym (ap (λ (c : Bool). cond c (Some x) (spot_in d (r - d x) xs)) (le-ltb r (d x) l)) ∙ spot)) apart.0 (sym at))) (cases_lt r (d x)))
-    (λ (other : x ≡ b → ⊥). rw (ne_eqb x b other) (omega (arith, later, others x (λ (f : x ≡ k). lacks_first k x xs out (sym f)) other)))
-    (cases_eq x b)
-
-pub insert_none_later : (d e : ℕ → ℕ) (k r : ℕ) (xs : List ℕ) → e k ≡ rest_in d r xs → ((u : ℕ) → (u ≡ k → ⊥) → e u ≡ d u) → has k xs ≡ false → 1 ≤ r → FirstIsLater d xs → FirstIsLater e (xs ++ k ∷ [])
-insert_none_later d e k r [] own others out pos later = omega (arith, own, pos)
-insert_none_later d e k r (x ∷ xs) own others out pos later = omega (arith, later, others x (λ (f : x ≡ k). lacks_first k x xs out (sym f)))

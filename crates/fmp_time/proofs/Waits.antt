@@ -1,46 +1,19 @@
 -- The waits stay those that have ticks left.
-use Rattle.std.proofs.Common.{◌≡◌, ℕ, ◌+◌, ◌-◌, ◌==◌, Bool, true, false, not, ◌||◌, ◌&&◌, cond, Option, Some, None, List, [], ◌∷◌, ◌++◌, length, filter, set, refl, sym, ap, ◌∙◌, arith, ⊎_elim}
+use Rattle.std.proofs.Common.{◌≡◌, ℕ, ◌+◌, ◌-◌, ◌==◌, Bool, true, false, not, ◌||◌, ◌&&◌, cond, Option, Some, None, List, [], ◌∷◌, ◌++◌, length, set, refl, sym, ap, ◌∙◌, arith, ⊎_elim}
 use Rattle.std.specs.Prelude.{is_some, slice_index_or}
 use Rattle.std.proofs.lemmas.Bool.{cases_eq, eq-eqb, ne_eqb}
 use Rattle.std.proofs.lemmas.List.{get_or-set_same, get_or-set_other, get_or-map, get_or-replicate}
 use Rattle.fmp_codes.specs.declared.numbers.Proc.{Proc}
 use Rattle.fmp_codes.specs.declared.numbers.Task.{Task}
 use Rattle.fmp_links.specs.Tasks.{has_task, without}
+use Rattle.fmp_links.proofs.Tasks.{has_task-append, has_task-filter}
 use Rattle.fmp_time.specs.declared.item.Item.{Item}
 use Rattle.fmp_time.specs.declared.item.Item.TheVariants.{Wait, Alarm, Cyclic}
 use Rattle.fmp_time.specs.Left.{Left}
-use Rattle.fmp_time.specs.Times.{Times, wait_of, left_of, began, armed, cancelled, moved, moved_to, is_due, lowered_on, counted_down, ticked, no_times, AreWaits}
-
-has_append : (u t : Task) (ts : List Task) → has_task u (ts ++ t ∷ []) ≡ (has_task u ts || (u.number == t.number))
-has_append u t [] = elim (u.number == t.number) as (λ b. (b || false) ≡ (false || b)) [ true ↦ refl | false ↦ refl ]
-has_append u t (x ∷ ts) = elim (u.number == x.number) as (λ b. (b || has_task u (ts ++ t ∷ [])) ≡ ((b || has_task u ts) || (u.number == t.number))) [ true ↦ refl | false ↦ has_append u t ts ]
-
--- a task is among those that a test of the number keeps where it is there and the test keeps it
-has_kept : (u x : Task) (f : ℕ → Bool) (ts us : List Task) (b : Bool) → u.number ≡ x.number → f u.number ≡ b → has_task u us ≡ (has_task u ts && f u.number) → has_task u (cond b (x ∷ us) us) ≡ b
-has_kept u x f ts us true e g ih = ap (λ (c : Bool). c || has_task u us) (eq-eqb u.number x.number e)
-has_kept u x f ts us false e g ih = ih ∙ ap (λ (c : Bool). has_task u ts && c) g ∙ none (has_task u ts)
-  where
-    none : (b : Bool) → (b && false) ≡ false
-    none true = refl
-    none false = refl
-
-has_filter : (u : Task) (f : ℕ → Bool) (ts : List Task) → has_task u (filter (λ t. f t.number) ts) ≡ (has_task u ts && f u.number)
-has_filter u f [] = refl
-has_filter u f (x ∷ ts) =
-    let us = filter (λ (t : Task). f t.number) ts in
-    let ih = has_filter u f ts in
-    ⊎_elim (λ (e : u.number ≡ x.number).
-    ap (λ (b : Bool). has_task u (cond b (x ∷ us) us)) (ap f (sym e)) ∙ has_kept u x f ts us (f u.number) e refl ih
-    ∙ sym (ap (λ (c : Bool). (c || has_task u ts) && f u.number) (eq-eqb u.number x.number e)))
-    (λ (e : u.number ≡ x.number → ⊥).
-    elim (f x.number) as (λ (b : Bool). has_task u (cond b (x ∷ us) us) ≡ (has_task u ts && f u.number)) [
-      | true ↦ ap (λ (c : Bool). c || has_task u us) (ne_eqb u.number x.number e) ∙ ih
-      | false ↦ ih
-    ] ∙ sym (ap (λ (c : Bool). (c || has_task u ts) && f u.number) (ne_eqb u.number x.number e)))
-    (cases_eq u.number x.number)
+use Rattle.fmp_time.specs.Times.{Times, wait_of, left_of, began, armed, cancelled, moved, moved_to, is_due, lowered_on, lowered, counted_down, ticked, no_times, AreWaits}
 
 has_ended : (t u : Task) (ts : List Task) → has_task t (without u ts) ≡ cond (t.number == u.number) false (has_task t ts)
-has_ended t u ts = has_filter t (λ n. not (n == u.number)) ts
+has_ended t u ts = has_task-filter t (λ n. not (n == u.number)) ts
     ∙ elim (t.number == u.number) as (λ (b : Bool). (has_task t ts && not b) ≡ cond b false (has_task t ts)) [ true ↦ and_false (has_task t ts) | false ↦ and_true (has_task t ts) ]
   where
     and_false : (b : Bool) → (b && false) ≡ false
@@ -52,7 +25,7 @@ has_ended t u ts = has_filter t (λ n. not (n == u.number)) ts
     and_true false = refl
 
 has_began : (t u : Task) (ts : List Task) → has_task t (without u ts ++ u ∷ []) ≡ cond (t.number == u.number) true (has_task t ts)
-has_began t u ts = has_append t u (without u ts) ∙ ap (λ (b : Bool). b || (t.number == u.number)) (has_ended t u ts)
+has_began t u ts = has_task-append t u (without u ts) ∙ ap (λ (b : Bool). b || (t.number == u.number)) (has_ended t u ts)
     ∙ elim (t.number == u.number) as (λ (b : Bool). (cond b false (has_task t ts) || b) ≡ cond b true (has_task t ts)) [ true ↦ refl | false ↦ or_false (has_task t ts) ]
   where
     or_false : (b : Bool) → (b || false) ≡ b
@@ -138,9 +111,19 @@ pub waits-ticked : (m : Times) (p : Proc) → length m.left ≡ 128 → AreWaits
 waits-ticked m p count h t =
     let high = t.most in
     let low = t.least in
-    has_filter t (λ n. not (is_due p (slice_index_or m.left (n - 1) None))) m.waits
+    has_task-filter t (λ n. not (is_due p (slice_index_or m.left (n - 1) None))) m.waits
     ∙ ap (λ (b : Bool). b && not (is_due p (left_of m (wait_of t)))) (h t) ∙ goes_on p (left_of m (wait_of t))
     ∙ sym (ap is_some (get_or-map (counted_down p) m.left (t.number - 1) None None (omega (arith, high, low, count))))
+
+still_counts : (p : Proc) (l : Option Left) → is_some l ≡ is_some (lowered_on p l)
+still_counts p None = refl
+still_counts p (Some l) = elim (l.processor.number == p.number) as (λ (b : Bool). true ≡ is_some (cond b (Some (record { processor = l.processor; ticks = l.ticks - 1 })) (Some l))) [ true ↦ refl | false ↦ refl ]
+
+pub waits-lowered : (m : Times) (p : Proc) → length m.left ≡ 128 → AreWaits m → AreWaits (lowered m p)
+waits-lowered m p count h t =
+    let high = t.most in
+    let low = t.least in
+    h t ∙ still_counts p (left_of m (wait_of t)) ∙ sym (ap is_some (get_or-map (lowered_on p) m.left (t.number - 1) None None (omega (arith, high, low, count))))
 
 pub waits-none : AreWaits no_times
 waits-none t =

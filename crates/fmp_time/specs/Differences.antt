@@ -1,5 +1,5 @@
 -- Difference lists: items in ascending ticks left, of which each stores what it adds to the sum of those before it.
-use Rattle.std.specs.Prelude.{◌≡◌, ℕ, ◌+◌, ◌-◌, ◌^◌, ◌≤◌, ◌==◌, Bool, not, nat_eq, nat_lt, Option, Some, None, List, [], ◌∷◌, length, map, filter, slice_index, slice_index_or, if◌then◌else◌}
+use Rattle.std.specs.Prelude.{◌≡◌, ℕ, ◌+◌, ◌-◌, ◌^◌, ◌<◌, ◌≤◌, ◌==◌, Bool, false, not, nat_eq, nat_lt, Option, Some, None, List, [], ◌∷◌, length, map, filter, slice_index, slice_index_or, if◌then◌else◌}
 use Rattle.std.specs.List.{list_any}
 use Rattle.arrayvec.specs.ArrayVec.{ArrayVec}
 use Rattle.fmp_links.specs.Lists as links
@@ -69,16 +69,15 @@ abbrev pub rest_in : (ℕ → ℕ) → ℕ → List ℕ → ℕ
 rest_in d r [] = r
 rest_in d r (x ∷ xs) = if nat_lt r (d x) then r else rest_in d (r - d x) xs
 
--- the first item has a tick left
-abbrev pub FirstIsLater : (ℕ → ℕ) → List ℕ → Type 0
-FirstIsLater d [] = Unit {0}
-FirstIsLater d (x ∷ xs) = 1 ≤ d x
-
--- there is a list for each processor, in each all items have a tick left, and none has more than 2 ^ 31
+-- there is a list for each processor, and the ticks left of its last item are a number of 64 bits
 pub record IsSummed (d : List ℕ) (q : List (List ℕ)) : Type 0 where
   pub count : length q ≡ 8
-  pub later : (i : ℕ) → FirstIsLater (slice_index d) (links.list_at q i)
-  pub bound : (i : ℕ) → sum_of (slice_index d) (links.list_at q i) ≤ 2 ^ 31
+  pub bound : (i : ℕ) → sum_of (slice_index d) (links.list_at q i) < 2 ^ 64
+
+-- the first item that adds something
+abbrev pub first_adding : (ℕ → ℕ) → List ℕ → Option ℕ
+first_adding d [] = None
+first_adding d (x ∷ xs) = if d x == 0 then first_adding d xs else Some x
 
 -- the items in front that add nothing, and those behind them
 abbrev pub zeros_of : (ℕ → ℕ) → List ℕ → List ℕ
@@ -96,6 +95,11 @@ items_of es = map (λ e. e.0) es
 abbrev pub IsLeastIn : List Entry → Option ℕ → Type 0
 IsLeastIn es None = Unit {0}
 IsLeastIn es (Some n) = (k m : ℕ) → ticks_in es k ≡ Some m → n ≤ m
+
+-- the first entry has no ticks left
+abbrev pub begins_over : List Entry → Bool
+begins_over [] = false
+begins_over (e ∷ es) = is_due e
 
 -- the items that a tick gives
 abbrev pub items_given : Option (ArrayVec ℕ) → List ℕ

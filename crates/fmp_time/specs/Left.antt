@@ -1,5 +1,5 @@
 -- Where an item counts and how many ticks it has left, in lists of entries: one for each processor.
-use Rattle.std.specs.Prelude.{◌≡◌, ℕ, ◌+◌, ◌<◌, true, Option, Some, None, List, [], ◌∷◌, length}
+use Rattle.std.specs.Prelude.{◌≡◌, ℕ, ◌+◌, ◌<◌, ◌==◌, Bool, true, false, Option, Some, None, List, [], ◌∷◌, length}
 use Rattle.fmp_codes.specs.Numbers.{as_proc}
 use Rattle.fmp_codes.specs.declared.numbers.Proc.{Proc}
 use Rattle.fmp_links.specs.Lists as links
@@ -31,3 +31,8 @@ pub record AreDisjoint (q : List (List Entry)) : Type 0 where
 
 abbrev pub ticks_of : Left → ℕ
 ticks_of l = l.ticks
+
+-- there are ticks left, and they are 0
+abbrev pub is_over : Option Left → Bool
+is_over None = false
+is_over (Some l) = l.ticks == 0

@@ -4,6 +4,7 @@ use Rattle.std.specs.List.{range_with_len}
 use Rattle.fmp_codes.specs.Numbers.{as_task, as_object}
 use Rattle.fmp_codes.specs.declared.numbers.Proc.{Proc}
 use Rattle.fmp_codes.specs.declared.numbers.Task.{Task}
+use Rattle.fmp_codes.specs.declared.numbers.Object.{Object}
 use Rattle.fmp_links.specs.Tasks.{has_task, without}
 use Rattle.fmp_time.specs.declared.item.Item.{Item}
 use Rattle.fmp_time.specs.declared.item.Item.TheVariants.{Wait, Alarm, Cyclic}
@@ -24,6 +25,12 @@ item_at k = if nat_lt k 64 then Wait (as_task (k + 1)) else (if nat_lt k 96 then
 
 abbrev pub wait_of : Task → Item
 wait_of t = Wait t
+
+abbrev pub alarm_of : Object → Item
+alarm_of o = Alarm o
+
+abbrev pub cyclic_of : Object → Item
+cyclic_of o = Cyclic o
 
 abbrev pub left_of : Times → Item → Option Left
 left_of m x = slice_index_or m.left (place_of x) None
@@ -67,15 +74,19 @@ abbrev pub is_due : Proc → Option Left → Bool
 is_due p None = false
 is_due p (Some l) = l.processor.number == p.number && (l.ticks - 1) == 0
 
--- what is left after a tick of a processor
+-- what is left after a tick of a processor, where also 0 ticks may be left
 abbrev pub lowered_on : Proc → Option Left → Option Left
 lowered_on p None = None
 lowered_on p (Some l) = if l.processor.number == p.number then Some (record { processor = l.processor; ticks = l.ticks - 1 }) else Some l
 
+-- all that counts on a processor has one tick less, or stays at 0
+abbrev pub lowered : Times → Proc → Times
+lowered m p = record m { left = map (lowered_on p) m.left }
+
 abbrev pub counted_down : Proc → Option Left → Option Left
 counted_down p l = if is_due p l then None else lowered_on p l
 
--- after a tick of a processor
+-- after a tick of a processor, at which what has no ticks left goes
 abbrev pub ticked : Times → Proc → Times
 ticked m p = record { left = map (counted_down p) m.left; waits = filter (λ t. not (is_due p (left_of m (wait_of t)))) m.waits }
 
@@ -102,6 +113,14 @@ no_times = record { left = replicate 128 None; waits = [] }
 -- the wait of a task is marked
 abbrev pub is_marked : List Bool → Task → Bool
 is_marked marks t = slice_index_or marks (t.number - 1) false
+
+-- all objects of a kind
+unfoldable pub all_objects : List Object
+all_objects = map as_object (range_with_len 1 32)
+
+-- an object is marked, where the marks of its kind begin at a place
+abbrev pub is_marked_from : ℕ → List Bool → Object → Bool
+is_marked_from place marks o = slice_index_or marks (place + (o.number - 1)) false
 
 -- the marked alarms and cyclics, by number
 unfoldable pub marked_handlers : List Bool → List Item

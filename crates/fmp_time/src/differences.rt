@@ -1,10 +1,11 @@
 //! Difference lists, one for each processor: items in ascending ticks left, of which each stores what it adds to the sum of
 //! those before it. So a tick lowers one number, and an item that goes hands on what it added to the one behind it.
-ghost use Rattle.std.specs.Prelude.{◌≡◌, ℕ, ◌^◌, ◌<◌, ◌≤◌, false, true, IfSome, is_some, Some, [], length, replicate, slice_index, slice_set};
+ghost use Rattle.std.specs.Prelude.{◌≡◌, ℕ, ◌^◌, ◌<◌, ◌≤◌, ◌||◌, false, true, is_some, Some, [], length, replicate, slice_index, slice_index_or, slice_set};
+ghost use Rattle.std.specs.List.{list_any};
 ghost use Rattle.std.specs.Option.{option_map};
 ghost use Rattle.fmp_links.specs.Lists as lists;
-ghost use Rattle.fmp_time.specs.Differences.{list_at, has_entry, sorted_in, take_out, ticks_in, least_of, lowered, due, not_due, entries_from, sum_of, spot_in, rest_in, zeros_of, rest_of, items_of, items_given, IsLeastIn};
-ghost use Rattle.fmp_time.specs.Left.{left_in, ticks_of, AreDisjoint};
+ghost use Rattle.fmp_time.specs.Differences.{list_at, has_entry, sorted_in, take_out, ticks_in, least_of, lowered, due, not_due, entries_from, sum_of, spot_in, rest_in, first_adding, zeros_of, rest_of, items_of, items_given, begins_over, IsLeastIn};
+ghost use Rattle.fmp_time.specs.Left.{left_in, ticks_of, is_over, AreDisjoint};
 
 use arrayvec::ArrayVec;
 use fmp_links::Links;
@@ -15,7 +16,7 @@ use std::marker::Model;
 pub struct Differences {
     links: Links<136, 128>,
     /// What an item adds to the ticks left of the one before it.
-    more: [u32; 128],
+    more: [u64; 128],
 }
 
 impl Model for Differences {
@@ -41,11 +42,9 @@ impl Differences {
     }
 
     /// Puts an item that stands in no list into one, behind all that have no more ticks left.
-    pub fn insert(&mut self, list: usize, item: usize, ticks: u32)
+    pub fn insert(&mut self, list: usize, item: usize, ticks: u64)
         requires list_in { list < 8 }
         requires item_in { item < 128 }
-        requires positive { 1 ≤ ticks }
-        requires in_range { ticks ≤ 2 ^ 31 }
         requires nowhere { (i : ℕ) → has_entry item (list_at self.old i) ≡ false }
         ensures entries { self.new ≡ slice_set self.old list (sorted_in item ticks (list_at self.old list)) }
         ensures count { length self.old ≡ 8 }
@@ -103,17 +102,16 @@ impl Differences {
     }
 
     /// The ticks left of an item.
-    pub fn left(&self, item: usize) -> Option<u32>
+    pub fn left(&self, item: usize) -> Option<u64>
         requires { item < 128 }
-        ensures value { result ≡ option_map ticks_of (left_in self.now item) }
-        ensures range { IfSome result (λ n. (1 ≤ n) × (n ≤ 2 ^ 31)) }
+        ensures { result ≡ option_map ticks_of (left_in self.now item) }
     {
         let list = self.links.place(item)?;
         Some(ticks_at(&self.links, &self.more, list, item))
     }
 
     /// The least ticks left in a list.
-    pub fn next(&self, list: usize) -> Option<u32>
+    pub fn next(&self, list: usize) -> Option<u64>
         requires { list < 8 }
         ensures value { result ≡ least_of (list_at self.now list) }
         ensures least { IsLeastIn (list_at self.now list) result }
@@ -121,6 +119,30 @@ impl Differences {
     {
         let item = self.links.first(list)?;
         Some(self.more[item])
+    }
+
+    /// Each item of a list has one tick less, or stays at 0. No more than one number changes.
+    pub fn lower(&mut self, list: usize)
+        requires { list < 8 }
+        ensures entries { self.new ≡ slice_set self.old list (lowered (list_at self.old list)) }
+        ensures disjoint { AreDisjoint self.old }
+    {
+        if let Some(item) = adding(&self.links, &self.more, list) {
+            self.more[item] -= 1;
+        }
+    }
+
+    /// Takes out of a list the items that have no ticks left, and gives them in their order.
+    fn take_due(&mut self, list: usize) -> Option<ArrayVec<usize, 128>>
+        requires { list < 8 }
+        ensures entries { self.new ≡ slice_set self.old list (not_due (list_at self.old list)) }
+        ensures due { items_given result ≡ items_of (due (list_at self.old list)) }
+    {
+        let first = self.links.first(list)?;
+        if self.more[first] > 0 {
+            return None;
+        }
+        Some(expire(&mut self.links, &self.more, list))
     }
 
     /// A tick: each item of a list has one tick less, and those that have none left are taken out and given, in their order.
@@ -131,17 +153,79 @@ impl Differences {
         ensures due { items_given result ≡ items_of (due (lowered (list_at self.old list))) }
         ensures disjoint { AreDisjoint self.old }
     {
-        let first = self.links.first(list)?;
-        self.more[first] -= 1;
-        if self.more[first] > 0 {
-            return None;
+        self.lower(list);
+        self.take_due(list)
+    }
+
+    /// Whether an item has no ticks left. Looks at the first item of each list.
+    pub fn has_due(&self) -> bool
+        ensures value { result ≡ list_any begins_over self.now }
+        ensures none { result ≡ false → (k : ℕ) → is_over (left_in self.now k) ≡ false }
+    {
+        for list in 0..8usize {
+            if self.next(list) == Some(0) {
+                return true;
+            }
         }
-        Some(expire(&mut self.links, &self.more, list))
+        false
+    }
+
+    /// Marks the items that have no ticks left.
+    pub fn marks(&self) -> [bool; 128]
+        ensures { (k : ℕ) → k < 128 → slice_index_or result k false ≡ is_over (left_in self.now k) }
+    {
+        let mut marks = [false; 128];
+        for list in 0..8usize {
+            mark_zeros(&self.links, &self.more, list, &mut marks);
+        }
+        marks
+    }
+}
+
+/// The first item of a list that adds something.
+fn adding(links: &Links<136, 128>, more: &[u64; 128], list: usize) -> Option<usize>
+    requires { list < 8 }
+    ensures value { result ≡ first_adding (slice_index more.now) (lists.list_at links.now list) }
+    ensures disjoint { lists.AreDisjoint 128 links.now }
+{
+    let mut here = links.first(list);
+    for _ in 0..128usize {
+        match here {
+            Some(item) => {
+                if more[item] > 0 {
+                    return here;
+                }
+                here = links.next(item);
+            }
+            None => return None,
+        }
+    }
+    None
+}
+
+/// Marks the items in front of a list that add nothing.
+fn mark_zeros(links: &Links<136, 128>, more: &[u64; 128], list: usize, marks: &mut [bool; 128])
+    requires { list < 8 }
+    ensures disjoint { lists.AreDisjoint 128 links.now }
+    ensures marks { (k : ℕ) → k < 128 → slice_index_or marks.new k false ≡ (slice_index_or marks.old k false || lists.has k (zeros_of (slice_index more.now) (lists.list_at links.now list))) }
+{
+    let mut here = links.first(list);
+    for _ in 0..128usize {
+        match here {
+            Some(item) => {
+                if more[item] > 0 {
+                    return;
+                }
+                marks[item] = true;
+                here = links.next(item);
+            }
+            None => return,
+        }
     }
 }
 
 /// Takes out of a list the items in front that add nothing.
-fn expire(links: &mut Links<136, 128>, more: &[u32; 128], list: usize) -> ArrayVec<usize, 128>
+fn expire(links: &mut Links<136, 128>, more: &[u64; 128], list: usize) -> ArrayVec<usize, 128>
     requires list_in { list < 8 }
     requires counted { length links.old ≡ 8 }
     ensures lists { links.new ≡ slice_set links.old list (rest_of (slice_index more.now) (lists.list_at links.old list)) }
@@ -166,10 +250,10 @@ fn expire(links: &mut Links<136, 128>, more: &[u32; 128], list: usize) -> ArrayV
 }
 
 /// The ticks left of an item in a list.
-fn ticks_at(links: &Links<136, 128>, more: &[u32; 128], list: usize, item: usize) -> u32
+fn ticks_at(links: &Links<136, 128>, more: &[u64; 128], list: usize, item: usize) -> u64
     requires list_in { list < 8 }
     requires there { lists.has item (lists.list_at links.now list) ≡ true }
-    requires bound { sum_of (slice_index more.now) (lists.list_at links.now list) ≤ 2 ^ 31 }
+    requires bound { sum_of (slice_index more.now) (lists.list_at links.now list) < 2 ^ 64 }
     ensures { ticks_in (entries_from (slice_index more.now) 0 (lists.list_at links.now list)) item ≡ Some result }
 {
     let mut here = links.first(list);
@@ -190,7 +274,7 @@ fn ticks_at(links: &Links<136, 128>, more: &[u32; 128], list: usize, item: usize
 }
 
 /// Before which item a number of ticks comes, and what of it is left over there.
-fn spot(links: &Links<136, 128>, more: &[u32; 128], list: usize, ticks: u32) -> (Option<usize>, u32)
+fn spot(links: &Links<136, 128>, more: &[u64; 128], list: usize, ticks: u64) -> (Option<usize>, u64)
     requires { list < 8 }
     ensures item { result.0 ≡ spot_in (slice_index more.now) ticks (lists.list_at links.now list) }
     ensures rest { result.1 ≡ rest_in (slice_index more.now) ticks (lists.list_at links.now list) }
@@ -212,3 +296,6 @@ fn spot(links: &Links<136, 128>, more: &[u32; 128], list: usize, ticks: u32) -> 
     }
     (None, rest)
 }
+
+#[cfg(test)]
+pub(crate) mod tests;

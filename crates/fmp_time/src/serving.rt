@@ -1,11 +1,11 @@
 //! What a tick serves, in its order.
-ghost use Rattle.std.specs.Prelude.{◌≡◌, ℕ, ◌<◌, false, not, [], ◌++◌, length, map, filter, slice_index_or};
-ghost use Rattle.fmp_codes.specs.declared.numbers.Task.{Task as AnyTask};
+ghost use Rattle.std.specs.Prelude.{◌≡◌, ℕ, ◌<◌, ◌≤◌, false, not, [], ◌++◌, length, map, filter, slice_index_or};
 ghost use Rattle.fmp_links.specs.Lists.{has};
-ghost use Rattle.fmp_time.specs.Times.{wait_of, is_marked, marked_handlers};
+ghost use Rattle.fmp_time.specs.Times.{wait_of, is_marked, is_marked_from, all_objects, marked_handlers};
 
 use crate::item::Item;
 use arrayvec::ArrayVec;
+use fmp_codes::{Object, Task};
 use fmp_links::TaskList;
 
 /// Marks the items of a list.
@@ -19,6 +19,40 @@ pub(crate) fn marks_of(items: &[usize]) -> [bool; 128]
         }
     }
     marks
+}
+
+/// The marked waits in their order.
+pub(crate) fn marked_waits(waits: &TaskList, marks: &[bool; 128]) -> ArrayVec<Task, 64>
+    ensures { result.items ≡ filter (is_marked marks.now) waits.now }
+{
+    let mut marked = ArrayVec::new();
+    let mut here = waits.first();
+    for _ in 0..64usize {
+        match here {
+            Some(task) => {
+                if marks[task.index()] {
+                    marked.push(task);
+                }
+                here = waits.next(task);
+            }
+            None => return marked,
+        }
+    }
+    marked
+}
+
+/// The objects that are marked, by number, where the marks of their kind begin at a place.
+pub(crate) fn marked_objects(place: usize, marks: &[bool; 128]) -> ArrayVec<Object, 32>
+    requires { place ≤ 96 }
+    ensures { result.items ≡ filter (is_marked_from place marks.now) all_objects }
+{
+    let mut objects = ArrayVec::new();
+    for index in 0..32usize {
+        if marks[place + index] {
+            objects.push(Object::from_index(index));
+        }
+    }
+    objects
 }
 
 /// The marked waits in their order, which go.

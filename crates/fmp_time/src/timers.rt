@@ -1,14 +1,14 @@
 //! The timers.
-ghost use Rattle.std.specs.Prelude.{◌≡◌, ◌^◌, ◌≤◌, IfSome, None, []};
+ghost use Rattle.std.specs.Prelude.{◌≡◌, None, [], filter, is_some};
 ghost use Rattle.std.specs.Option.{option_map};
-ghost use Rattle.fmp_time.specs.Left.{ticks_of};
-ghost use Rattle.fmp_time.specs.Times.{left_of, armed, cancelled, moved_to, renewed, ticked, served, began, ended, IsLeastOn, AreWaits, no_times};
+ghost use Rattle.fmp_time.specs.Left.{is_over, ticks_of};
+ghost use Rattle.fmp_time.specs.Times.{wait_of, alarm_of, cyclic_of, all_objects, left_of, armed, cancelled, moved_to, renewed, lowered, ticked, served, began, ended, IsLeastOn, AreWaits, no_times};
 
 use crate::differences::Differences;
 use crate::item::Item;
-use crate::serving::{marks_of, serve_handlers, serve_waits};
+use crate::serving::{marked_objects, marked_waits, marks_of, serve_handlers, serve_waits};
 use arrayvec::ArrayVec;
-use fmp_codes::Proc;
+use fmp_codes::{Object, Proc, Task};
 use fmp_links::TaskList;
 use std::marker::Model;
 
@@ -42,9 +42,7 @@ impl Timers {
     }
 
     /// An item counts on a processor from now on, with so many ticks left. If it is a wait, it is the last that began.
-    pub fn arm(&mut self, processor: Proc, item: Item, ticks: u32)
-        requires positive { 1 ≤ ticks }
-        requires in_range { ticks ≤ 2 ^ 31 }
+    pub fn arm(&mut self, processor: Proc, item: Item, ticks: u64)
         ensures { self.new ≡ armed self.old processor item ticks }
     {
         let place = item.place();
@@ -82,24 +80,64 @@ impl Timers {
         }
     }
 
-    /// The ticks left of an item, if it counts: from 1 to 2 ^ 31.
-    pub fn left(&self, item: Item) -> Option<u64>
-        ensures value { result ≡ option_map ticks_of (left_of self.now item) }
-        ensures range { IfSome result (λ n. (1 ≤ n) × (n ≤ 2 ^ 31)) }
+    /// Whether an item counts. Unlike its ticks left, this is told without a walk.
+    pub fn counts(&self, item: Item) -> bool
+        ensures { result ≡ is_some (left_of self.now item) }
     {
-        match self.differences.left(item.place()) {
-            Some(ticks) => Some(ticks as u64),
-            None => None,
-        }
+        self.differences.stands(item.place())
+    }
+
+    /// The ticks left of an item, if it counts.
+    pub fn left(&self, item: Item) -> Option<u64>
+        ensures { result ≡ option_map ticks_of (left_of self.now item) }
+    {
+        self.differences.left(item.place())
     }
 
     /// The least ticks left on a processor, if something counts there.
     pub fn next(&self, processor: Proc) -> Option<u64>
         ensures { IsLeastOn self.now processor result }
     {
-        match self.differences.next(processor.index()) {
-            Some(ticks) => Some(ticks as u64),
-            None => None,
+        self.differences.next(processor.index())
+    }
+
+    /// All that counts on a processor has one tick less, or stays at 0. It counts on.
+    pub fn lower(&mut self, processor: Proc)
+        ensures { self.new ≡ lowered self.old processor }
+    {
+        self.differences.lower(processor.index());
+    }
+
+    /// The waits that have 0 ticks left, in the order in which they began.
+    pub fn due_waits(&self) -> ArrayVec<Task, 64>
+        ensures { result.items ≡ filter (λ t. is_over (left_of self.now (wait_of t))) self.now.waits }
+    {
+        if self.differences.has_due() {
+            marked_waits(&self.waits, &self.differences.marks())
+        } else {
+            ArrayVec::new()
+        }
+    }
+
+    /// The alarms that have 0 ticks left, by number.
+    pub fn due_alarms(&self) -> ArrayVec<Object, 32>
+        ensures { result.items ≡ filter (λ o. is_over (left_of self.now (alarm_of o))) all_objects }
+    {
+        if self.differences.has_due() {
+            marked_objects(64, &self.differences.marks())
+        } else {
+            ArrayVec::new()
+        }
+    }
+
+    /// The cyclic handlers that have 0 ticks left, by number.
+    pub fn due_cyclics(&self) -> ArrayVec<Object, 32>
+        ensures { result.items ≡ filter (λ o. is_over (left_of self.now (cyclic_of o))) all_objects }
+    {
+        if self.differences.has_due() {
+            marked_objects(96, &self.differences.marks())
+        } else {
+            ArrayVec::new()
         }
     }
 
@@ -146,3 +184,6 @@ fn end(waits: &mut TaskList, item: Item)
         Item::Alarm(_) | Item::Cyclic(_) => {}
     }
 }
+
+#[cfg(test)]
+mod tests;

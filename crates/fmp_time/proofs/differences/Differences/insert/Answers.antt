@@ -59,7 +59,7 @@ push_last-requires c = (
 pub invariant_of-self : goal.invariant_of-self
 invariant_of-self c =
     rw c.insert_before.ensures (some_summed c.self.inside.more c.self.inside.links c.args.list c.args.item c.in-Some.behind c.args.ticks c.spot-behind.result.1 c.self.invariant
-    c.spot-behind.ensures.disjoint c.self.told c.requires.list_in c.requires.item_in c.requires.positive
+    c.spot-behind.ensures.disjoint c.self.told c.requires.list_in c.requires.item_in
     (λ i. sym (has_entry-entries_of c.self.inside.more c.self.inside.links c.args.item i) ∙ ap (λ (q : List (List Entry)). has_entry c.args.item (list_at q i)) c.self.view_is ∙ c.requires.nowhere i)
     (sym c.spot-behind.ensures.item ∙ c.in-Some.is) c.spot-behind.ensures.rest)
 
@@ -75,7 +75,7 @@ returns-in-Some-clause-entries c =
 pub invariant_of-self-in-None : goal.invariant_of-self-in-None
 invariant_of-self-in-None c =
     rw c.push_last.ensures (none_summed c.self.inside.more c.self.inside.links c.args.list c.args.item c.args.ticks c.spot-behind.result.1 c.self.invariant
-    c.self.told c.requires.list_in c.requires.item_in c.requires.positive c.requires.in_range
+    c.self.told c.requires.list_in c.requires.item_in c.ranges.ticks.fits
     (λ i. sym (has_entry-entries_of c.self.inside.more c.self.inside.links c.args.item i) ∙ ap (λ (q : List (List Entry)). has_entry c.args.item (list_at q i)) c.self.view_is ∙ c.requires.nowhere i)
     (sym c.spot-behind.ensures.item ∙ c.in-None.is) c.spot-behind.ensures.rest)
 

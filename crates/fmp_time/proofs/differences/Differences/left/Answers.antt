@@ -1,5 +1,4 @@
 use Rattle.std.proofs.Common.{◌≡◌, Some, None, true, List, refl, sym, ap, ◌∙◌, arith}
-use Rattle.std.specs.Prelude.{slice_index}
 use Rattle.std.specs.Option.{option_map}
 use Rattle.std.proofs.lemmas.Bool.{eq-eqb}
 use Rattle.fmp_links.specs.Lists as links
@@ -7,12 +6,11 @@ use Rattle.fmp_links.proofs.Soundness.{list_in}
 use Rattle.fmp_time.specs.Differences.{Entry, list_at, ticks_in}
 use Rattle.fmp_time.specs.Left.{ticks_of}
 use Rattle.fmp_time.proofs.Entries.{list_at-entries_of}
-use Rattle.fmp_time.proofs.Leaving.{ticks_range}
 use Rattle.fmp_time.proofs.Found.{place_entry, left_none, left_some}
 use Rattle.fmp_time.proofs.differences.Differences.left.Goals as goal
 
-pub returns-in_err-list-clause-value : goal.returns-in_err-list-clause-value
-returns-in_err-list-clause-value c =
+pub returns-in_err-list : goal.returns-in_err-list
+returns-in_err-list c =
     c.from_residual.ensures
     ∙ sym (ap (option_map ticks_of) (left_none c.args.self.now c.args.item (place_entry c.self.inside.more c.self.inside.links c.args.self.now c.args.item None c.self.view_is c.in_err-list.ensures)))
 
@@ -25,14 +23,9 @@ ticks_at-requires-clause-list_in c =
 pub ticks_at-requires-clause-there : goal.ticks_at-requires-clause-there
 ticks_at-requires-clause-there c = c.in_ok-list.ensures c.in_ok-list.list ∙ eq-eqb c.in_ok-list.list c.in_ok-list.list refl
 
-pub returns-clause-value : goal.returns-clause-value
-returns-clause-value c =
+pub returns : goal.returns
+returns c =
     sym (ap (option_map ticks_of) (left_some c.args.self.now c.args.item c.in_ok-list.list c.ticks_at.result
     (place_entry c.self.inside.more c.self.inside.links c.args.self.now c.args.item (Some c.in_ok-list.list) c.self.view_is c.in_ok-list.ensures)
     (ap (λ (q : List (List Entry)). ticks_in (list_at q c.in_ok-list.list) c.args.item) (sym c.self.view_is)
     ∙ ap (λ (es : List Entry). ticks_in es c.args.item) (list_at-entries_of c.self.inside.more c.self.inside.links c.in_ok-list.list) ∙ c.ticks_at.ensures)))
-
-pub returns-clause-range : goal.returns-clause-range
-returns-clause-range c =
-    let r = ticks_range (slice_index c.self.inside.more) (links.list_at c.self.inside.links c.in_ok-list.list) c.args.item c.ticks_at.result (c.self.invariant.later c.in_ok-list.list) c.ticks_at.ensures in
-    (r.0, omega (arith, r.1, c.self.invariant.bound c.in_ok-list.list))

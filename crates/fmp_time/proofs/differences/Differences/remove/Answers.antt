@@ -1,8 +1,8 @@
-use Rattle.std.proofs.Common.{ℕ, ◌^◌, ◌≤◌, List, sym, ap, subst, ◌∙◌, arith, rules}
+use Rattle.std.proofs.Common.{ℕ, ◌^◌, ◌<◌, List, sym, ap, subst, ◌∙◌, arith, rules}
 use Rattle.std.specs.Prelude.{slice_index}
 use Rattle.fmp_links.specs.Lists as links
 use Rattle.fmp_time.specs.Differences.{Entry, take_out, entries_of, sum_of}
-use Rattle.fmp_time.proofs.Removing.{parts_in, there_in, behind_in, two_most, gains_some, gains_none, removed_entries, removed_summed}
+use Rattle.fmp_time.proofs.Removing.{parts_in, there_in, behind_in, two_most, gains_next, gains_none, removed_entries, removed_summed}
 use Rattle.fmp_time.proofs.differences.Differences.remove.Goals as goal
 
 pub offset_bounds-self-inside-behind : goal.offset_bounds-self-inside-behind
@@ -29,7 +29,7 @@ overflow_add-self c =
     let i = c.requires.somewhere.0 in
     let p = parts_in c.self.inside.more c.self.inside.links c.args.self.now c.args.item i c.self.view_is c.requires.somewhere.1 in
     let two = two_most (slice_index c.self.inside.more) c.args.item c.in-Some.behind p.before p.behind (sym (c.in-Some.ensures.value i p.before p.behind p.whole)) in
-    let most = subst (λ (xs : List ℕ). sum_of (slice_index c.self.inside.more) xs ≤ 2 ^ 31) p.whole (c.self.invariant.bound i) in
+    let most = subst (λ (xs : List ℕ). sum_of (slice_index c.self.inside.more) xs < 2 ^ 64) p.whole (c.self.invariant.bound i) in
     omega (arith, two, most)
 
 pub remove-requires : goal.remove-requires
@@ -45,7 +45,7 @@ invariant_of-self c =
     let i = c.requires.somewhere.0 in
     let p = parts_in c.self.inside.more c.self.inside.links c.args.self.now c.args.item i c.self.view_is c.requires.somewhere.1 in
     rw c.remove.ensures (removed_summed c.self.inside.more _ c.self.inside.links i c.args.item p.before p.behind c.self.invariant c.next.ensures.disjoint p.whole
-    (gains_some c.self.inside.more c.args.item c.in-Some.behind p.behind (let low = c.next.ensures.disjoint.small i c.in-Some.behind (behind_in (links.list_at c.self.inside.links i) c.args.item c.in-Some.behind p.before p.behind p.whole (sym (c.in-Some.ensures.value i p.before p.behind p.whole))) in omega (arith, low, c.self.told)) (sym (c.in-Some.ensures.value i p.before p.behind p.whole))))
+    (gains_next c.self.inside.more c.self.inside.links i c.args.item c.in-Some.behind p c.next.ensures.disjoint c.self.told (sym (c.in-Some.ensures.value i p.before p.behind p.whole))))
 
 pub invariant_of-self-in-None : goal.invariant_of-self-in-None
 invariant_of-self-in-None c =
@@ -59,11 +59,13 @@ returns-in-Some c =
     let i = c.requires.somewhere.0 in
     let p = parts_in c.self.inside.more c.self.inside.links c.args.self.now c.args.item i c.self.view_is c.requires.somewhere.1 in
     ap (entries_of _) c.remove.ensures ∙ removed_entries c.self.inside.more _ c.self.inside.links i c.args.item p.before p.behind c.next.ensures.disjoint p.whole
-    (gains_some c.self.inside.more c.args.item c.in-Some.behind p.behind (let low = c.next.ensures.disjoint.small i c.in-Some.behind (behind_in (links.list_at c.self.inside.links i) c.args.item c.in-Some.behind p.before p.behind p.whole (sym (c.in-Some.ensures.value i p.before p.behind p.whole))) in omega (arith, low, c.self.told)) (sym (c.in-Some.ensures.value i p.before p.behind p.whole))) ∙ ap (λ (q : List (List Entry)). take_out q c.args.item) c.self.view_is
+    (gains_next c.self.inside.more c.self.inside.links i c.args.item c.in-Some.behind p c.next.ensures.disjoint c.self.told (sym (c.in-Some.ensures.value i p.before p.behind p.whole)))
+    ∙ ap (λ (q : List (List Entry)). take_out q c.args.item) c.self.view_is
 
 pub returns-in-None : goal.returns-in-None
 returns-in-None c =
     let i = c.requires.somewhere.0 in
     let p = parts_in c.self.inside.more c.self.inside.links c.args.self.now c.args.item i c.self.view_is c.requires.somewhere.1 in
     ap (entries_of c.self.inside.more) c.remove-in-None.ensures ∙ removed_entries c.self.inside.more c.self.inside.more c.self.inside.links i c.args.item p.before p.behind c.next.ensures.disjoint p.whole
-    (gains_none c.self.inside.more c.args.item p.behind (sym (c.in-None.ensures.value i p.before p.behind p.whole))) ∙ ap (λ (q : List (List Entry)). take_out q c.args.item) c.self.view_is
+    (gains_none c.self.inside.more c.args.item p.behind (sym (c.in-None.ensures.value i p.before p.behind p.whole)))
+    ∙ ap (λ (q : List (List Entry)). take_out q c.args.item) c.self.view_is

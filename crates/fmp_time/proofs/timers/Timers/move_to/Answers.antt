@@ -25,7 +25,7 @@ shown c =
     (c.insert.ensures.entries ∙ ap (λ (r : List (List Entry)). slice_set r c.index.result (sorted_in k n (list_at r c.index.result))) c.take_out.ensures
     ∙ ap (λ (i : ℕ). slice_set (take_out q k) i (sorted_in k n (list_at (take_out q k) i))) c.index.ensures.value ∙ ap (λ (j : ℕ). put_on q c.args.processor j n) c.place-place.ensures.value)
     ∙ moved_is q c.self.inside.waits c.args.processor c.args.item n (ap length (sym (c.take_out.ensures ∙ ap (take_out q) c.place-place.ensures.value)) ∙ c.insert.ensures.count)
-    (c.in-Some.ensures.value ∙ ap (λ (j : ℕ). option_map ticks_of (left_in q j)) c.place-place.ensures.value)
+    (c.in-Some.ensures ∙ ap (λ (j : ℕ). option_map ticks_of (left_in q j)) c.place-place.ensures.value)
 
 pub invariant_of-self : goal.invariant_of-self
 invariant_of-self c = subst AreWaits (sym (shown c))
@@ -37,5 +37,5 @@ returns-in-Some c = shown c ∙ ap (λ (m : Times). moved_to m c.args.item c.arg
 pub returns-in_default : goal.returns-in_default
 returns-in_default c =
     unmoved_is c.args.self.now c.args.processor c.args.item
-    (c.in_default.ensures.value ∙ ap (λ (j : ℕ). option_map ticks_of (left_in c.self.inside.differences j)) c.place-place.ensures.value
+    (c.in_default.ensures ∙ ap (λ (j : ℕ). option_map ticks_of (left_in c.self.inside.differences j)) c.place-place.ensures.value
     ∙ ap (option_map ticks_of) (sym (left_of-times c.self.inside.differences c.self.inside.waits c.args.item)) ∙ ap (λ (m : Times). option_map ticks_of (left_of m c.args.item)) c.self.view_is)

@@ -1,0 +1,238 @@
+//! All processors, and what may run on them.
+ghost use Rattle.std.specs.Prelude.{◌≡◌, ◌≤◌, ◌<◌, ◌++◌, ◌∷◌, [], length, replicate, true, false};
+ghost use Rattle.fmp_machine.specs.World.{first, rest, no_processor};
+ghost use Rattle.fmp_machine.specs.Step.{changed_run};
+ghost use Rattle.fmp_dispatch.specs.Dispatching.{idle, processor_in, with_processor_in, due_on, with_due_on, with_lock_in, with_disabled_in, with_latch_in, is_held_in, dispatched_to};
+
+use crate::due::{Due, nothing_due};
+use arrayvec::ArrayVec;
+use fmp_codes::{Proc, Runner, Task};
+use fmp_machine::Processor;
+use std::marker::Model;
+
+/// The processors in the order of their numbers, with the handlers that are due on each. There are at most 8.
+#[derive(Debug, Drop)]
+pub struct Dispatch {
+    processors: ArrayVec<Processor, 8>,
+    due: ArrayVec<Due, 8>,
+}
+
+impl Model for Dispatch {
+    ghost use Rattle.std.specs.Prelude.{◌≡◌, ◌≤◌, length};
+    ghost use Rattle.fmp_dispatch.specs.Dispatching.{Dispatching};
+
+    ghost Value = { Dispatching };
+
+    ghost view = { λ a. record { processors = a.processors.items; due = a.due.items } };
+
+    ghost invariant = { λ a. (length a.processors.items ≤ 8) × (length a.due.items ≡ length a.processors.items) };
+}
+
+/// So many processors, on which nothing runs.
+fn blank_processors(count: u8) -> ArrayVec<Processor, 8>
+    requires { count ≤ 8 }
+    ensures { result.items ≡ replicate count no_processor }
+{
+    let mut processors = ArrayVec::new();
+    for _index in 0..count {
+        processors.push(Processor::default());
+    }
+    processors
+}
+
+impl Dispatch {
+    /// So many processors, on which nothing runs and nothing is due.
+    pub fn new(count: u8) -> Self
+        requires { count ≤ 8 }
+        ensures { result ≡ idle count }
+    {
+        Dispatch {
+            processors: blank_processors(count),
+            due: nothing_due(count),
+        }
+    }
+
+    /// How many processors there are.
+    pub fn count(&self) -> usize
+        ensures value { result ≡ length self.now.processors }
+        ensures due { result ≡ length self.now.due }
+        ensures few { result ≤ 8 }
+    {
+        self.processors.len()
+    }
+
+    /// The record of a processor, or a blank one where there is none of its number.
+    pub fn processor(&self, p: Proc) -> Processor
+        ensures { result ≡ processor_in self.now p }
+    {
+        let processor = self.processors.as_slice().get(p.index()).copied();
+        processor.unwrap_or(Processor::default())
+    }
+
+    /// Changes the record of a processor.
+    pub fn set_processor(&mut self, p: Proc, changed: Processor)
+        ensures { self.new ≡ with_processor_in self.old p changed }
+    {
+        if let Some(place) = self.processors.get_mut(p.index()) {
+            *place = changed;
+        }
+    }
+
+    /// The handler that runs on a processor: the first that is due there.
+    pub fn handler(&self, p: Proc) -> Option<Runner>
+        ensures { result ≡ first (due_on self.now p) }
+    {
+        let due = self.due.as_slice().get(p.index())?;
+        due.head()
+    }
+
+    /// Lets a handler become the last that is due on a processor, on which fewer than 64 are.
+    pub fn add_due(&mut self, p: Proc, handler: Runner)
+        requires { length (due_on self.old p) < 64 }
+        ensures { self.new ≡ with_due_on self.old p (due_on self.old p ++ handler ∷ []) }
+    {
+        if let Some(due) = self.due.get_mut(p.index()) {
+            due.add(handler);
+        }
+    }
+
+    /// Ends the handler that runs on a processor, if one does.
+    pub fn return_handler(&mut self, p: Proc)
+        ensures { self.new ≡ with_due_on self.old p (rest (due_on self.old p)) }
+    {
+        if let Some(due) = self.due.get_mut(p.index()) {
+            due.end_first();
+        }
+    }
+
+    /// The task that a processor runs.
+    pub fn running(&self, p: Proc) -> Option<Task>
+        ensures { result ≡ (processor_in self.now p).running }
+    {
+        self.processor(p).running
+    }
+
+    /// Whether a request to a processor is pending.
+    pub fn pending(&self, p: Proc) -> bool
+        ensures { result ≡ (processor_in self.now p).latch }
+    {
+        self.processor(p).latch
+    }
+
+    /// Whether dispatching on a processor is held.
+    pub fn held(&self, p: Proc) -> bool
+        ensures { result ≡ is_held_in self.now p }
+    {
+        let processor = self.processor(p);
+        self.handler(p).is_some() || processor.locked || processor.disabled
+    }
+
+    /// Lets a processor enter the CPU-locked state, or leave it.
+    pub fn set_locked(&mut self, p: Proc, locked: bool)
+        ensures { self.new ≡ with_lock_in self.old p locked }
+    {
+        let processor = self.processor(p);
+        self.set_processor(
+            p,
+            Processor {
+                locked,
+                ..processor
+            },
+        );
+    }
+
+    /// Lets a processor enter the CPU-locked state.
+    pub fn lock(&mut self, p: Proc)
+        ensures { self.new ≡ with_lock_in self.old p true }
+    {
+        self.set_locked(p, true);
+    }
+
+    /// Lets a processor leave the CPU-locked state.
+    pub fn unlock(&mut self, p: Proc)
+        ensures { self.new ≡ with_lock_in self.old p false }
+    {
+        self.set_locked(p, false);
+    }
+
+    /// Disables dispatching on a processor.
+    pub fn disable(&mut self, p: Proc)
+        ensures { self.new ≡ with_disabled_in self.old p true }
+    {
+        let processor = self.processor(p);
+        self.set_processor(
+            p,
+            Processor {
+                disabled: true,
+                ..processor
+            },
+        );
+    }
+
+    /// Enables dispatching on a processor.
+    pub fn enable(&mut self, p: Proc)
+        ensures { self.new ≡ with_disabled_in self.old p false }
+    {
+        let processor = self.processor(p);
+        self.set_processor(
+            p,
+            Processor {
+                disabled: false,
+                ..processor
+            },
+        );
+    }
+
+    /// Sends a processor a request, which is pending until it dispatches.
+    pub fn request(&mut self, p: Proc)
+        ensures { self.new ≡ with_latch_in self.old p true }
+    {
+        let processor = self.processor(p);
+        self.set_processor(
+            p,
+            Processor {
+                latch: true,
+                ..processor
+            },
+        );
+    }
+
+    /// Lets a processor that is not held run this task or none, and takes its request. Tells what it runs now, where that is
+    /// another than before.
+    pub fn settle(&mut self, p: Proc, top: Option<Task>) -> Option<Option<Task>>
+        ensures state { self.new ≡ dispatched_to self.old p top }
+        ensures change { result ≡ changed_run (processor_in self.old p).running (processor_in self.new p).running }
+    {
+        let before = self.running(p);
+        if !self.held(p) {
+            self.run(p, top);
+        }
+        changed_run(before, self.running(p))
+    }
+
+    /// Lets a processor run this task or none, and takes its request.
+    fn run(&mut self, p: Proc, top: Option<Task>)
+        ensures { self.new ≡ with_processor_in self.old p (record (processor_in self.old p) { running = top; latch = false }) }
+    {
+        let processor = self.processor(p);
+        self.set_processor(
+            p,
+            Processor {
+                running: top,
+                latch: false,
+                ..processor
+            },
+        );
+    }
+}
+
+/// What runs now, where that is another than before.
+fn changed_run(before: Option<Task>, after: Option<Task>) -> Option<Option<Task>>
+    ensures { result ≡ changed_run before after }
+{
+    match (before, after) {
+        (None, None) => None,
+        (Some(a), Some(b)) if a.number == b.number => None,
+        _ => Some(after),
+    }
+}

@@ -1,0 +1,84 @@
+//! The handlers that are due on a processor.
+ghost use Rattle.std.specs.Prelude.{◌≡◌, ◌<◌, ◌≤◌, ◌++◌, ◌∷◌, [], length, replicate};
+ghost use Rattle.fmp_machine.specs.World.{first, rest};
+
+use arrayvec::ArrayVec;
+use fmp_codes::Runner;
+use std::marker::Model;
+
+/// The handlers that are due on a processor, at most 64, in a ring from the oldest one on. The first one runs.
+#[derive(Debug, Drop)]
+pub(crate) struct Due {
+    slots: [Runner; 64],
+    oldest: usize,
+    len: usize,
+}
+
+impl Model for Due {
+    ghost use Rattle.std.specs.Prelude.{◌<◌, ◌≤◌, List};
+    ghost use Rattle.fmp_codes.specs.declared.records.Runner.{Runner as AnyRunner};
+    ghost use Rattle.fmp_dispatch.specs.Window.{window};
+
+    ghost Value = { List AnyRunner };
+
+    ghost view = { λ a. window a.oldest a.len a.slots };
+
+    ghost invariant = { λ a. (a.oldest < 64) × (a.len ≤ 64) };
+}
+
+impl Due {
+    /// The handler that runs.
+    pub(crate) fn head(&self) -> Option<Runner>
+        ensures { result ≡ first self.now }
+    {
+        if self.len == 0 {
+            None
+        } else {
+            Some(self.slots[self.oldest])
+        }
+    }
+
+    /// Adds a handler behind the others.
+    pub(crate) fn add(&mut self, handler: Runner)
+        requires { length self.old < 64 }
+        ensures { self.new ≡ self.old ++ handler ∷ [] }
+    {
+        self.slots[(self.oldest + self.len) % 64] = handler;
+        self.len += 1;
+    }
+
+    /// Takes out the handler that runs, if there is one.
+    pub(crate) fn end_first(&mut self)
+        ensures { self.new ≡ rest self.old }
+    {
+        if 0 < self.len {
+            self.oldest = (self.oldest + 1) % 64;
+            self.len -= 1;
+        }
+    }
+}
+
+impl Default for Due {
+    /// No handler.
+    fn default() -> Self
+        ensures { result ≡ [] }
+    {
+        Due {
+            slots: [Runner::default(); 64],
+            oldest: 0,
+            len: 0,
+        }
+    }
+}
+
+/// For so many processors, that no handler is due.
+pub(crate) fn nothing_due(count: u8) -> ArrayVec<Due, 8>
+    requires { count ≤ 8 }
+    ensures { result.items ≡ replicate count [] }
+{
+    let mut due = ArrayVec::new();
+    for _index in 0..count {
+        due.push(Due::default());
+    }
+    due
+}

@@ -1,0 +1,10 @@
+use Rattle.std.proofs.Common.{sym, subst}
+use Rattle.fmp_dtq.specs.DataQueue.{DataQueue}
+use Rattle.fmp_dtq.specs.Served.{IsServed}
+use Rattle.fmp_dtq.proofs.Serving.{served_receivers}
+use Rattle.fmp_dtq.proofs.Dtq.reorder_receivers.Goals as goal
+
+pub returns-clause-served : goal.returns-clause-served
+returns-clause-served c = λ h.
+    subst (λ (q : DataQueue). IsServed (record q { receivers = c.reorder.new.self.waiters })) (sym c.self.view_is)
+    (served_receivers c.args.self.now c.reorder.new.self.waiters (h.receive c.args.task c.requires) h)

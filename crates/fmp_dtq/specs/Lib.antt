@@ -1,0 +1,3 @@
+pub mod DataQueue
+pub mod Operations
+pub mod Served

@@ -1,0 +1,6 @@
+use Rattle.std.proofs.Common.{◌≡◌, map, take}
+use Rattle.fmp_machine.specs.Boot.{resting}
+use Rattle.fmp_task.proofs.resting.all_resting.Given as goal
+
+abbrev pub invariant-loop-setup : goal.invariant-loop-setup
+invariant-loop-setup l = l.records.items ≡ map resting (take l.setup-index l.setups)

@@ -1,0 +1,35 @@
+//! Tasks before any of them is started.
+ghost use Rattle.std.specs.Prelude.{◌≡◌, ◌≤◌, length, map};
+ghost use Rattle.fmp_machine.specs.Boot.{resting};
+
+use arrayvec::ArrayVec;
+use fmp_machine::{TaskRecord, TaskSetup};
+
+/// A dormant task, at the initial processor of its class.
+fn resting(setup: &TaskSetup) -> TaskRecord
+    ensures { result ≡ resting setup.now }
+{
+    TaskRecord {
+        setup: *setup,
+        assigned: setup.class.initial,
+        priority: setup.priority,
+        active: false,
+        wait: None,
+        suspended: false,
+        activations: 0,
+        kept: None,
+        wakeups: 0,
+    }
+}
+
+/// The records of dormant tasks, in the order of their setups.
+pub(crate) fn all_resting(setups: &[TaskSetup]) -> ArrayVec<TaskRecord, 64>
+    requires { length setups.now ≤ 64 }
+    ensures { result.items ≡ map resting setups.now }
+{
+    let mut records = ArrayVec::new();
+    for setup in setups {
+        records.push(resting(setup));
+    }
+    records
+}

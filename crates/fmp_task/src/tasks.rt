@@ -1,0 +1,67 @@
+//! The records of all tasks.
+ghost use Rattle.std.specs.Prelude.{◌≡◌, ◌≤◌, length, map};
+ghost use Rattle.fmp_machine.specs.Boot.{resting};
+ghost use Rattle.fmp_machine.specs.World.{item, with_item, no_task};
+
+use crate::resting::all_resting;
+use arrayvec::ArrayVec;
+use fmp_codes::Task;
+use fmp_machine::{TaskRecord, TaskSetup};
+use std::marker::Model;
+
+/// The records of the tasks, in the order of their numbers. There are at most 64.
+#[derive(Debug, Drop)]
+pub struct Tasks {
+    records: ArrayVec<TaskRecord, 64>,
+}
+
+impl Model for Tasks {
+    ghost use Rattle.std.specs.Prelude.{◌≤◌, List, length};
+    ghost use Rattle.fmp_machine.specs.declared.machine.TaskRecord.{TaskRecord as AnyTaskRecord};
+
+    ghost Value = { List AnyTaskRecord };
+
+    ghost view = { λ a. a.records.items };
+
+    ghost invariant = { λ a. length a.records.items ≤ 64 };
+}
+
+impl Tasks {
+    /// These tasks, all dormant, at the initial processors of their classes.
+    pub fn new(setups: &[TaskSetup]) -> Self
+        requires { length setups.now ≤ 64 }
+        ensures { result ≡ map resting setups.now }
+    {
+        Tasks {
+            records: all_resting(setups),
+        }
+    }
+
+    /// How many tasks there are.
+    pub fn len(&self) -> usize
+        ensures value { result ≡ length self.now }
+        ensures few { result ≤ 64 }
+    {
+        self.records.len()
+    }
+
+    /// The record of a task, or a blank one where there is none of its number.
+    pub fn get(&self, t: Task) -> TaskRecord
+        ensures { result ≡ item no_task self.now t.number }
+    {
+        let records = self.records.as_slice();
+        records
+            .get(t.index())
+            .copied()
+            .unwrap_or(TaskRecord::default())
+    }
+
+    /// Changes the record of a task, if there is one of its number.
+    pub fn set(&mut self, t: Task, changed: TaskRecord)
+        ensures { self.new ≡ with_item self.old t.number changed }
+    {
+        if let Some(place) = self.records.get_mut(t.index()) {
+            *place = changed;
+        }
+    }
+}

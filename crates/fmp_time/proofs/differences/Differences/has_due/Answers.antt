@@ -1,0 +1,26 @@
+use Rattle.std.proofs.Common.{◌≡◌, ℕ, ◌||◌, Bool, false, Some, [], nat_eq, sym, ap, ◌∙◌, arith, ⊎_elim}
+use Rattle.std.specs.Option.{option_eq}
+use Rattle.std.proofs.lemmas.Bool.{cases_eq}
+use Rattle.std.proofs.lemmas.List.Folds.{list_any_more}
+use Rattle.fmp_time.specs.Differences.{list_at, ticks_in, begins_over}
+use Rattle.fmp_time.proofs.Dues.{begins_not, all_later, none_over}
+use Rattle.fmp_time.proofs.differences.Differences.has_due.Goals as goal
+
+pub loop-list-preserved : goal.loop-list-preserved
+loop-list-preserved c =
+    let q = c.args.self.now in
+    let i = c.loop-list.list in
+    let later : option_eq nat_eq c.next.result (Some 0) ≡ false = sym c.eq.ensures ∙ c.if-eq.false in
+    record {
+      none = list_any_more begins_over q i [] (omega (arith, c.loop-list-test.true, c.next.ensures.disjoint.count))
+          ∙ ap (λ (b : Bool). b || begins_over (list_at c.args.self.now c.loop-list.list)) c.loop-list.invariant.none ∙ begins_not (list_at q i) c.next.result c.next.ensures.value later;
+      later = λ j l k m e. ⊎_elim
+          (λ (f : j ≡ i). all_later (list_at q i) c.next.result c.next.ensures.value later c.next.ensures.least k m (ap (λ (n : ℕ). ticks_in (list_at c.args.self.now n) k) (sym f) ∙ e))
+          (λ (f : j ≡ i → ⊥). c.loop-list.invariant.later j (omega (arith, l, f)) k m e)
+          (cases_eq j i);
+      count = λ l. c.next.ensures.disjoint.count;
+    }
+
+pub returns-clause-none : goal.returns-clause-none
+returns-clause-none c = λ h k.
+    none_over 0 c.args.self.now k (λ j l. c.loop-list.invariant.later j (let eight = c.loop-list.invariant.count (omega arith) in omega (arith, l, eight, c.loop-list-test.false)) k)

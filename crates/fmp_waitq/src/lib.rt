@@ -1,0 +1,143 @@
+//! Wait queues: the tasks that wait for an object, in the order in which it serves them.
+//!
+//! Contracts see a queue as its order and a list of waiters, each a task with its rank: its priority in a queue by priority,
+//! and 0 in one by arrival. A lower rank comes first, and of equal ranks the one that joined earlier. No task waits twice in
+//! one queue.
+//!
+//! The tasks are linked in arrays: the first one is found, and a task leaves, and joins a queue by arrival, without a walk. In
+//! a queue by priority a task that joins walks to its place. No call allocates.
+#![tactic(auto)]
+
+ghost use Rattle.std.specs.Prelude.{◌≡◌, ℕ, ◌-◌, false, true, Some, [], map, slice_index};
+ghost use Rattle.fmp_machine.specs.World.{first};
+ghost use Rattle.fmp_links.specs.Tasks.{AreDistinct};
+ghost use Rattle.fmp_waitq.specs.Queue.{task_of, has_waiter, left_by, put_ranked, joined_by, rank_of, waiter_of};
+ghost use Rattle.fmp_waitq.specs.Kept.{spot_in, rank_in};
+
+use arrayvec::ArrayVec;
+use fmp_codes::{Pri, Task};
+use fmp_links::TaskList;
+use fmp_machine::Order;
+use std::marker::Model;
+
+/// The waiters of one queue in their order. No task is there twice.
+#[derive(Drop)]
+pub struct WaitQueue {
+    order: Order,
+    tasks: TaskList,
+    /// For each task its rank, while it waits.
+    ranks: [u8; 64],
+}
+
+impl Model for WaitQueue {
+    ghost use Rattle.std.specs.Prelude.{map};
+    ghost use Rattle.fmp_waitq.specs.Queue.{Queue};
+    ghost use Rattle.fmp_waitq.specs.Kept.{waiter_in, IsFlat};
+
+    ghost Value = { Queue };
+
+    ghost view = { λ a. record { order = a.order; waiters = map (waiter_in a.ranks) a.tasks } };
+
+    ghost invariant = { λ a. IsFlat a.order a.ranks a.tasks };
+}
+
+impl WaitQueue {
+    /// A queue without waiters, of this order.
+    pub fn new(order: Order) -> Self
+        ensures { result ≡ record { order = order; waiters = [] } }
+    {
+        WaitQueue {
+            order,
+            tasks: TaskList::new(),
+            ranks: [0; 64],
+        }
+    }
+
+    /// The order of the queue.
+    pub fn order(&self) -> Order
+        ensures { result ≡ self.now.order }
+    {
+        self.order
+    }
+
+    /// A task of this priority that is not there joins: in a queue by arrival as the last, in one by priority as the last of
+    /// those of the same or a higher priority.
+    pub fn join(&mut self, task: Task, priority: Pri)
+        requires { has_waiter task self.old.waiters ≡ false }
+        ensures { self.new ≡ record self.old { waiters = put_ranked (waiter_of self.old.order task priority) self.old.waiters } }
+    {
+        match self.order {
+            Order::First => {
+                self.ranks[task.index()] = 0;
+                self.tasks.push_last(task);
+            }
+            Order::Priority => {
+                let rank = priority.number;
+                let behind = spot(&self.tasks, &self.ranks, rank);
+                self.ranks[task.index()] = rank;
+                match behind {
+                    Some(behind) => self.tasks.insert_before(behind, task),
+                    None => self.tasks.push_last(task),
+                }
+            }
+        }
+    }
+
+    /// A task is not there any more. Tells whether it was.
+    pub fn leave(&mut self, task: Task) -> bool
+        ensures waiters { self.new ≡ record self.old { waiters = left_by task self.old.waiters } }
+        ensures there { result ≡ has_waiter task self.old.waiters }
+    {
+        self.tasks.remove(task)
+    }
+
+    /// A task that is there leaves its place and joins anew, with this priority.
+    pub fn reorder(&mut self, task: Task, priority: Pri)
+        requires { has_waiter task self.old.waiters ≡ true }
+        ensures { self.new ≡ record self.old { waiters = joined_by (waiter_of self.old.order task priority) self.old.waiters } }
+    {
+        self.place(task, priority);
+    }
+
+    /// A task joins with this priority, and leaves the place where it stood, if any.
+    pub fn place(&mut self, task: Task, priority: Pri)
+        ensures { self.new ≡ record self.old { waiters = joined_by (waiter_of self.old.order task priority) self.old.waiters } }
+    {
+        self.leave(task);
+        self.join(task, priority);
+    }
+
+    /// The task that waits first.
+    pub fn first(&self) -> Option<Task>
+        ensures { result ≡ first (map task_of self.now.waiters) }
+    {
+        self.tasks.first()
+    }
+
+    /// The waiting tasks in their order.
+    pub fn list(&self) -> ArrayVec<Task, 64>
+        ensures tasks { result.items ≡ map task_of self.now.waiters }
+        ensures distinct { AreDistinct (map task_of self.now.waiters) }
+    {
+        self.tasks.list()
+    }
+}
+
+/// The first of some tasks whose rank is above this one.
+fn spot(tasks: &TaskList, ranks: &[u8; 64], rank: u8) -> Option<Task>
+    ensures { result ≡ spot_in (rank_in ranks.now) rank tasks.now }
+{
+    let mut here = tasks.first();
+    for _ in 0..64usize {
+        match here {
+            Some(task) => {
+                if rank < ranks[task.index()] {
+                    return Some(task);
+                }
+                here = tasks.next(task);
+            }
+            None => return None,
+        }
+    }
+    None
+}
