@@ -1,0 +1,26 @@
+-- What a state with lists tells, where it stands for one with numbers.
+use Rattle.std.specs.Prelude.{◌≡◌}
+use Rattle.fmp_codes.specs.declared.numbers.Proc.{Proc}
+use Rattle.fmp_codes.specs.declared.numbers.Task.{Task}
+use Rattle.fmp_codes.specs.declared.numbers.Object.{Object}
+use Rattle.fmp_codes.specs.declared.numbers.Pri.{Pri}
+use Rattle.fmp_links.specs.Tasks.{has_task}
+use Rattle.fmp_machine.specs.declared.machine.QueueKind.{QueueKind}
+use Rattle.fmp_machine.specs.World.{World}
+use Rattle.fmp_machine.specs.Keeping.{top, queue}
+use Rattle.fmp_machine.specs.Numbers.{State, numbered}
+use Rattle.fmp_queues.specs.Queues.{Queues, listed}
+use Rattle.fmp_lists.specs.Stands.{is_ready_at, is_waiter_of, has_ticks}
+
+-- the lists are the model's lists
+pub record TellsAlike (k : World Queues) (m : State) : Type 0 where
+  pub top : (p : Proc) → top listed k p ≡ top numbered m p
+  pub ready : (p : Proc) (n : Pri) → listed.ready k.order k.tasks p n ≡ numbered.ready m.order m.tasks p n
+  pub waiters : (x : QueueKind) (o : Object) → queue listed k x o ≡ queue numbered m x o
+  pub timed : listed.timed k.order k.waits_left ≡ numbered.timed m.order m.waits_left
+
+-- a task stands in a list exactly where its fields name that list
+pub record ListsAreRight (k : World Queues) : Type 0 where
+  pub ready : (p : Proc) (n : Pri) (t : Task) → has_task t (listed.ready k.order k.tasks p n) ≡ is_ready_at k.tasks p n t
+  pub waiters : (x : QueueKind) (o : Object) (t : Task) → has_task t (queue listed k x o) ≡ is_waiter_of k.tasks x o t
+  pub timed : (t : Task) → has_task t (listed.timed k.order k.waits_left) ≡ has_ticks k.waits_left t
