@@ -59,6 +59,13 @@ impl Plain {
         step(&mut self.machine, event)
     }
 
+    /// Its state between two events.
+    pub fn machine(&self) -> &Machine
+        ensures { result.now ≡ self.now.state }
+    {
+        &self.machine
+    }
+
     /// How many steps it made.
     pub fn steps(&self) -> u64
         ensures { result ≡ self.now.steps }

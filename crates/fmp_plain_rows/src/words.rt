@@ -1,13 +1,24 @@
 //! The words of the definitions, on the plain machine.
-ghost use Rattle.std.specs.Prelude.{◌-◌, ◌^◌};
+ghost use Rattle.std.specs.Prelude.{◌≡◌, ◌-◌, ◌^◌};
 ghost use Rattle.fmp_machine.specs.Numbers.{Numbers, numbered};
 
 use crate::groups::{Group, is_runnable};
 use crate::locks::{free, holds};
 use crate::machine::Machine;
+use arrayvec::ArrayVec;
 use fmp_codes::{Pri, Proc, Runner, Task};
 use fmp_machine::{Limits, Processor, TaskRecord, Wait};
 use fmp_words::Words;
+
+impl Machine {
+    /// The ready tasks of a priority on a processor, in their precedence.
+    #[tactic(auto, unfolding(fmp_machine::specs::Numbers::numbered))]
+    pub fn ready(&self, p: Proc, priority: Pri) -> ArrayVec<Task, 64>
+        ensures { result.items ≡ numbered.ready self.now.order self.now.tasks p priority }
+    {
+        self.members(Group::ReadyAt(p, priority))
+    }
+}
 
 impl Words for Machine {
     ghost Order = { Numbers };

@@ -4,10 +4,10 @@ ghost use Rattle.fmpsim_run.specs.Faults.{failed_write};
 ghost use Rattle.fmpsim_run.specs.Runs.{Answered, CountsReads, IsAnswered, IsBegun, FirstConfigFault, FirstTextFault};
 
 use crate::fault::RunFault;
-use crate::simulate::simulate;
 use crate::sink::{Sink, write_out};
 use crate::source::Source;
 use crate::texts::{config_from, events_from};
+use fmp_kernel::simulate;
 use fmp_trace::trace_text;
 use std::alloc::Global;
 

@@ -5,7 +5,6 @@ mod calls;
 mod check;
 mod fault;
 mod memory;
-mod simulate;
 mod sink;
 mod source;
 mod status;

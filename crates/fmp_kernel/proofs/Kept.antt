@@ -1,0 +1,68 @@
+-- What the kernel keeps, and what it tells, over one step.
+use Rattle.std.proofs.Common.{◌≡◌, ◌≤◌, length, sym, ap, ◌∙◌, subst}
+use Rattle.fmp_codes.specs.declared.records.Event.{Event}
+use Rattle.fmp_codes.specs.declared.records.Record.{Record}
+use Rattle.fmp_machine.specs.World.{World}
+use Rattle.fmp_machine.specs.Numbers.{State, numbered}
+use Rattle.fmp_machine.specs.Step.{step}
+use Rattle.fmp_safety.specs.Runs.{processor_of}
+use Rattle.fmp_safety.specs.Safe.{Safe}
+use Rattle.fmp_safety.specs.Laws.{FindsNothing, TakesRequest, RunsTop}
+use Rattle.fmp_safety.proofs.Stepping.{numbered_tops, safe_step}
+use Rattle.fmp_safety.proofs.Listed.{numbered_lists}
+use Rattle.fmp_safety.proofs.Interrupts.{finds_nothing, takes_request, runs_top}
+use Rattle.fmp_queues.specs.Queues.{Queues, listed}
+use Rattle.fmp_lists.specs.Stands.{Stands, StepsMatch}
+use Rattle.fmp_lists.specs.Laws.{ListsAreRight}
+use Rattle.fmp_lists.proofs.Steps.{lists_refine}
+use Rattle.fmp_lists.proofs.SafeLists.{lists_safe, numbers_safe, lists_are_right}
+use Rattle.fmp_kernel.specs.Kept.{IsKept}
+use Rattle.fmp_kernel.proofs.Told.{takes_over, runs_over}
+
+module _ (k l : World Queues) (e : Event) (r : Record) (kept : IsKept k) (on : (processor_of e).number ≤ length k.processors) (did : (l, r) ≡ step listed k e) where
+  on_processor : (m : State) → Stands k m → (processor_of e).number ≤ length m.processors
+  on_processor m h = subst (λ (x : World Queues). (processor_of e).number ≤ length x.processors) h.same on
+
+  matches : (m : State) → Stands k m → StepsMatch (l, r) (step numbered m e)
+  matches m h = subst (λ (x : World Queues × Record). StepsMatch x (step numbered m e)) (sym did) (lists_refine k m e h (numbers_safe k m h (lists_safe k kept.state kept.stands kept.safe)) ((processor_of e).least, on_processor m h))
+
+  pub stands_after : (m : State) → Stands k m → Stands l (step numbered m e).0
+  stands_after m h = (matches m h).stands
+
+  pub record_after : (m : State) → Stands k m → r ≡ (step numbered m e).1
+  record_after m h = (matches m h).same
+
+  pub count_after : length l.processors ≡ length k.processors
+  count_after =
+      let m = kept.state in
+      ap (λ (x : World Queues). length x.processors) (stands_after m kept.stands).same
+      ∙ (safe_step numbered numbered_tops numbered_lists m e kept.safe ((processor_of e).least, on_processor m kept.stands)).count
+      ∙ sym (ap (λ (x : World Queues). length x.processors) kept.stands.same)
+
+  pub kept_after : IsKept l
+  kept_after = record {
+    state = (step numbered kept.state e).0;
+    stands = stands_after kept.state kept.stands;
+    safe = (safe_step numbered numbered_tops numbered_lists kept.state e kept.safe ((processor_of e).least, on_processor kept.state kept.stands)).safe;
+  }
+
+  pub nothing_after : FindsNothing listed k e r l
+  nothing_after = subst (λ (x : World Queues × Record). FindsNothing listed k e x.1 x.0) (sym did) (finds_nothing listed k e)
+
+  pub taken_after : TakesRequest k e r l
+  taken_after =
+      let m = kept.state in
+      takes_over k l m (step numbered m e).0 kept.stands (stands_after m kept.stands) e r
+      (subst (λ (x : Record). TakesRequest m e x (step numbered m e).0) (sym (record_after m kept.stands)) (takes_request numbered m numbered_lists e))
+
+  pub top_after : RunsTop listed k e r l
+  top_after =
+      let m = kept.state in
+      runs_over k l m (step numbered m e).0 kept.stands (stands_after m kept.stands) e r
+      (subst (λ (x : Record). RunsTop numbered m e x (step numbered m e).0) (sym (record_after m kept.stands)) (runs_top numbered m numbered_lists e))
+
+pub kept_safe : (k : World Queues) → IsKept k → Safe listed k
+kept_safe k h = lists_safe k h.state h.stands h.safe
+
+pub kept_lists : (k : World Queues) → IsKept k → ListsAreRight k
+kept_lists k h = lists_are_right k h.state h.stands

@@ -1,0 +1,18 @@
+use Rattle.std.proofs.Common.{◌≡◌, ◌≤◌, ◌++◌, length, drop}
+use Rattle.std.specs.Vec.{vec_capacity}
+use Rattle.fmp_machine.specs.Boot.{booted}
+use Rattle.fmp_machine.specs.Numbers.{State, numbered}
+use Rattle.fmp_machine.specs.Step.{answers}
+use Rattle.fmp_lists.specs.Stands.{Stands}
+use Rattle.fmp_kernel.proofs.answers.simulate.Given as goal
+
+-- the records so far, and those that the model tells of the events that are left, are all
+abbrev pub invariant-loop-event : goal.invariant-loop-event
+invariant-loop-event l = record {
+  room : length l.events ≤ vec_capacity l.records;
+  count : length l.records.items ≡ l.event-index;
+  processors : length l.kernel.processors ≡ l.config.processors;
+  state : State;
+  stands : Stands l.kernel state;
+  told : l.records.items ++ answers numbered state (drop l.event-index l.events) ≡ answers numbered (booted l.config) l.events;
+}

@@ -1,0 +1,19 @@
+use Rattle.std.proofs.Common.{length, ap, ◌∙◌}
+use Rattle.fmp_machine.specs.World.{World}
+use Rattle.fmp_safety.proofs.Booted.{booted_safe, count_booted}
+use Rattle.fmp_queues.specs.Queues.{Queues}
+use Rattle.fmp_lists.proofs.Boots.{boot_stands}
+use Rattle.fmp_kernel.proofs.kernel.Kernel.boot.Goals as goal
+
+pub invariant_of-result : goal.invariant_of-result
+invariant_of-result c =
+    rw (c.boot.ensures.state, c.in_ok-machine.ensures)
+    (record { state = _; stands = boot_stands c.args.config.now c.boot.ensures.valid.few_tasks; safe = booted_safe c.args.config.now c.boot.ensures.valid })
+
+pub returns-clause-stands : goal.returns-clause-stands
+returns-clause-stands c = rw (c.boot.ensures.state, c.in_ok-machine.ensures) (boot_stands c.args.config.now c.boot.ensures.valid.few_tasks)
+
+pub returns-clause-processors : goal.returns-clause-processors
+returns-clause-processors c =
+    rw (c.boot.ensures.state, c.in_ok-machine.ensures)
+    (ap (λ (w : World Queues). length w.processors) (boot_stands c.args.config.now c.boot.ensures.valid.few_tasks).same ∙ count_booted c.args.config.now)

@@ -1,0 +1,7 @@
+use Rattle.std.proofs.Common.{ap, ◌∙◌}
+use Rattle.fmp_machine.specs.World.{World, handler}
+use Rattle.fmp_queues.specs.Queues.{Queues}
+use Rattle.fmp_kernel.proofs.kernel.Kernel.handler.Goals as goal
+
+pub returns-clause-model : goal.returns-clause-model
+returns-clause-model c = λ m stands. c.handler.ensures ∙ ap (λ (w : World Queues). handler w c.args.p) (c.self.view_is ∙ stands.same)

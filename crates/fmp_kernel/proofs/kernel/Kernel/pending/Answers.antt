@@ -1,0 +1,8 @@
+use Rattle.std.proofs.Common.{ap, ◌∙◌}
+use Rattle.fmp_machine.specs.declared.machine.Processor.{Processor}
+use Rattle.fmp_machine.specs.World.{World, processor}
+use Rattle.fmp_queues.specs.Queues.{Queues}
+use Rattle.fmp_kernel.proofs.kernel.Kernel.pending.Goals as goal
+
+pub returns-clause-model : goal.returns-clause-model
+returns-clause-model c = λ m stands. ap (λ (x : Processor). x.latch) c.processor.ensures ∙ ap (λ (w : World Queues). (processor w c.args.p).latch) (c.self.view_is ∙ stands.same)

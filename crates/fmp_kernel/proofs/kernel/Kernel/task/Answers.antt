@@ -1,0 +1,7 @@
+use Rattle.std.proofs.Common.{ap, ◌∙◌}
+use Rattle.fmp_machine.specs.World.{World, task}
+use Rattle.fmp_queues.specs.Queues.{Queues}
+use Rattle.fmp_kernel.proofs.kernel.Kernel.task.Goals as goal
+
+pub returns-clause-model : goal.returns-clause-model
+returns-clause-model c = λ m stands. c.task.ensures ∙ ap (λ (w : World Queues). task w c.args.t) (c.self.view_is ∙ stands.same)

@@ -1,0 +1,98 @@
+//! What the kernel shows of its state: what it reads in its lists, which is what each state of the model tells for which it
+//! stands.
+ghost use Rattle.std.specs.Prelude.{◌≡◌, ◌≤◌, length};
+ghost use Rattle.fmp_machine.specs.World.{task, processor, handler, is_held};
+ghost use Rattle.fmp_machine.specs.Keeping.{top, queue};
+ghost use Rattle.fmp_machine.specs.Numbers.{State, numbered};
+ghost use Rattle.fmp_queues.specs.Queues.{listed};
+ghost use Rattle.fmp_lists.specs.Stands.{Stands};
+
+use crate::kernel::Kernel;
+use arrayvec::ArrayVec;
+use fmp_codes::{Object, Pri, Proc, Runner, Task};
+use fmp_machine::{QueueKind, TaskRecord};
+use fmp_words::{Objects, Words, is_held};
+
+impl Kernel {
+    /// How many tasks there are.
+    pub fn task_count(&self) -> usize
+        ensures lists { result ≡ length self.now.tasks }
+        ensures model { (m : State) → Stands self.now m → result ≡ length m.tasks }
+        ensures few { result ≤ 64 }
+    {
+        self.machine.task_count()
+    }
+
+    /// The record of a task.
+    pub fn task(&self, t: Task) -> TaskRecord
+        ensures lists { result ≡ task self.now t }
+        ensures model { (m : State) → Stands self.now m → result ≡ task m t }
+    {
+        self.machine.task(t)
+    }
+
+    /// How many processors there are.
+    pub fn processors(&self) -> usize
+        ensures lists { result ≡ length self.now.processors }
+        ensures model { (m : State) → Stands self.now m → result ≡ length m.processors }
+        ensures few { result ≤ 8 }
+    {
+        self.machine.processor_count()
+    }
+
+    /// The task that a processor runs.
+    pub fn running(&self, p: Proc) -> Option<Task>
+        ensures lists { result ≡ (processor self.now p).running }
+        ensures model { (m : State) → Stands self.now m → result ≡ (processor m p).running }
+    {
+        self.machine.processor(p).running
+    }
+
+    /// Whether a request to a processor is pending.
+    pub fn pending(&self, p: Proc) -> bool
+        ensures lists { result ≡ (processor self.now p).latch }
+        ensures model { (m : State) → Stands self.now m → result ≡ (processor m p).latch }
+    {
+        self.machine.processor(p).latch
+    }
+
+    /// The handler that runs on a processor.
+    pub fn handler(&self, p: Proc) -> Option<Runner>
+        ensures lists { result ≡ handler self.now p }
+        ensures model { (m : State) → Stands self.now m → result ≡ handler m p }
+    {
+        self.machine.handler(p)
+    }
+
+    /// Whether dispatching on a processor is held.
+    pub fn held(&self, p: Proc) -> bool
+        ensures lists { result ≡ is_held self.now p }
+        ensures model { (m : State) → Stands self.now m → result ≡ is_held m p }
+    {
+        is_held(&self.machine, p)
+    }
+
+    /// The task that comes first on a processor.
+    pub fn top(&self, p: Proc) -> Option<Task>
+        ensures lists { result ≡ top listed self.now p }
+        ensures model { (m : State) → Stands self.now m → result ≡ top numbered m p }
+    {
+        self.machine.top(p)
+    }
+
+    /// The ready tasks of a priority on a processor, in their precedence.
+    pub fn ready(&self, p: Proc, priority: Pri) -> ArrayVec<Task, 64>
+        ensures lists { result.items ≡ listed.ready self.now.order self.now.tasks p priority }
+        ensures model { (m : State) → Stands self.now m → result.items ≡ numbered.ready m.order m.tasks p priority }
+    {
+        self.machine.ready(p, priority)
+    }
+
+    /// The tasks that wait in a queue of an object, in their order.
+    pub fn waiting(&self, kind: QueueKind, o: Object) -> ArrayVec<Task, 64>
+        ensures lists { result.items ≡ queue listed self.now kind o }
+        ensures model { (m : State) → Stands self.now m → result.items ≡ queue numbered m kind o }
+    {
+        self.machine.waiters(kind, o)
+    }
+}

@@ -1,0 +1,2 @@
+pub mod InState
+pub mod KindLists

@@ -1,0 +1,268 @@
+//! All objects for which tasks wait.
+ghost use Rattle.std.specs.Prelude.{◌≡◌, ◌≤◌, ◌<◌, ◌≤ℤ◌, ◌++◌, ◌∷◌, [], pos, not, length, map, take, slice_set, IfOk, IsTrue};
+ghost use Rattle.std.specs.List.{position};
+ghost use Rattle.fmp_machine.specs.Objects.{blank_semaphore, blank_eventflag, no_data_queue, blank_pool};
+ghost use Rattle.fmp_machine.specs.World.{first, rest, item, with_item};
+ghost use Rattle.fmp_waitq.specs.Queue.{task_of, left_by, joined_by, waiter_of};
+ghost use Rattle.fmp_queues.specs.Queues.{queue, place_of, place_in, changed};
+ghost use Rattle.fmp_kernel_objects.specs.Kinds.{is_handed_in};
+ghost use Rattle.fmp_kernel_objects.specs.Objects.{blank_objects, order_for};
+
+use crate::data_queues::DataQueues;
+use crate::eventflags::Eventflags;
+use crate::pools::Pools;
+use crate::semaphores::Semaphores;
+use arrayvec::ArrayVec;
+use fmp_codes::{Object, Pri, Task};
+use fmp_machine::{Config, DataQueueSetup, Eventflag, Order, QueueKind, Semaphore, Wait};
+use std::alloc::AllocError;
+use std::marker::Model;
+
+/// All objects for which tasks wait, each with the tasks that do.
+#[derive(Drop)]
+pub struct Resources {
+    semaphores: Semaphores,
+    eventflags: Eventflags,
+    data_queues: DataQueues,
+    pools: Pools,
+}
+
+impl Model for Resources {
+    ghost use Rattle.fmp_kernel_objects.specs.Objects.{AllObjects};
+
+    ghost Value = { AllObjects };
+
+    ghost view = { λ a. record {
+      semaphores = a.semaphores.semaphores;
+      eventflags = a.eventflags.eventflags;
+      data_queues = a.data_queues.setups;
+      contents = a.data_queues.contents;
+      pools = a.pools.pools;
+      waits = record {
+        semaphores = a.semaphores.waiters;
+        eventflags = a.eventflags.waiters;
+        senders = a.data_queues.senders;
+        receivers = a.data_queues.receivers;
+        pools = a.pools.waiters;
+      };
+    } };
+}
+
+impl Resources {
+    /// The objects of a configuration as it says, for which nobody waits. Takes all the memory that they will ever need, or
+    /// fails where there is not enough.
+    pub fn new(config: &Config) -> Result<Resources, AllocError>
+        ensures { IfOk result (λ r. r ≡ blank_objects config.now) }
+    {
+        let alloc = config.allocator();
+        Ok(Resources {
+            semaphores: Semaphores::new(alloc, config.semaphores())?,
+            eventflags: Eventflags::new(alloc, config.eventflags())?,
+            data_queues: DataQueues::new(alloc, config.data_queues())?,
+            pools: Pools::new(alloc, config.pools())?,
+        })
+    }
+
+    // ---- waiting
+
+    /// The task that comes first in a queue of an object.
+    pub fn first_waiter(&self, kind: QueueKind, o: Object) -> Option<Task>
+        ensures { result ≡ first (map task_of (queue self.now.waits kind o)) }
+    {
+        match kind {
+            QueueKind::Semaphore => self.semaphores.first(o),
+            QueueKind::Eventflag => self.eventflags.first(o),
+            QueueKind::Send => self.data_queues.first_sender(o),
+            QueueKind::Receive => self.data_queues.first_receiver(o),
+            QueueKind::Pool => self.pools.first(o),
+        }
+    }
+
+    /// The tasks that wait in a queue of an object, in their order.
+    pub fn waiters(&self, kind: QueueKind, o: Object) -> ArrayVec<Task, 64>
+        ensures { result.items ≡ map task_of (queue self.now.waits kind o) }
+    {
+        match kind {
+            QueueKind::Semaphore => self.semaphores.list(o),
+            QueueKind::Eventflag => self.eventflags.list(o),
+            QueueKind::Send => self.data_queues.senders(o),
+            QueueKind::Receive => self.data_queues.receivers(o),
+            QueueKind::Pool => self.pools.list(o),
+        }
+    }
+
+    /// The order of the queue in which a wait stands. A wait that stands in none counts as one by arrival.
+    pub fn order_of(&self, wait: Wait) -> Order
+        ensures { result ≡ order_for self.now wait }
+    {
+        match wait {
+            Wait::Sleep | Wait::Delay | Wait::Receive(_) => Order::First,
+            Wait::Semaphore(s) => self.semaphores.semaphore(s).setup.order,
+            Wait::Eventflag(f, _, _) => self.eventflags.eventflag(f).setup.order,
+            Wait::Send(d, _) => self.data_queues.setup(d).order,
+            Wait::Pool(m) => self.pools.order(m),
+        }
+    }
+
+    /// A task with this wait and this priority joins the queue in which the wait stands, if it stands in one, and leaves the
+    /// place where it stood there.
+    pub fn join(&mut self, task: Task, priority: Pri, wait: Wait)
+        ensures { self.new ≡ record self.old { waits = changed self.old.waits (place_of wait) (joined_by (waiter_of (order_for self.old wait) task priority)) } }
+    {
+        match wait {
+            Wait::Sleep | Wait::Delay => {}
+            Wait::Semaphore(s) => self.semaphores.place(s, task, priority),
+            Wait::Eventflag(f, _, _) => self.eventflags.place(f, task, priority),
+            Wait::Send(d, _) => self.data_queues.place_sender(d, task, priority),
+            Wait::Receive(d) => self.data_queues.place_receiver(d, task, priority),
+            Wait::Pool(m) => self.pools.place(m, task, priority),
+        }
+    }
+
+    /// A task with this wait leaves the queue in which the wait stands, if there is such.
+    pub fn leave(&mut self, task: Task, wait: Option<Wait>)
+        ensures { self.new ≡ record self.old { waits = changed self.old.waits (place_in wait) (left_by task) } }
+    {
+        match wait {
+            None | Some(Wait::Sleep | Wait::Delay) => {}
+            Some(Wait::Semaphore(s)) => self.semaphores.leave(s, task),
+            Some(Wait::Eventflag(f, _, _)) => self.eventflags.leave(f, task),
+            Some(Wait::Send(d, _)) => self.data_queues.leave_senders(d, task),
+            Some(Wait::Receive(d)) => self.data_queues.leave_receivers(d, task),
+            Some(Wait::Pool(m)) => self.pools.leave(m, task),
+        }
+    }
+
+    // ---- semaphores
+
+    /// How many semaphores there are.
+    pub fn semaphore_count(&self) -> usize
+        ensures value { result ≡ length self.now.semaphores }
+        ensures few { result ≤ 32 }
+    {
+        self.semaphores.len()
+    }
+
+    /// A semaphore.
+    pub fn semaphore(&self, s: Object) -> Semaphore
+        ensures { result ≡ item blank_semaphore self.now.semaphores s.number }
+    {
+        self.semaphores.semaphore(s)
+    }
+
+    /// Changes the count of a semaphore.
+    pub fn set_count(&mut self, s: Object, count: u16)
+        ensures { let semaphore = item blank_semaphore self.old.semaphores s.number in
+            self.new ≡ record self.old { semaphores = with_item self.old.semaphores s.number (record semaphore { count = count }) } }
+    {
+        self.semaphores.set_count(s, count);
+    }
+
+    // ---- eventflags
+
+    /// How many eventflags there are.
+    pub fn eventflag_count(&self) -> usize
+        ensures value { result ≡ length self.now.eventflags }
+        ensures few { result ≤ 32 }
+    {
+        self.eventflags.len()
+    }
+
+    /// An eventflag.
+    pub fn eventflag(&self, f: Object) -> Eventflag
+        ensures { result ≡ item blank_eventflag self.now.eventflags f.number }
+    {
+        self.eventflags.eventflag(f)
+    }
+
+    /// Changes the pattern of an eventflag.
+    pub fn set_pattern(&mut self, f: Object, pattern: u32)
+        ensures { let eventflag = item blank_eventflag self.old.eventflags f.number in
+            self.new ≡ record self.old { eventflags = with_item self.old.eventflags f.number (record eventflag { pattern = pattern }) } }
+    {
+        self.eventflags.set_pattern(f, pattern);
+    }
+
+    // ---- data queues
+
+    /// How many data queues there are.
+    pub fn data_queue_count(&self) -> usize
+        ensures value { result ≡ length self.now.data_queues }
+        ensures few { result ≤ 32 }
+    {
+        self.data_queues.len()
+    }
+
+    /// What the configuration says of a data queue.
+    pub fn data_queue(&self, d: Object) -> DataQueueSetup
+        ensures { result ≡ item no_data_queue self.now.data_queues d.number }
+    {
+        self.data_queues.setup(d)
+    }
+
+    /// How many values there are in a data queue.
+    pub fn value_count(&self, d: Object) -> usize
+        ensures value { result ≡ length (item [] self.now.contents d.number) }
+        ensures within { result ≤ (item no_data_queue self.now.data_queues d.number).capacity }
+    {
+        self.data_queues.value_count(d)
+    }
+
+    /// The oldest value of a data queue.
+    pub fn first_value(&self, d: Object) -> Option<i64>
+        ensures { result ≡ first (item [] self.now.contents d.number) }
+    {
+        self.data_queues.first_value(d)
+    }
+
+    /// Takes the oldest value out of a data queue, if there is one.
+    pub fn drop_value(&mut self, d: Object)
+        ensures { let values = item [] self.old.contents d.number in
+            self.new ≡ record self.old { contents = with_item self.old.contents d.number (rest values) } }
+    {
+        self.data_queues.drop_value(d);
+    }
+
+    /// Puts a value last into a data queue that has a place for it.
+    pub fn add_value(&mut self, d: Object, value: i64)
+        requires { length (item [] self.old.contents d.number) < (item no_data_queue self.old.data_queues d.number).capacity }
+        ensures { let values = item [] self.old.contents d.number in
+            self.new ≡ record self.old { contents = with_item self.old.contents d.number (values ++ value ∷ []) } }
+    {
+        self.data_queues.add_value(d, value);
+    }
+
+    // ---- pools
+
+    /// How many pools there are.
+    pub fn pool_count(&self) -> usize
+        ensures value { result ≡ length self.now.pools }
+        ensures few { result ≤ 32 }
+    {
+        self.pools.len()
+    }
+
+    /// The least block of a pool that is not handed out.
+    pub fn free_block(&self, m: Object) -> Option<u8>
+        ensures { let pool = item blank_pool self.now.pools m.number in
+            result ≡ position not (take pool.setup.blocks pool.handed) }
+    {
+        self.pools.free_block(m)
+    }
+
+    /// Whether an argument is the number of a block of a pool that is handed out.
+    pub fn is_handed(&self, m: Object, block: i32) -> bool
+        ensures value { result ≡ is_handed_in (item blank_pool self.now.pools m.number) block }
+        ensures few { IsTrue result → block ≤ℤ pos 63 }
+    {
+        self.pools.is_handed(m, block)
+    }
+
+    /// Marks a block of a pool as handed out or as free.
+    pub fn set_handed(&mut self, m: Object, block: u8, handed: bool)
+        ensures { let pool = item blank_pool self.old.pools m.number in
+            self.new ≡ record self.old { pools = with_item self.old.pools m.number (record pool { handed = slice_set pool.handed block handed }) } }
+    {
+        self.pools.set_handed(m, block, handed);
+    }
+}

@@ -1,0 +1,67 @@
+//! The state of the kernel. Where there is none of a number, a read gives a blank record and a write does nothing.
+ghost use Rattle.std.specs.Prelude.{◌≡◌, IfOk};
+ghost use Rattle.fmp_machine.specs.Boot.{blank};
+ghost use Rattle.fmp_queues.specs.Queues.{listed, no_queues};
+
+use arrayvec::ArrayVec;
+use fmp_codes::{Pri, Proc, Task};
+use fmp_dispatch::Dispatch;
+use fmp_kernel_objects::Resources;
+use fmp_kernel_time::Assigned;
+use fmp_machine::Config;
+use fmp_ready::ReadyQueues;
+use fmp_spin::Spins;
+use std::alloc::AllocError;
+use std::marker::Model;
+
+/// The state of the kernel. Contracts see it as a state of the definitions, over lists.
+#[derive(Drop)]
+pub struct Machine {
+    /// The tasks, the cyclic handlers and the alarms, with the ticks that each has left.
+    pub(crate) assigned: Assigned,
+    pub(crate) ready: ReadyQueues,
+    /// The objects for which tasks wait, with their wait queues.
+    pub(crate) resources: Resources,
+    pub(crate) dispatch: Dispatch,
+    pub(crate) spins: Spins,
+    /// The greatest number of queued wakeups.
+    pub(crate) most_wakeups: u16,
+    /// The greatest priority.
+    pub(crate) last_priority: Pri,
+}
+
+impl Model for Machine {
+    ghost use Rattle.fmp_machine.specs.World.{World};
+    ghost use Rattle.fmp_queues.specs.Queues.{Queues};
+
+    ghost Value = { World Queues };
+
+    ghost view = { λ a. record { timer = a.assigned.timer; limits = record { wakeups = a.most_wakeups; priorities = a.last_priority.number }; tasks = a.assigned.tasks; waits_left = a.assigned.waits_left; processors = a.dispatch.processors; due = a.dispatch.due; semaphores = a.resources.semaphores; eventflags = a.resources.eventflags; data_queues = a.resources.data_queues; contents = a.resources.contents; pools = a.resources.pools; cyclics = a.assigned.cyclics; cyclics_left = a.assigned.cyclics_left; alarms = a.assigned.alarms; alarms_left = a.assigned.alarms_left; holders = a.spins; order = record { ready = a.ready.lists; waits = a.resources.waits; timed = a.assigned.timed } } };
+}
+
+impl Machine {
+    /// The kernel of a configuration, on which every task is dormant and no processor runs one. It takes all the memory that
+    /// it will ever need, or fails where there is not enough.
+    pub fn blank(config: &Config) -> Result<Machine, AllocError>
+        ensures { IfOk result (λ m. m ≡ blank (no_queues config.now) config.now) }
+    {
+        let limits = config.limits();
+        Ok(Machine {
+            assigned: Assigned::new(config),
+            ready: ReadyQueues::new(),
+            resources: Resources::new(config)?,
+            dispatch: Dispatch::new(config.processors()),
+            spins: Spins::new(config.spin_locks()),
+            most_wakeups: limits.wakeups,
+            last_priority: Pri::new(limits.priorities),
+        })
+    }
+
+    /// The ready tasks of a priority on a processor, in their precedence.
+    #[tactic(auto, unfolding(fmp_queues::specs::Queues::listed))]
+    pub fn ready(&self, p: Proc, priority: Pri) -> ArrayVec<Task, 64>
+        ensures { result.items ≡ listed.ready self.now.order self.now.tasks p priority }
+    {
+        self.ready.list(p, priority)
+    }
+}

@@ -1,0 +1,111 @@
+-- What counts at boot.
+use Rattle.std.proofs.Common.{◌≡◌, ℕ, zero, suc, ◌+◌, ◌-◌, ◌<◌, ◌≤◌, Bool, true, false, cond, Option, Some, None, List, [], ◌∷◌, length, map, set, get_or, refl, sym, ap, ◌∙◌, subst, arith, ⊎_elim}
+use Rattle.std.specs.Prelude.{option_map, nat_lt}
+use Rattle.std.proofs.lemmas.Bool.{cases_lt, cases_eq, lt-ltb, le-ltb}
+use Rattle.std.proofs.lemmas.List.{get_or-map, get_or-set_same, get_or-set_other, length-map, ext_get_or}
+use Rattle.fmp_machine.specs.declared.setup.CyclicSetup.{CyclicSetup}
+use Rattle.fmp_machine.specs.declared.machine.TaskRecord.{TaskRecord}
+use Rattle.fmp_machine.specs.declared.machine.Cyclic.{Cyclic}
+use Rattle.fmp_machine.specs.declared.machine.Alarm.{Alarm}
+use Rattle.fmp_machine.specs.Boot.{phase_left}
+use Rattle.fmp_machine.specs.Objects.{no_cyclic}
+use Rattle.fmp_machine.specs.World.{no_task}
+use Rattle.fmp_time.specs.Left.{Left, ticks_of}
+use Rattle.fmp_kernel_time.specs.Assignments.{lefts, blank_cyclic, blank_alarm}
+use Rattle.fmp_kernel_time.specs.Counting.{IsAt, AreInStep}
+use Rattle.fmp_kernel_time.specs.Starting.{first_cyclic, start_left, started_at}
+use Rattle.fmp_kernel_time.proofs.Lefts.{length-lefts, lefts-at}
+
+-- One cyclic after the other.
+
+pub none_started : (cyclics : List Cyclic) (k : ℕ) → started_at cyclics 0 k ≡ None
+none_started cyclics k = elim (nat_lt k 96) as (λ (b : Bool). cond b None (cond (nat_lt (k - 96) 0) (start_left (get_or cyclics (k - 96) blank_cyclic)) None) ≡ None)
+    [ true ↦ refl | false ↦ ap (λ (b : Bool). cond b (start_left (get_or cyclics (k - 96) blank_cyclic)) None) (le-ltb (k - 96) 0 (omega arith)) ]
+
+-- the item of the next one
+pub started_next : (cyclics : List Cyclic) (i k : ℕ) → k ≡ 96 + i → started_at cyclics (i + 1) k ≡ start_left (get_or cyclics i blank_cyclic)
+started_next cyclics i k e =
+    let at : k - 96 ≡ i = omega (arith, e) in
+    ap (λ (b : Bool). cond b None (cond (nat_lt (k - 96) (i + 1)) (start_left (get_or cyclics (k - 96) blank_cyclic)) None)) (le-ltb k 96 (omega (arith, e)))
+    ∙ ap (λ (b : Bool). cond b (start_left (get_or cyclics (k - 96) blank_cyclic)) None) (lt-ltb (k - 96) (i + 1) (omega (arith, at)))
+    ∙ ap (λ (j : ℕ). start_left (get_or cyclics j blank_cyclic)) at
+
+pub started_before : (cyclics : List Cyclic) (i k : ℕ) → k ≡ 96 + i → started_at cyclics i k ≡ None
+started_before cyclics i k e =
+    ap (λ (b : Bool). cond b None (cond (nat_lt (k - 96) i) (start_left (get_or cyclics (k - 96) blank_cyclic)) None)) (le-ltb k 96 (omega (arith, e)))
+    ∙ ap (λ (b : Bool). cond b (start_left (get_or cyclics (k - 96) blank_cyclic)) None) (le-ltb (k - 96) i (omega (arith, e)))
+
+-- another item
+pub started_other : (cyclics : List Cyclic) (i k : ℕ) → (k ≡ 96 + i → ⊥) → started_at cyclics (i + 1) k ≡ started_at cyclics i k
+started_other cyclics i k apart =
+    ⊎_elim (λ (h : k < 96). rw (lt-ltb k 96 h) refl)
+    (λ (h : 96 ≤ k). rw (le-ltb k 96 h) (ap (λ (b : Bool). cond b (start_left (get_or cyclics (k - 96) blank_cyclic)) None)
+    (⊎_elim (λ (g : k - 96 < i). lt-ltb (k - 96) (i + 1) (omega (arith, g)) ∙ sym (lt-ltb (k - 96) i g))
+    (λ (g : i ≤ k - 96). le-ltb (k - 96) (i + 1) (omega (arith, g, h, apart)) ∙ sym (le-ltb (k - 96) i g)) (cases_lt (k - 96) i))))
+    (cases_lt k 96)
+
+-- the next one is not started, or it is
+pub start_none : (cyclics : List Cyclic) (left : List (Option Left)) (i : ℕ) → start_left (get_or cyclics i blank_cyclic) ≡ None → ((k : ℕ) → k < 128 → get_or left k None ≡ started_at cyclics i k) →
+    (k : ℕ) → k < 128 → get_or left k None ≡ started_at cyclics (i + 1) k
+start_none cyclics left i none h k low =
+    h k low ∙ ⊎_elim (λ (e : k ≡ 96 + i). started_before cyclics i k e ∙ sym (started_next cyclics i k e ∙ none)) (λ (e : k ≡ 96 + i → ⊥). sym (started_other cyclics i k e)) (cases_eq k (96 + i))
+
+pub start_some : (cyclics : List Cyclic) (left : List (Option Left)) (i at : ℕ) (l : Option Left) → at ≡ 96 + i → at < length left → l ≡ start_left (get_or cyclics i blank_cyclic) →
+    ((k : ℕ) → k < 128 → get_or left k None ≡ started_at cyclics i k) → (k : ℕ) → k < 128 → get_or (set left at l) k None ≡ started_at cyclics (i + 1) k
+start_some cyclics left i at l e within some h k low =
+    ⊎_elim (λ (f : k ≡ at). ap (λ (j : ℕ). get_or (set left at l) j None) f ∙ get_or-set_same left at l None within ∙ some ∙ sym (started_next cyclics i k (f ∙ e)))
+    (λ (f : k ≡ at → ⊥). get_or-set_other left at k l None f ∙ h k low ∙ sym (started_other cyclics i k (λ (g : k ≡ 96 + i). f (g ∙ sym e))))
+    (cases_eq k at)
+
+-- All.
+
+none_at : {X : Type 0} (ss : List X) (i : ℕ) → get_or {A = Option ℕ} (map (λ s. None) ss) i None ≡ None
+none_at [] i = refl
+none_at (s ∷ ss) zero = refl
+none_at (s ∷ ss) (suc i) = none_at ss i
+
+phase_same : (s : CyclicSetup) → option_map ticks_of (start_left (first_cyclic s)) ≡ phase_left s
+phase_same s = elim s.starts as (λ (b : Bool). option_map ticks_of (cond b (Some (record { processor = s.class.initial; ticks = s.phase + 1 })) None) ≡ cond b (Some (s.phase + 1)) None) [ true ↦ refl | false ↦ refl ]
+
+start_at : (c : Cyclic) → IsAt c.assigned (start_left c)
+start_at c = elim c.setup.starts as (λ (b : Bool). IsAt c.assigned (cond b (Some (record { processor = c.assigned; ticks = c.setup.phase + 1 })) None)) [ true ↦ refl | false ↦ tt ]
+
+module _ (cyclics : List Cyclic) (left : List (Option Left)) (few : length cyclics ≤ 32) (all : length left ≡ 128) (h : (k : ℕ) → k < 128 → get_or left k None ≡ started_at cyclics (length cyclics) k) where
+  low : (k : ℕ) → k < 96 → get_or left k None ≡ None
+  low k l = h k (omega (arith, l)) ∙ ap (λ (b : Bool). cond b None (cond (nat_lt (k - 96) (length cyclics)) (start_left (get_or cyclics (k - 96) blank_cyclic)) None)) (lt-ltb k 96 l)
+
+  high : (i : ℕ) → i < length cyclics → get_or left (96 + i) None ≡ start_left (get_or cyclics i blank_cyclic)
+  high i l =
+      let at : 96 + i - 96 ≡ i = omega arith in
+      h (96 + i) (omega (arith, l, few))
+      ∙ ap (λ (b : Bool). cond b None (cond (nat_lt (96 + i - 96) (length cyclics)) (start_left (get_or cyclics (96 + i - 96) blank_cyclic)) None)) (le-ltb (96 + i) 96 (omega arith))
+      ∙ ap (λ (b : Bool). cond b (start_left (get_or cyclics (96 + i - 96) blank_cyclic)) None) (lt-ltb (96 + i - 96) (length cyclics) (omega (arith, at, l)))
+      ∙ ap (λ (j : ℕ). start_left (get_or cyclics j blank_cyclic)) at
+
+  pub none_left : {X : Type 0} (place n : ℕ) (ss : List X) → length ss ≡ n → place + n ≤ 96 → lefts left place n ≡ map (λ s. None) ss
+  none_left place n ss e l =
+      ext_get_or None (lefts left place n) (map (λ s. None) ss) (length-lefts left place n ∙ sym (length-map ss (λ s. None) ∙ e))
+      (λ i g. let within : i < n = omega (arith, g, length-lefts left place n) in
+      lefts-at left place n i within ∙ ap (option_map ticks_of) (low (place + i) (omega (arith, within, l))) ∙ sym (none_at ss i))
+
+  pub phases_left : (setups : List CyclicSetup) → cyclics ≡ map first_cyclic setups → lefts left 96 (length cyclics) ≡ map phase_left setups
+  phases_left setups e =
+      let same : length cyclics ≡ length setups = ap length e ∙ length-map setups first_cyclic in
+      ext_get_or None (lefts left 96 (length cyclics)) (map phase_left setups) (length-lefts left 96 (length cyclics) ∙ same ∙ sym (length-map setups phase_left))
+      (λ i g. let within : i < length cyclics = omega (arith, g, length-lefts left 96 (length cyclics)) in
+      lefts-at left 96 (length cyclics) i within ∙ ap (option_map ticks_of) (high i within)
+      ∙ ap (λ (cs : List Cyclic). option_map ticks_of (start_left (get_or cs i blank_cyclic))) e
+      ∙ ap (λ (c : Cyclic). option_map ticks_of (start_left c)) (get_or-map first_cyclic setups i no_cyclic blank_cyclic (omega (arith, within, same)))
+      ∙ phase_same (get_or setups i no_cyclic)
+      ∙ sym (get_or-map phase_left setups i no_cyclic None (omega (arith, within, same))))
+
+  pub boot_step : (tasks : List TaskRecord) (alarms : List Alarm) → length tasks ≤ 64 → length alarms ≤ 32 → AreInStep tasks cyclics alarms left
+  boot_step tasks alarms few_tasks few_alarms = record {
+    tasks_at = λ i l. subst (IsAt (get_or tasks i no_task).assigned) (sym (low (0 + i) (omega (arith, l, few_tasks)))) tt;
+    cyclics_at = λ i l. subst (IsAt (get_or cyclics i blank_cyclic).assigned) (sym (high i l)) (start_at (get_or cyclics i blank_cyclic));
+    alarms_at = λ i l. subst (IsAt (get_or alarms i blank_alarm).assigned) (sym (low (64 + i) (omega (arith, l, few_alarms)))) tt;
+    few_tasks = few_tasks;
+    few_cyclics = few;
+    few_alarms = few_alarms;
+    all = all;
+  }

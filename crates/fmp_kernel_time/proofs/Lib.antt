@@ -1,0 +1,6 @@
+pub mod Lefts
+pub mod Standing
+pub mod Changes
+pub mod Falling
+pub mod Among
+pub mod Boot

@@ -1,0 +1,55 @@
+-- The timers count on the processors to which things are assigned.
+use Rattle.std.specs.Prelude.{◌≡◌, ℕ, ◌+◌, ◌-◌, ◌<◌, ◌≤◌, Option, None, Some, List, length, nat_lt, slice_index_or, if◌then◌else◌, ◌==◌}
+use Rattle.fmp_codes.specs.declared.numbers.Proc.{Proc}
+use Rattle.fmp_machine.specs.declared.setup.Timer.{Timer}
+use Rattle.fmp_machine.specs.declared.machine.TaskRecord.{TaskRecord}
+use Rattle.fmp_machine.specs.declared.machine.Cyclic.{Cyclic}
+use Rattle.fmp_machine.specs.declared.machine.Alarm.{Alarm}
+use Rattle.fmp_machine.specs.Setup.{counts_for}
+use Rattle.fmp_machine.specs.World.{no_task}
+use Rattle.fmp_time.specs.declared.item.Item.{Item}
+use Rattle.fmp_time.specs.Left.{Left}
+use Rattle.fmp_time.specs.Times.{Times, armed, cancelled, moved_to}
+use Rattle.fmp_kernel_time.specs.Assignments.{blank_cyclic, blank_alarm}
+
+-- what counts is on this processor
+abbrev pub IsAt : Proc → Option Left → Type 0
+IsAt p None = Unit {0}
+IsAt p (Some l) = l.processor.number ≡ p.number
+
+-- the items of the timers from a place on are on the processors to which these are assigned
+abbrev pub AreAt : {X : Type 0} → (X → Proc) → X → List X → List (Option Left) → ℕ → Type 0
+AreAt assigned blank xs left place = (i : ℕ) → i < length xs → IsAt (assigned (slice_index_or xs i blank)) (slice_index_or left (place + i) None)
+
+pub record AreInStep (tasks : List TaskRecord) (cyclics : List Cyclic) (alarms : List Alarm) (left : List (Option Left)) : Type 0 where
+  pub tasks_at : AreAt (λ r. r.assigned) no_task tasks left 0
+  pub cyclics_at : AreAt (λ c. c.assigned) blank_cyclic cyclics left 96
+  pub alarms_at : AreAt (λ a. a.assigned) blank_alarm alarms left 64
+  pub few_tasks : length tasks ≤ 64
+  pub few_cyclics : length cyclics ≤ 32
+  pub few_alarms : length alarms ≤ 32
+  pub all : length left ≡ 128
+
+-- what counts goes on on another processor, if it is assigned to another one
+abbrev pub followed : Times → Item → Proc → Proc → Times
+followed m x from to = if to.number == from.number then m else moved_to m x to
+
+-- an item counts on a processor with so many ticks left, or no more
+abbrev pub with_left : Times → Proc → Item → Option ℕ → Times
+with_left m p x None = cancelled m x
+with_left m p x (Some n) = armed m p x n
+
+-- one tick less
+abbrev pub less_one : Option Left → Option Left
+less_one None = None
+less_one (Some l) = Some (record { processor = l.processor; ticks = l.ticks - 1 })
+
+-- one tick less on the first so many processors
+abbrev pub less_below : ℕ → Option Left → Option Left
+less_below n None = None
+less_below n (Some l) = if nat_lt (l.processor.number - 1) n then less_one (Some l) else Some l
+
+-- what is left after a tick on p
+abbrev pub fallen : Timer → Proc → Option Left → Option Left
+fallen timer p None = None
+fallen timer p (Some l) = if counts_for timer p l.processor then less_one (Some l) else Some l

@@ -1,0 +1,49 @@
+//! How the ticks left fall, and follow what they belong to.
+ghost use Rattle.std.specs.Prelude.{◌≡◌, map};
+ghost use Rattle.fmp_kernel_time.specs.Counting.{followed, with_left, less_one, fallen};
+
+use fmp_codes::Proc;
+use fmp_machine::Timer;
+use fmp_time::{Item, Timers};
+
+/// Lowers all ticks left.
+fn lower_all(timers: &mut Timers)
+    ensures { timers.new ≡ record timers.old { left = map less_one timers.old.left } }
+{
+    for index in 0..8usize {
+        timers.lower(Proc::from_index(index));
+    }
+}
+
+/// Lowers the ticks left for which a tick on a processor counts.
+pub(crate) fn count_down(timers: &mut Timers, timer: Timer, p: Proc)
+    ensures { timers.new ≡ record timers.old { left = map (fallen timer p) timers.old.left } }
+{
+    match timer {
+        Timer::Local => timers.lower(p),
+        Timer::Global(master) => {
+            if p.number == master.number {
+                lower_all(timers);
+            }
+        }
+    }
+}
+
+/// Lets an item that counts go on on another processor, if it is assigned to another one.
+pub(crate) fn follow(timers: &mut Timers, item: Item, from: Proc, to: Proc)
+    ensures { timers.new ≡ followed timers.old item from to }
+{
+    if to.number != from.number {
+        timers.move_to(item, to);
+    }
+}
+
+/// Gives an item so many ticks left on a processor, or lets it count no more.
+pub(crate) fn set_left(timers: &mut Timers, p: Proc, item: Item, left: Option<u64>)
+    ensures { timers.new ≡ with_left timers.old p item left }
+{
+    match left {
+        Some(ticks) => timers.arm(p, item, ticks),
+        None => timers.cancel(item),
+    }
+}
