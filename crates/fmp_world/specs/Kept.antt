@@ -1,0 +1,37 @@
+-- What the type of a world keeps.
+use Rattle.std.specs.Prelude.{◌≡◌, ℕ, ◌+◌, ◌<◌, ◌≤◌, List, length, slice_index}
+use Rattle.std.specs.Global.{Vec}
+use Rattle.std.specs.Vec.{vec_capacity}
+use Rattle.fmp_codes.specs.declared.records.Record.{Record}
+use Rattle.fmp_scripts.specs.Scripts.{Steps}
+use Rattle.fmp_machine.specs.Setup.{Setup}
+use Rattle.fmp_machine.specs.Valid.{IsValid}
+use Rattle.fmp_machine.specs.World.{World}
+use Rattle.fmp_queues.specs.Queues.{Queues}
+use Rattle.fmp_lists.specs.Stands.{Stands}
+use Rattle.fmp_world.specs.Histories.{IsRunOf, state_after}
+use Rattle.fmp_world.specs.Positions.{task_position, handler_position}
+use Rattle.fmp_world.specs.Scripted.{Scripted}
+
+-- the positions of all tasks, and of the handlers on all processors, counted over the history
+abbrev pub TasksAre : List ℕ → List Record → Type 0
+TasksAre ps h = (i : ℕ) → i < 64 → slice_index ps i ≡ task_position (i + 1) h
+
+abbrev pub HandlersAre : List ℕ → List Record → Type 0
+HandlersAre ps h = (i : ℕ) → i < 8 → slice_index ps i ≡ handler_position (i + 1) h
+
+-- the history is a run of the machine, the kernel stands for its end, and its scripts made it
+pub record Keeps (c : Setup) (scripts : List Steps) (k : World Queues) (tasks handlers : List ℕ) (h : List Record) : Type 0 where
+  pub valid : IsValid c
+  pub run : IsRunOf c h
+  pub stands : Stands k (state_after c h)
+  pub tasks_placed : TasksAre tasks h
+  pub handlers_placed : HandlersAre handlers h
+  pub scripted : Scripted c scripts h
+
+-- there is room for the rest of the history, and the positions have their places
+pub record IsSized (turns : ℕ) (tasks handlers : List ℕ) (records : Vec Record) : Type 0 where
+  pub within : length records.items ≤ turns
+  pub room : turns ≤ vec_capacity records
+  pub task_places : length tasks ≡ 64
+  pub handler_places : length handlers ≡ 8

@@ -1,0 +1,9 @@
+pub mod Histories
+pub mod Positions
+pub mod Places
+pub mod Scripted
+pub mod Views
+pub mod Turns
+pub mod Ends
+pub mod Whose
+pub mod Kept

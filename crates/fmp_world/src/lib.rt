@@ -1,0 +1,21 @@
+//! Processors that take turns at one kernel: a world, and the seats of its processors and of its clock. No threads.
+//!
+//! A world keeps a history, which is the list of the records of all turns and ticks so far. Each is the kernel's answer to the
+//! event before it, and this is a tick, or what its processor does next: it takes a pending request, or makes the call that
+//! stands next in the script of its due handler or else of its running task. Where a script has come to is counted over the
+//! history; the world keeps an array of these positions, so that a turn walks no list.
+//!
+//! Who takes turns needs to know nothing of the kernel. At the end [`World::finish`] judges what came back: whether the
+//! history is whole, and the receipts of the seats are its events.
+#![tactic(auto)]
+
+mod choice;
+mod equality;
+mod finishing;
+mod positions;
+mod seats;
+mod world;
+
+pub use finishing::{Ended, SmpRun};
+pub use seats::{Clock, Cpu, Receipt, Seats, Turn};
+pub use world::World;
