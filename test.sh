@@ -34,9 +34,10 @@ count() {
     fi
 }
 
-# play WORD..: runs the program in so many KiB of memory, if $memory says how many, with its output into the file $to.
+# play WORD..: runs the program in so many KiB of memory, if $memory says how many, with its output into the file $to and its
+# input from the file $from.
 play() {
-    ([ -z "${memory-}" ] || ulimit -v "$memory"; exec "$program" "$@") > "${to:-output}" 2> errors
+    ([ -z "${memory-}" ] || ulimit -v "$memory"; exec "$program" "$@") < "${from:-/dev/null}" > "${to:-output}" 2> errors
 }
 
 # run STATUS OUTPUT ERRORS WORD..: the program on these words ends so, and writes what these two files have.
@@ -74,10 +75,23 @@ texts_at_fault() {
     printf 'PROCESSORS(1);\nCRE_MTX(M, {TA_NULL, 1});\n' > word.cfg
     printf 'PROCESSORS(9);\n' > number.cfg
     run 5 <(echo no 3) /dev/null check "$late/machine.cfg" changed.txt
-    run 1 /dev/null <(echo fmpsim: events.txt: line 2: E5 number out of range) calls "$late/machine.cfg" events.txt
+    run 1 <(echo 1 P1 T1 tick taken) <(echo fmpsim: events.txt: line 2: E5 number out of range) calls "$late/machine.cfg" events.txt
     run 1 /dev/null <(echo fmpsim: cut.txt: line 1: E6 cut short) check "$late/machine.cfg" cut.txt
     run 1 /dev/null <(echo fmpsim: word.cfg: line 2: F3 unsupported API CRE_MTX) calls word.cfg "$late/events.txt"
     run 1 /dev/null <(echo fmpsim: number.cfg: line 1: F7 value out of range) check number.cfg "$late/trace.txt"
+}
+
+# The events come through a pipe, and the trace goes into one.
+pipes() {
+    local events=$top/examples/late-interrupt/events.txt ended
+    from=$events run 0 "$late/trace.txt" /dev/null calls "$late/machine.cfg" -
+    printf 'P1 tick\nP1 jump()\n' > events.txt
+    from=events.txt run 1 <(echo 1 P1 T1 tick taken) <(echo fmpsim: -: line 2: E2 bad word) calls "$late/machine.cfg" -
+    yes 'P1 tick' | head -n 1000000 > long.txt
+    ("$program" calls "$late/machine.cfg" - < long.txt 2> errors; echo $? > ended) | head -n 1 > output
+    ended=no
+    [ "$(cat ended)" = 3 ] && [ "$(cat output)" = '1 P1 T1 tick taken' ] && [ "$(cat errors)" = 'fmpsim: write failed' ] && ended=yes
+    count "$ended" calls "$late/machine.cfg" - '|' head -n 1
 }
 
 devices_that_fail() {
@@ -88,7 +102,9 @@ devices_that_fail() {
     run 3 /dev/null <(echo fmpsim: read failed) check "$late/machine.cfg" missing
     to=/dev/full run 3 /dev/null <(echo fmpsim: write failed) calls "$late/machine.cfg" "$late/events.txt"
     to=/dev/full run 3 /dev/null <(echo fmpsim: write failed) check "$late/machine.cfg" "$late/trace.txt"
-    memory=40000 run 4 /dev/null <(echo fmpsim: want of memory) calls "$late/machine.cfg" long.txt
+    head -c 50000000 /dev/zero | tr '\0' '#' > line.txt
+    memory=40000 run 0 /dev/null /dev/null calls "$late/machine.cfg" long.txt
+    memory=40000 run 4 /dev/null <(echo fmpsim: line.txt: line 0: E8 want of memory) calls "$late/machine.cfg" line.txt
     memory=40000 run 4 /dev/null <(echo fmpsim: want of memory) check "$late/machine.cfg" long.txt
 }
 
@@ -109,6 +125,7 @@ for program in "$top"/crates/fmpsim/out/fmpsim{,.by-rattle}; do
     if [ -x "$program" ]; then
         examples
         texts_at_fault
+        pipes
         devices_that_fail
         command_lines
     else

@@ -47,6 +47,8 @@ const TRACE: &[u8] = b"\
 8 P2 T2 ext_tsk() gone run=idle
 ";
 
+const TRACE_LINES: u64 = 8;
+
 /// Runs over memory, and tells what is written.
 pub fn run(alloc: Global, config: &[u8], events: &[u8]) -> Result<MemSink, RunFault>
     ensures { IfOk result (λ trace. IsAnswered config.now events.now [] trace.bytes.items) }
@@ -123,6 +125,47 @@ fn activation_on_the_same_processor(rt: HostRuntime) -> Result<(), Fail> {
 #[test]
 fn late_interrupt_and_queued_activation(rt: HostRuntime) -> Result<(), Fail> {
     writes(&rt, rt.alloc(), REMOTE, EVENTS, TRACE)
+}
+
+/// The run ends with this fault, and this is what it wrote.
+fn stops_behind(
+    rt: &impl Abort,
+    alloc: Global,
+    config: &[u8],
+    events: MemSource<'_>,
+    fault: &str,
+    written: &[u8],
+) -> Result<(), Fail>
+    requires { events.failures ≡ 0 }
+{
+    let mut trace = MemSink::with_room(alloc, 1000)?;
+    stops(rt, alloc, MemSource::new(config), events, &mut trace, fault)?;
+    assert_eq!(rt; trace.bytes(), written);
+    Ok(())
+}
+
+/// The events of the lines before a fault are answered, also where that line is cut short.
+#[test]
+fn faults_behind_an_event(rt: HostRuntime) -> Result<(), Fail> {
+    let trace = b"1 P1 T1 act_tsk(T2) E_OK run=T2\n";
+    for (events, fault) in [
+        (
+            b"P1 act_tsk(T2)\nP1 jump(T1)\n".as_slice(),
+            "line 2: E2 bad word",
+        ),
+        (
+            b"# begin\nP1 act_tsk(T2)\n\nP1 tick".as_slice(),
+            "line 4: E6 cut short",
+        ),
+        (
+            b"P1 act_tsk(T2)\nP3 tick\nP1 act_tsk(T2)\n".as_slice(),
+            "line 2: E5 number out of range",
+        ),
+    ] {
+        let events = MemSource::new(events);
+        stops_behind(&rt, rt.alloc(), NEIGHBOURS, events, fault, trace)?;
+    }
+    Ok(())
 }
 
 /// The processor is locked and unlocked twice.
@@ -270,10 +313,29 @@ fn one_byte_at_a_time(rt: HostRuntime) -> Result<(), Fail> {
     Ok(())
 }
 
-/// Each read fails in turn.
+/// What was read before a read that fails is answered. The first line comes in as many reads as it has bytes.
+#[test]
+fn failed_read_behind_a_line(rt: HostRuntime) -> Result<(), Fail> {
+    let line = b"P1 act_tsk(T2)\n";
+    let mut trace = MemSink::with_room(rt.alloc(), 1000)?;
+    let mut events = OneByte {
+        device: MemSource::new(EVENTS).failing_after(line.len() as u64),
+    };
+    let run = run_calls(
+        rt.alloc(),
+        &mut MemSource::new(REMOTE),
+        &mut events,
+        &mut trace,
+    );
+    assert!(rt; matches!(&run, Err(RunFault::Read)));
+    assert!(rt; trace.bytes() == b"1 P1 T1 act_tsk(T2) E_OK ipi=2\n".as_slice());
+    Ok(())
+}
+
+/// Each read of whole texts fails in turn. The last one is that of the events' end, when all of them are answered.
 #[test]
 fn failed_reads(rt: HostRuntime) -> Result<(), Fail> {
-    for calls in 0..2 {
+    for (calls, written) in [(0, b"".as_slice()), (1, TRACE)] {
         let failing = MemSource::new(REMOTE).failing_after(calls);
         is_refused(
             &rt,
@@ -283,13 +345,7 @@ fn failed_reads(rt: HostRuntime) -> Result<(), Fail> {
             "read failed",
         )?;
         let failing = MemSource::new(EVENTS).failing_after(calls);
-        is_refused(
-            &rt,
-            rt.alloc(),
-            MemSource::new(REMOTE),
-            failing,
-            "read failed",
-        )?;
+        stops_behind(&rt, rt.alloc(), REMOTE, failing, "read failed", written)?;
     }
     Ok(())
 }
@@ -303,20 +359,20 @@ fn failed_writes(rt: HostRuntime) -> Result<(), Fail> {
         stops(&rt, rt.alloc(), config, events, &mut trace, "write failed")?;
         assert!(rt; trace.bytes().len() == room && TRACE.starts_with(trace.bytes()));
     }
-    let mut trace = MemSink::with_room(rt.alloc(), 1000)?.failing_after(0);
-    let (config, events) = (MemSource::new(REMOTE), MemSource::new(EVENTS));
-    stops(&rt, rt.alloc(), config, events, &mut trace, "write failed")?;
-    assert!(rt; trace.bytes().is_empty());
     Ok(())
 }
 
-/// The flush is the call after the one write that takes the whole trace.
+/// Each line is one write, and the flush is the call behind them. Each of these calls fails in turn.
 #[test]
-fn failed_flush(rt: HostRuntime) -> Result<(), Fail> {
-    let mut trace = MemSink::with_room(rt.alloc(), 1000)?.failing_after(1);
-    let (config, events) = (MemSource::new(REMOTE), MemSource::new(EVENTS));
-    stops(&rt, rt.alloc(), config, events, &mut trace, "write failed")?;
-    assert!(rt; trace.bytes() == TRACE);
+fn failed_calls_of_the_writer(rt: HostRuntime) -> Result<(), Fail> {
+    for calls in 0..=TRACE_LINES {
+        let mut trace = MemSink::with_room(rt.alloc(), 1000)?.failing_after(calls);
+        let (config, events) = (MemSource::new(REMOTE), MemSource::new(EVENTS));
+        stops(&rt, rt.alloc(), config, events, &mut trace, "write failed")?;
+        assert!(rt; TRACE.starts_with(trace.bytes()));
+        assert!(rt; trace.bytes().is_empty() || trace.bytes().ends_with(b"\n".as_slice()));
+        assert!(rt; (trace.bytes() == TRACE) == (calls == TRACE_LINES));
+    }
     Ok(())
 }
 

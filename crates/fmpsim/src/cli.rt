@@ -18,7 +18,8 @@ CFG is a configuration in the static API:
     CRE_TSK(T2, {TA_NULL, 0, main2, 5, 4096, NULL});
   }
 
-EVENTS has one event a line, a service call, a tick or an interrupt of a processor:
+EVENTS has one event a line, a service call, a tick or an interrupt of a processor. It may
+be `-`, which stands for standard input:
 
   P1 act_tsk(T2)
   P2 ipi
@@ -28,6 +29,9 @@ The trace, on standard output, has one line for each event: its number, its proc
 who made the call, the event, the answer, and what it changed:
 
   1 P1 T1 act_tsk(T2) E_OK run=T2
+
+Each line is written as its event comes. Where a text has a fault, the trace of the events
+before it is written.
 
 Exit status:
   0  done
@@ -95,7 +99,11 @@ fn calls_command<'a>(alloc: Global) -> Result<Command<'a>, AllocError> {
         .after_help(CALLS_HELP)
         .bin_name("fmpsim calls")?
         .arg(path(alloc, "CFG", "Path of the configuration"))?
-        .arg(path(alloc, "EVENTS", "Path of the list of events"))
+        .arg(path(
+            alloc,
+            "EVENTS",
+            "Path of the list of events, or - for standard input",
+        ))
 }
 
 fn check_command<'a>(alloc: Global) -> Result<Command<'a>, AllocError> {

@@ -1,4 +1,4 @@
-//! fmpsim: reads a configuration and another text from files. Writes the trace of the machine's answers to events, or
+//! fmpsim: reads a configuration and another text from files, or events from standard input. Writes the trace of the machine's answers to events, or
 //! whether a trace is that of its own events.
 #![tactic(auto)]
 
@@ -8,6 +8,7 @@ mod tests;
 
 use cli::{Paths, Request};
 use fmpsim_run::{FaultLine, ReadSource, RunFault, Status, WriteSink, run_calls, run_check};
+use std::io::{Input, Read};
 use std::process::ExitCode;
 use std::rt::{Env, Files};
 use std::{env, fs, io};
@@ -18,10 +19,16 @@ const NO_PATHS: Paths<'static> = Paths {
     text: "",
 };
 
-/// Opens both files before it reads either, and writes the trace of the machine's answers.
-fn calls<R: Files + Print + AllocGlobal>(rt: &R, paths: &Paths<'_>) -> Result<Status, RunFault> {
-    let config = fs::open(rt, paths.config).map_err(|_| RunFault::Read)?;
-    let events = fs::open(rt, paths.text).map_err(|_| RunFault::Read)?;
+/// The path in whose place the events are read from standard input.
+const STANDARD_INPUT: &str = "-";
+
+/// Writes the trace of the machine's answers, each line as its event comes.
+fn answered<R, C, E>(rt: &R, config: C, events: E) -> Result<Status, RunFault>
+where
+    R: Print + AllocGlobal,
+    C: Read + Drop,
+    E: Read + Drop,
+{
     run_calls(
         rt.alloc(),
         &mut ReadSource::new(config),
@@ -29,6 +36,19 @@ fn calls<R: Files + Print + AllocGlobal>(rt: &R, paths: &Paths<'_>) -> Result<St
         &mut WriteSink::new(rt.alloc(), io::writer(rt))?,
     )?;
     Ok(Status::Done)
+}
+
+/// Opens both files before it reads either, or takes the events from standard input.
+fn calls<R: Files + Input + Print + AllocGlobal>(
+    rt: &R,
+    paths: &Paths<'_>,
+) -> Result<Status, RunFault> {
+    let config = fs::open(rt, paths.config).map_err(|_| RunFault::Read)?;
+    if paths.text == STANDARD_INPUT {
+        return answered(rt, config, rt.reader());
+    }
+    let events = fs::open(rt, paths.text).map_err(|_| RunFault::Read)?;
+    answered(rt, config, events)
 }
 
 /// Opens both files before it reads either, and writes whether the trace is the machine's.
@@ -79,7 +99,7 @@ fn words_of<R: Env + AllocGlobal>(rt: &R) -> io::Result<Vec<String>> {
 }
 
 /// Does what the words ask for.
-fn execute<R: Files + Print + Eprint + AllocGlobal>(rt: &R, words: &[String]) -> Status {
+fn execute<R: Files + Input + Print + Eprint + AllocGlobal>(rt: &R, words: &[String]) -> Status {
     match cli::parse(rt.alloc(), words) {
         Ok(Request::Calls(paths)) => ended(rt, &paths, calls(rt, &paths)),
         Ok(Request::Check(paths)) => ended(rt, &paths, check(rt, &paths)),
@@ -87,7 +107,7 @@ fn execute<R: Files + Print + Eprint + AllocGlobal>(rt: &R, words: &[String]) ->
     }
 }
 
-fn run<R: Env + Files + Print + Eprint + AllocGlobal>(rt: &R) -> Status {
+fn run<R: Env + Files + Input + Print + Eprint + AllocGlobal>(rt: &R) -> Status {
     match words_of(rt) {
         Ok(words) => execute(rt, words.as_slice()),
         Err(error) if error.kind() == io::ErrorKind::InvalidData => {

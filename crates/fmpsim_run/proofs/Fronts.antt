@@ -3,11 +3,6 @@ use Rattle.std.proofs.Common.{◌≡◌, ◌∙◌, ℕ, ◌<◌, ◌≤◌, Boo
 use Rattle.std.specs.Prelude.{nat_lt, Ok, Err}
 use Rattle.std.proofs.lemmas.Bool.{lt-ltb, ltb-true, ltb-false}
 use Rattle.std.proofs.lemmas.List.{append-nil}
-use Rattle.fmp_codes.specs.declared.records.Event.{Event}
-use Rattle.fmp_text.specs.Limits.{most_bytes as MOST_EVENT_BYTES}
-use Rattle.fmp_text.specs.declared.fault.TextKind.TheVariants as text_kind
-use Rattle.fmp_names.specs.Names.{NameLists}
-use Rattle.fmp_text.specs.Events.{reading_of, faultless, fault_at}
 use Rattle.fmp_statements.specs.declared.fault.ConfigKind.TheVariants as config_kind
 use Rattle.fmp_statements.specs.Faults.{fault_of_line}
 use Rattle.fmp_config.specs.Limits.{most_bytes as MOST_CONFIG_BYTES}
@@ -31,12 +26,6 @@ unfolding config_in
 config_in-front all text rest split whole =
     same MOST_CONFIG_BYTES config_in (Err (fault_of_line config_kind.TooMany 0)) (λ t long. rw (lt-ltb MOST_CONFIG_BYTES (length t) long) refl) all text rest split whole
 
-pub reading_of-front : (names : NameLists) (all text rest : List ℕ) → all ≡ text ++ rest → (length text ≤ MOST_EVENT_BYTES → rest ≡ []) →
-    reading_of names all ≡ reading_of names text
-unfolding reading_of
-reading_of-front names all text rest split whole =
-    same MOST_EVENT_BYTES (reading_of names) (fault_at text_kind.TooMany 0) (λ t long. rw (lt-ltb MOST_EVENT_BYTES (length t) long) refl) all text rest split whole
-
 -- what is accepted is within the limit
 pub config_in-ok : (text : List ℕ) (config : Setup) → config_in text ≡ Ok config → length text ≤ MOST_CONFIG_BYTES
 unfolding config_in
@@ -47,13 +36,3 @@ config_in-ok text config is = go (nat_lt MOST_CONFIG_BYTES (length text)) refl
         let bad = rw long at is in
         cc
     go false short = ltb-false MOST_CONFIG_BYTES (length text) short
-
-pub reading_of-ok : (names : NameLists) (text : List ℕ) (events : List Event) → reading_of names text ≡ faultless events → length text ≤ MOST_EVENT_BYTES
-unfolding reading_of
-reading_of-ok names text events is = go (nat_lt MOST_EVENT_BYTES (length text)) refl
-  where
-    go : (b : Bool) → nat_lt MOST_EVENT_BYTES (length text) ≡ b → length text ≤ MOST_EVENT_BYTES
-    go true long =
-        let bad = ap (λ r. r.fault) (rw long at is) in
-        cc
-    go false short = ltb-false MOST_EVENT_BYTES (length text) short

@@ -2,4 +2,5 @@ pub mod Devices
 pub mod Faults
 pub mod Statuses
 pub mod Runs
+pub mod Streams
 pub mod Checks

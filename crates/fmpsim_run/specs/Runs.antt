@@ -1,9 +1,9 @@
 -- What a run over a configuration and events does.
-use Rattle.std.specs.Prelude.{◌≡◌, ℕ, ◌+◌, ◌≤◌, List, ◌++◌, length, Result, if◌then◌else◌}
+use Rattle.std.specs.Prelude.{◌≡◌, ◌⊎◌, ℕ, ◌+◌, ◌≤◌, List, ◌++◌, length, take, Some, Result, if◌then◌else◌}
 use Rattle.fmp_codes.specs.declared.records.Event.{Event}
-use Rattle.fmp_text.specs.Events.{IsFirst, reading_of}
+use Rattle.fmp_text.specs.declared.fault.TextFault.{TextFault}
+use Rattle.fmp_text.specs.Events.{IsFirst, IsMemory, Reading, reading_by_line}
 use Rattle.fmp_text.specs.TextGrammar.{SpellsText}
-use Rattle.fmp_names.specs.Names.{NameLists}
 use Rattle.fmp_config.specs.Limits.{most_bytes}
 use Rattle.fmp_config.specs.Faults.{IsFirstFault}
 use Rattle.fmp_config_laws.specs.Grammar.{Configures}
@@ -39,24 +39,61 @@ pub record Answered (config_text event_text output : List ℕ) : Type 0 where
 abbrev pub IsAnswered : List ℕ → List ℕ → List ℕ → List ℕ → Type 0
 IsAnswered config_text event_text old new = (output : List ℕ) × Answered config_text event_text output × (new ≡ old ++ output)
 
--- a front of the output was written after old
+-- the trace of what a machine answers to events
+unfoldable pub trace_of : Setup → List Event → List ℕ
+trace_of config events = lines_from config.names 1 (answers numbered (booted config) events)
+
+-- The trace of the one text's machine over the events of the other, up to its first fault.
+pub record Traced (config_text event_text output : List ℕ) : Type 0 where
+  pub config : Setup
+  pub says : SaysConfig config_text config
+  pub prints : output ≡ trace_of config (reading_by_line config.names event_text).events
+
+-- a beginning of that trace was written after old
 abbrev pub IsBegun : List ℕ → List ℕ → List ℕ → List ℕ → Type 0
-IsBegun config_text event_text old new = (output : List ℕ) × Answered config_text event_text output × BeginsWith old output new
+IsBegun config_text event_text old new = (output : List ℕ) × Traced config_text event_text output × BeginsWith old output new
+
+-- the trace of a front of the events was written after old, every line of it whole
+abbrev pub IsFrontOut : Setup → List Event → List ℕ → List ℕ → Type 0
+IsFrontOut config events old new = (n : ℕ) × (new ≡ old ++ trace_of config (take n events))
+
+-- the same of a right configuration. Where there was none yet, nothing was written
+abbrev pub IsFront : List ℕ → List ℕ → List ℕ → List ℕ → Type 0
+IsFront config_text event_text old new =
+    (new ≡ old) ⊎ ((config : Setup) × SaysConfig config_text config × IsFrontOut config (reading_by_line config.names event_text).events old new)
+
+-- the trace of the events before this fault, which is the text's first one, was written after old
+pub record IsOutBefore (config : Setup) (reading : Reading) (old new : List ℕ) (fault : TextFault) : Type 0 where
+  pub first : reading.fault ≡ Some fault
+  pub text : new ≡ old ++ trace_of config reading.events
+
+-- that, or memory ran out, and the trace of a front of the events was
+abbrev pub IsStopped : Setup → Reading → List ℕ → List ℕ → TextFault → Type 0
+IsStopped config reading old new fault = IsOutBefore config reading old new fault ⊎ (IsMemory fault × IsFrontOut config reading.events old new)
+
+-- what was written after old, where a run over these texts ends with this fault
+abbrev pub LeavesOut : List ℕ → List ℕ → List ℕ → List ℕ → RunFault → Type 0
+LeavesOut config_text event_text old new (run.Config fault) = new ≡ old
+LeavesOut config_text event_text old new (run.Text fault) =
+    (config : Setup) × SaysConfig config_text config × IsStopped config (reading_by_line config.names event_text) old new fault
+LeavesOut config_text event_text old new run.Read = IsFront config_text event_text old new
+LeavesOut config_text event_text old new run.Write = IsBegun config_text event_text old new
+LeavesOut config_text event_text old new run.Memory = IsFront config_text event_text old new
 
 -- a fault of the configuration is the first one of its text, or want of memory
 abbrev pub FirstConfigFault : List ℕ → RunFault → Type 0
 FirstConfigFault text (run.Config fault) = IsFirstFault text fault
 FirstConfigFault text other = Unit {0}
 
--- a fault of the events is the first one of their text, or want of memory
-abbrev pub FirstEventFault : NameLists → List ℕ → RunFault → Type 0
-FirstEventFault names text (run.Text fault) = IsFirst (reading_of names text) fault
-FirstEventFault names text other = Unit {0}
+-- a fault of the events is the first one of their reading, or want of memory
+abbrev pub FirstEventFault : Reading → RunFault → Type 0
+FirstEventFault reading (run.Text fault) = IsFirst reading fault
+FirstEventFault reading other = Unit {0}
 
--- the same, for the names of a right configuration
+-- the same, for the names of a right configuration. That there are too many bytes comes last
 abbrev pub FirstTextFault : List ℕ → List ℕ → RunFault → Type 0
 FirstTextFault config_text event_text (run.Text fault) =
-    (config : Setup) × SaysConfig config_text config × FirstEventFault config.names event_text (run.Text fault)
+    (config : Setup) × SaysConfig config_text config × FirstEventFault (reading_by_line config.names event_text) (run.Text fault)
 FirstTextFault config_text event_text other = Unit {0}
 
 -- of two readers one read failed where the run ended so, and else none

@@ -1,41 +1,89 @@
-//! The run that answers a list of events.
-ghost use Rattle.std.specs.Prelude.{◌≡◌, ◌≢◌, ◌+◌, ◌-◌, ◌^◌, ◌<◌, [], IsTrue, OnOk, IfOk, IfErr, Err, false, if◌then◌else◌};
-ghost use Rattle.fmpsim_run.specs.Faults.{failed_write};
-ghost use Rattle.fmpsim_run.specs.Runs.{Answered, CountsReads, IsAnswered, IsBegun, FirstConfigFault, FirstTextFault};
+//! The run that answers a list of events, each as it comes.
+ghost use Rattle.std.specs.Prelude.{◌≡◌, ◌+◌, ◌-◌, ◌^◌, ◌<◌, ◌≤◌, [], ℕ, List, true, false, None, length, IsTrue, OnOk, IfErr, if◌then◌else◌};
+ghost use Rattle.fmp_machine.specs.Valid.{IsValid};
+ghost use Rattle.fmp_text.specs.Events.{Reading, reading_by_line};
+ghost use Rattle.fmp_text.specs.Limits.{most_bytes, most_events};
+ghost use Rattle.fmpsim_run.specs.Faults.{failed_read, failed_write, is_config};
+ghost use Rattle.fmpsim_run.specs.Runs.{CountsReads, FirstConfigFault, FirstEventFault, FirstTextFault, IsAnswered, LeavesOut};
+ghost use Rattle.fmpsim_run.specs.Streams.{IsAllOut, Leaves, Streams};
 
 use crate::fault::RunFault;
-use crate::sink::{Sink, write_out};
+use crate::sink::Sink;
 use crate::source::Source;
-use crate::texts::{config_from, events_from};
-use fmp_kernel::simulate;
-use fmp_trace::trace_text;
+use crate::stream::Answering;
+use crate::texts::config_from;
+use crate::whole::new_piece;
+use fmp_machine::Config;
 use std::alloc::Global;
 
-/// The text that answers the events. It has no writer in hand, so nothing is written before both texts are accepted.
-fn calls_text<R: Source, S: Source>(
-    alloc: Global,
-    config: &mut R,
+/// Answers the events of a text, piece by piece.
+fn answer_all<S: Source, W: Sink>(
+    run: &mut Answering,
+    config: &Config,
     events: &mut S,
-) -> Result<Vec<u8>, RunFault>
-    requires config_calls { R.failures config.old < 2 ^ 64 - 1 }
+    trace: &mut W,
+    piece: &mut [u8],
+) -> Result<(), RunFault>
     requires event_calls { S.failures events.old < 2 ^ 64 - 1 }
-
-    ensures answered { IsTrue R.tells → IsTrue S.tells → IfOk result (λ text. Answered (R.left config.old) (S.left events.old) text.items) }
-    ensures config_read { IsTrue R.tells → OnOk result (R.left config.new ≡ []) }
+    requires trace_calls { W.failures trace.old < 2 ^ 64 - 1 }
+    requires counted { run.old.count ≡ run.old.feed.events }
+    requires few { run.old.feed.events ≤ most_events }
+    requires fits { run.old.feed.taken ≤ most_bytes }
+    requires fine { run.old.feed.fault ≡ None }
+    requires unended { run.old.feed.ended ≡ false }
+    requires processors { length run.old.kernel.processors ≡ config.now.processors }
+    requires room { 0 < length piece.old }
+    ensures answered { IsTrue S.tells → IsTrue W.tells → (whole : Reading) (old : List ℕ)
+        → Streams W.tells config.now whole old run.old (W.written trace.old) (S.left events.old)
+        → OnOk result (IsAllOut config.now whole old (W.written trace.new)) }
+    ensures first { IsTrue S.tells → (whole : Reading) (old : List ℕ)
+        → Streams W.tells config.now whole old run.old (W.written trace.old) (S.left events.old)
+        → IfErr result (FirstEventFault whole) }
+    ensures leaves { IsTrue S.tells → IsTrue W.tells → (whole : Reading) (old : List ℕ)
+        → Streams W.tells config.now whole old run.old (W.written trace.old) (S.left events.old)
+        → IfErr result (Leaves config.now whole old (W.written trace.new)) }
     ensures events_read { IsTrue S.tells → OnOk result (S.left events.new ≡ []) }
-
-    ensures config_fault { IsTrue R.tells → IfErr result (FirstConfigFault (R.left config.old)) }
-    ensures text_fault { IsTrue R.tells → IsTrue S.tells → IfErr result (FirstTextFault (R.left config.old) (S.left events.old)) }
-    ensures reads { CountsReads result (R.failures config.old) (R.failures config.new) (S.failures events.old) (S.failures events.new) }
-    ensures no_write { failed_write result ≡ false }
+    ensures kinds { IfErr result (λ fault. is_config fault ≡ false) }
+    ensures reads { S.failures events.new ≡ S.failures events.old + (if failed_read result then 1 else 0) }
+    ensures writes { W.failures trace.new ≡ W.failures trace.old + (if failed_write result then 1 else 0) }
 {
-    let configuration = config_from(alloc, config)?;
-    let list = events_from(alloc, configuration.names(), events)?;
-    let records = simulate(alloc, &configuration, list.as_slice())?;
-    Ok(trace_text(alloc, records.as_slice(), configuration.names())?)
+    while !run.has_ended() {
+        run.take_piece(events, piece)?;
+        run.drain(config, trace)?;
+    }
+    Ok(())
 }
 
-/// Reads a configuration and events, and writes the trace of the machine's answers.
+/// Answers the events of a text from boot on, and passes on what the sink holds back.
+fn answer_text<S: Source, W: Sink>(
+    alloc: Global,
+    config: &Config,
+    events: &mut S,
+    trace: &mut W,
+) -> Result<(), RunFault>
+    requires event_calls { S.failures events.old < 2 ^ 64 - 1 }
+    requires trace_calls { W.failures trace.old < 2 ^ 64 - 1 }
+    ensures answered { IsTrue S.tells → IsTrue W.tells
+        → OnOk result (IsAllOut config.now (reading_by_line config.now.names (S.left events.old)) (W.written trace.old) (W.written trace.new)) }
+    ensures valid { OnOk result (IsValid config.now) }
+    ensures passed { OnOk result (W.buffered trace.new ≡ []) }
+    ensures first { IsTrue S.tells → IfErr result (FirstEventFault (reading_by_line config.now.names (S.left events.old))) }
+    ensures leaves { IsTrue S.tells → IsTrue W.tells
+        → IfErr result (Leaves config.now (reading_by_line config.now.names (S.left events.old)) (W.written trace.old) (W.written trace.new)) }
+    ensures events_read { IsTrue S.tells → OnOk result (S.left events.new ≡ []) }
+    ensures kinds { IfErr result (λ fault. is_config fault ≡ false) }
+    ensures reads { S.failures events.new ≡ S.failures events.old + (if failed_read result then 1 else 0) }
+    ensures writes { W.failures trace.new ≡ W.failures trace.old + (if failed_write result then 1 else 0) }
+{
+    let mut piece = new_piece(alloc)?;
+    let mut run = Answering::new(alloc, config)?;
+    answer_all(&mut run, config, events, trace, piece.as_mut_slice())?;
+    Ok(trace.flush()?)
+}
+
+/// Reads a configuration and events, and writes the trace of the machine's answers, each line as its event comes.
+///
+/// No list of events or of records is kept.
 pub fn run_calls<R: Source, S: Source, W: Sink>(
     alloc: Global,
     config: &mut R,
@@ -57,15 +105,16 @@ pub fn run_calls<R: Source, S: Source, W: Sink>(
     ensures config_fault { IsTrue R.tells → IfErr result (FirstConfigFault (R.left config.old)) }
     ensures text_fault { IsTrue R.tells → IsTrue S.tells → IfErr result (FirstTextFault (R.left config.old) (S.left events.old)) }
 
-    // After a failed write or flush a beginning of the trace is out, and after any other fault nothing is.
-    ensures write { IsTrue R.tells → IsTrue S.tells → IsTrue W.tells → (result ≡ Err RunFault.Write)
-        → IsBegun (R.left config.old) (S.left events.old) (W.written trace.old) (W.written trace.new) }
-    ensures unwritten { IsTrue W.tells → IfErr result (λ fault. fault ≢ RunFault.Write → W.written trace.new ≡ W.written trace.old) }
+    // After a fault of the configuration nothing is written. After one of the events the trace of those before it is out, after
+    // a failed read or want of memory the trace of some front of them, and after a failed write or flush a beginning of the
+    // trace.
+    ensures unwritten { IsTrue W.tells → IfErr result (λ fault. is_config fault ≡ true → W.written trace.new ≡ W.written trace.old) }
+    ensures leaves { IsTrue R.tells → IsTrue S.tells → IsTrue W.tells → IfErr result (LeavesOut (R.left config.old) (S.left events.old) (W.written trace.old) (W.written trace.new)) }
 
     // Which calls of the devices failed.
     ensures reads { CountsReads result (R.failures config.old) (R.failures config.new) (S.failures events.old) (S.failures events.new) }
     ensures writes { W.failures trace.new ≡ W.failures trace.old + (if failed_write result then 1 else 0) }
 {
-    let text = calls_text(alloc, config, events)?;
-    Ok(write_out(trace, text.as_slice())?)
+    let configuration = config_from(alloc, config)?;
+    answer_text(alloc, &configuration, events, trace)
 }

@@ -9,6 +9,7 @@ mod sink;
 mod source;
 mod status;
 mod std_io;
+mod stream;
 mod texts;
 mod whole;
 

@@ -10,6 +10,9 @@ use std::alloc::{AllocError, Global};
 use std::io;
 use std::io::{BufWriter, Read, Write};
 
+/// How many bytes a sink holds back before it passes them on.
+const ROOM: usize = 65536;
+
 /// A reader of std as a source, which does not tell its bytes.
 #[derive(Drop)]
 pub struct ReadSource<R> {
@@ -72,7 +75,7 @@ impl<W: Write + Drop> WriteSink<W> {
         ensures writer { IfOk result (λ sink. writer_inner sink.writer ≡ writer) }
         ensures buffer { IfOk result (λ sink. writer_buffer sink.writer ≡ []) }
     {
-        let writer = BufWriter::new(alloc, writer).map_err(|_| AllocError)?;
+        let writer = BufWriter::with_capacity(alloc, ROOM, writer).map_err(|_| AllocError)?;
         Ok(WriteSink {
             writer,
             failures: 0,

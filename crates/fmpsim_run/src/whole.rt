@@ -16,7 +16,7 @@ pub enum ReadFault {
 }
 
 /// Room to read into.
-fn new_piece(alloc: Global) -> Result<Vec<u8>, AllocError>
+pub(crate) fn new_piece(alloc: Global) -> Result<Vec<u8>, AllocError>
     ensures { IfOk result (λ piece. 0 < vec_len piece) }
 {
     vec![in alloc; 0u8; PIECE]

@@ -1,0 +1,27 @@
+use Rattle.std.proofs.Common.{◌≡◌, ◌+◌, ◌-◌, ◌≤◌, ◌<◌, ℕ, List, [], IsTrue, true, cond, length}
+use Rattle.std.specs.Prelude.{None}
+use Rattle.fmp_feed.specs.Feed.{IsDone}
+use Rattle.fmp_text.specs.Events.{Reading}
+use Rattle.fmp_text.specs.Limits.{most_bytes, most_events}
+use Rattle.fmpsim_run.specs.Streams.{Streams}
+use Rattle.fmpsim_run.proofs.calls.answer_all.Given as goal
+
+abbrev pub invariant-loop-run : goal.invariant-loop-run
+invariant-loop-run g l = record {
+  read_failures : g.S.Source.failures l.events ≡ g.S.Source.failures l.fn.events;
+  write_failures : g.W.Sink.failures l.trace ≡ g.W.Sink.failures l.fn.trace;
+  counted : l.run.count ≡ l.run.feed.events;
+  few : l.run.feed.events ≤ most_events;
+  fits : l.run.feed.taken ≤ most_bytes;
+  fine : l.run.feed.fault ≡ None;
+  processors : length l.run.kernel.processors ≡ l.config.processors;
+  room : 0 < length l.piece;
+  done : l.run.feed.ended ≡ true → IsDone l.config.names l.run.feed;
+  end : IsTrue g.S.Source.tells → l.run.feed.ended ≡ true → g.S.Source.left l.events ≡ [];
+  streams : IsTrue g.S.Source.tells → (whole : Reading) (old : List ℕ)
+      → Streams g.W.Sink.tells l.config whole old l.fn.run (g.W.Sink.written l.fn.trace) (g.S.Source.left l.fn.events)
+      → Streams g.W.Sink.tells l.config whole old l.run (g.W.Sink.written l.trace) (g.S.Source.left l.events);
+}
+
+abbrev pub decreases-loop-run : goal.decreases-loop-run
+decreases-loop-run g l = cond l.run.feed.ended 0 (most_bytes + 1 - l.run.feed.taken)

@@ -1,0 +1,20 @@
+use Rattle.std.proofs.Common.{◌≡◌, ◌-◌, ◌≤◌, ℕ, List, length}
+use Rattle.fmp_text.specs.Events.{Reading}
+use Rattle.fmp_text.specs.Limits.{most_events}
+use Rattle.fmpsim_run.specs.Streams.{Streams}
+use Rattle.fmpsim_run.proofs.stream.Answering.drain.Given as goal
+
+abbrev pub invariant-loop : goal.invariant-loop
+invariant-loop g l = record {
+  failures : g.W.Sink.failures l.trace ≡ g.W.Sink.failures l.fn.trace;
+  counted : l.self.count ≡ l.self.feed.events;
+  few : l.self.feed.events ≤ most_events;
+  processors : length l.self.kernel.processors ≡ length l.fn.self.kernel.processors;
+  same : (l.self.feed.ended ≡ l.fn.self.feed.ended) × (l.self.feed.taken ≡ l.fn.self.feed.taken) × (l.self.feed.dropped ≡ l.fn.self.feed.dropped);
+  streams : (whole : Reading) (old remaining : List ℕ)
+      → Streams g.W.Sink.tells l.config whole old l.fn.self (g.W.Sink.written l.fn.trace) remaining
+      → Streams g.W.Sink.tells l.config whole old l.self (g.W.Sink.written l.trace) remaining;
+}
+
+abbrev pub decreases-loop : goal.decreases-loop
+decreases-loop g l = most_events - l.self.feed.events

@@ -1,0 +1,196 @@
+//! Answering each event as it comes.
+ghost use Rattle.std.specs.Prelude.{◌≡◌, ◌⊎◌, ◌≤◌, ◌+◌, ◌-◌, ◌^◌, ◌<◌, ◌++◌, ℕ, Bool, List, [], true, false, IsTrue, OnOk, IfOk, IfErr, Err, Ok, None, length, if◌then◌else◌};
+ghost use Rattle.fmp_codes.specs.Records.{processor_of};
+ghost use Rattle.fmp_feed.specs.Feed.{IsDone, new_feed};
+ghost use Rattle.fmp_lists.specs.Stands.{Stands};
+ghost use Rattle.fmp_machine.specs.Boot.{booted};
+ghost use Rattle.fmp_machine.specs.Numbers.{State, numbered};
+ghost use Rattle.fmp_machine.specs.Setup.{Setup};
+ghost use Rattle.fmp_machine.specs.Step.{step as step_of};
+ghost use Rattle.fmp_machine.specs.Valid.{IsValid};
+ghost use Rattle.fmp_text.specs.Events.{Reading};
+ghost use Rattle.fmp_text.specs.Limits.{most_bytes, most_events};
+ghost use Rattle.fmp_trace.specs.Lines.{line_text};
+ghost use Rattle.fmpsim_run.specs.Devices.{BeginsWith};
+ghost use Rattle.fmpsim_run.specs.Faults.{failed_read, failed_write, is_config, is_read, is_write};
+ghost use Rattle.fmpsim_run.specs.Runs.{FirstEventFault};
+ghost use Rattle.fmpsim_run.specs.Streams.{Leaves, Streams};
+
+use crate::fault::RunFault;
+use crate::sink::{Sink, write_all};
+use crate::source::{Failed, Source};
+use fmp_codes::Event;
+use fmp_feed::EventFeed;
+use fmp_kernel::Kernel;
+use fmp_machine::Config;
+use fmp_text::Names;
+use fmp_trace::trace_line;
+use std::alloc::{AllocError, Global};
+
+/// A run that answers each event as it comes. It keeps the unread rest of one line, and the line that it writes.
+#[derive(Drop)]
+pub(crate) struct Answering {
+    feed: EventFeed,
+    kernel: Kernel,
+    count: u32,
+    line: Vec<u8>,
+}
+
+impl Answering {
+    /// The machine at boot, and no byte of the events yet.
+    pub(crate) fn new(alloc: Global, config: &Config) -> Result<Answering, AllocError>
+        ensures feed { IfOk result (λ a. a.feed ≡ new_feed) }
+        ensures stands { IfOk result (λ a. Stands a.kernel (booted config.now)) }
+        ensures processors { IfOk result (λ a. length a.kernel.processors ≡ config.now.processors) }
+        ensures count { IfOk result (λ a. a.count ≡ 0) }
+        ensures valid { OnOk result (IsValid config.now) }
+    {
+        Ok(Answering {
+            feed: EventFeed::new(alloc)?,
+            kernel: Kernel::boot(config)?,
+            count: 0,
+            line: Vec::new(alloc),
+        })
+    }
+
+    /// Whether the text of the events has ended.
+    pub(crate) fn has_ended(&self) -> bool
+        ensures { result ≡ self.now.feed.ended }
+    {
+        self.feed.ended()
+    }
+
+    /// Answers one event, and writes its line.
+    fn answer<W: Sink>(
+        &mut self,
+        names: &Names,
+        event: Event,
+        trace: &mut W,
+    ) -> Result<(), RunFault>
+        requires calls { W.failures trace.old < 2 ^ 64 - 1 }
+        requires room { self.old.count < 2 ^ 32 - 1 }
+        requires on { (processor_of event).number ≤ length self.old.kernel.processors }
+        ensures feed { self.new.feed ≡ self.old.feed }
+        ensures stands { (m : State) → Stands self.old.kernel m → Stands self.new.kernel (step_of numbered m event).0 }
+        ensures processors { length self.new.kernel.processors ≡ length self.old.kernel.processors }
+        ensures count { self.new.count ≡ self.old.count + 1 }
+        ensures ok { IsTrue W.tells → (m : State) → Stands self.old.kernel m
+            → OnOk result (W.written trace.new ≡ W.written trace.old ++ line_text names.now (self.old.count + 1) (step_of numbered m event).1) }
+        ensures memory { IsTrue W.tells → result ≡ Err RunFault.Memory → W.written trace.new ≡ W.written trace.old }
+        ensures write { IsTrue W.tells → (m : State) → Stands self.old.kernel m → result ≡ Err RunFault.Write
+            → BeginsWith (W.written trace.old) (line_text names.now (self.old.count + 1) (step_of numbered m event).1) (W.written trace.new) }
+        ensures kinds { IfErr result (λ fault. (fault ≡ RunFault.Memory) ⊎ (fault ≡ RunFault.Write)) }
+        ensures writes { W.failures trace.new ≡ W.failures trace.old + (if failed_write result then 1 else 0) }
+    {
+        let answer = self.kernel.step(event);
+        self.count += 1;
+        trace_line(self.count, &answer, names, &mut self.line)?;
+        Ok(write_all(trace, self.line.as_slice())?)
+    }
+
+    /// Answers the next event whose line is whole, and says whether there was one.
+    fn answer_next<W: Sink>(&mut self, config: &Config, trace: &mut W) -> Result<bool, RunFault>
+        requires calls { W.failures trace.old < 2 ^ 64 - 1 }
+        requires counted { self.old.count ≡ self.old.feed.events }
+        requires few { self.old.feed.events ≤ most_events }
+        requires processors { length self.old.kernel.processors ≡ config.now.processors }
+        ensures streams { (whole : Reading) (old remaining : List ℕ)
+            → Streams W.tells config.now whole old self.old (W.written trace.old) remaining
+            → OnOk result (Streams W.tells config.now whole old self.new (W.written trace.new) remaining) }
+        ensures first { (whole : Reading) (old remaining : List ℕ)
+            → Streams W.tells config.now whole old self.old (W.written trace.old) remaining
+            → IfErr result (FirstEventFault whole) }
+        ensures leaves { IsTrue W.tells → (whole : Reading) (old remaining : List ℕ)
+            → Streams W.tells config.now whole old self.old (W.written trace.old) remaining
+            → IfErr result (Leaves config.now whole old (W.written trace.new)) }
+        ensures counted { OnOk result (self.new.count ≡ self.new.feed.events) }
+        ensures moves { IfOk result (λ more. self.new.feed.events ≡ self.old.feed.events + (if more then 1 else 0)) }
+        ensures few { OnOk result (self.new.feed.events ≤ most_events) }
+        ensures processors { length self.new.kernel.processors ≡ length self.old.kernel.processors }
+        ensures wanting { IfOk result (λ more. more ≡ false → (self.new.feed.dropped ≡ false) × (self.new.feed.fault ≡ None)) }
+        ensures done { IfOk result (λ more. more ≡ false → self.new.feed.ended ≡ true → IsDone config.now.names self.new.feed) }
+        ensures same { (self.new.feed.ended ≡ self.old.feed.ended) × (self.new.feed.taken ≡ self.old.feed.taken) × (self.new.feed.dropped ≡ self.old.feed.dropped) }
+        ensures kinds { IfErr result (λ fault. (is_read fault ≡ false) × (is_config fault ≡ false)) }
+        ensures writes { W.failures trace.new ≡ W.failures trace.old + (if failed_write result then 1 else 0) }
+    {
+        let names = config.names();
+        let found = match self.feed.next(names) {
+            Ok(found) => found,
+            Err(fault) => return Err(RunFault::Text(fault)),
+        };
+        match found {
+            None => Ok(false),
+            Some(event) => {
+                self.answer(names, event, trace)?;
+                Ok(true)
+            }
+        }
+    }
+
+    /// Answers each event whose line is whole.
+    pub(crate) fn drain<W: Sink>(&mut self, config: &Config, trace: &mut W) -> Result<(), RunFault>
+        requires calls { W.failures trace.old < 2 ^ 64 - 1 }
+        requires counted { self.old.count ≡ self.old.feed.events }
+        requires few { self.old.feed.events ≤ most_events }
+        requires processors { length self.old.kernel.processors ≡ config.now.processors }
+        ensures streams { (whole : Reading) (old remaining : List ℕ)
+            → Streams W.tells config.now whole old self.old (W.written trace.old) remaining
+            → OnOk result (Streams W.tells config.now whole old self.new (W.written trace.new) remaining) }
+        ensures first { (whole : Reading) (old remaining : List ℕ)
+            → Streams W.tells config.now whole old self.old (W.written trace.old) remaining
+            → IfErr result (FirstEventFault whole) }
+        ensures leaves { IsTrue W.tells → (whole : Reading) (old remaining : List ℕ)
+            → Streams W.tells config.now whole old self.old (W.written trace.old) remaining
+            → IfErr result (Leaves config.now whole old (W.written trace.new)) }
+        ensures counted { OnOk result (self.new.count ≡ self.new.feed.events) }
+        ensures few { OnOk result (self.new.feed.events ≤ most_events) }
+        ensures processors { length self.new.kernel.processors ≡ length self.old.kernel.processors }
+        ensures wanting { OnOk result ((self.new.feed.dropped ≡ false) × (self.new.feed.fault ≡ None)) }
+        ensures done { OnOk result (self.new.feed.ended ≡ true → IsDone config.now.names self.new.feed) }
+        ensures same { (self.new.feed.ended ≡ self.old.feed.ended) × (self.new.feed.taken ≡ self.old.feed.taken) × (self.new.feed.dropped ≡ self.old.feed.dropped) }
+        ensures kinds { IfErr result (λ fault. (is_read fault ≡ false) × (is_config fault ≡ false)) }
+        ensures writes { W.failures trace.new ≡ W.failures trace.old + (if failed_write result then 1 else 0) }
+    {
+        while self.answer_next(config, trace)? {}
+        Ok(())
+    }
+
+    /// Reads a further piece of the text, or its end.
+    pub(crate) fn take_piece<S: Source>(
+        &mut self,
+        events: &mut S,
+        piece: &mut [u8],
+    ) -> Result<(), RunFault>
+        requires calls { S.failures events.old < 2 ^ 64 - 1 }
+        requires fine { self.old.feed.fault ≡ None }
+        requires unended { self.old.feed.ended ≡ false }
+        requires fits { self.old.feed.taken ≤ most_bytes }
+        requires room { 0 < length piece.old }
+        ensures feed_fault { OnOk result (self.new.feed.fault ≡ None) }
+        ensures streams { IsTrue S.tells → (tells : Bool) (c : Setup) (whole : Reading) (old written : List ℕ)
+            → Streams tells c whole old self.old written (S.left events.old)
+            → OnOk result (Streams tells c whole old self.new written (S.left events.new)) }
+        ensures leaves { IsTrue S.tells → (c : Setup) (whole : Reading) (old written : List ℕ)
+            → Streams true c whole old self.old written (S.left events.old)
+            → IfErr result (Leaves c whole old written) }
+        ensures first { (whole : Reading) → IfErr result (FirstEventFault whole) }
+        ensures end { IsTrue S.tells → OnOk result (self.new.feed.ended ≡ true → S.left events.new ≡ []) }
+        ensures counts { (self.new.count ≡ self.old.count) × (self.new.feed.events ≡ self.old.feed.events) × (self.new.kernel ≡ self.old.kernel) }
+        ensures fits { OnOk result (self.new.feed.taken ≤ most_bytes) }
+        ensures moves { OnOk result (self.new.feed.ended ≡ false → self.new.feed.dropped ≡ false → (self.old.feed.taken < self.new.feed.taken) × (self.new.feed.taken ≤ most_bytes)) }
+        ensures kinds { IfErr result (λ fault. (is_write fault ≡ false) × (is_config fault ≡ false)) }
+        ensures reads { S.failures events.new ≡ S.failures events.old + (if failed_read result then 1 else 0) }
+    {
+        match events.read(piece) {
+            Err(Failed) => Err(RunFault::Read),
+            Ok(0) => {
+                self.feed.close();
+                Ok(())
+            }
+            Ok(count) => match self.feed.push(&piece[..count]) {
+                Ok(()) => Ok(()),
+                Err(fault) => Err(RunFault::Text(fault)),
+            },
+        }
+    }
+}
