@@ -52,6 +52,11 @@ run() {
     count "$well" "${@:4}"
 }
 
+# value GIVEN OPTION WHY: how clap refuses the value of an option.
+value() {
+    printf "error: invalid value '%s' for '--%s <N>': %s\n\nFor more information, try '--help'.\n" "$@"
+}
+
 # usage STATUS TOLD SILENT WORD..: the program on these words ends so, tells its usage in one file, and the other is empty.
 usage() {
     local well=no
@@ -61,9 +66,14 @@ usage() {
 }
 
 examples() {
-    local folder
+    local folder options
     for folder in "$top"/examples/*/; do
-        run 0 "$folder/trace.txt" /dev/null calls "$folder/machine.cfg" "$folder/events.txt"
+        if [ -f "$folder/events.txt" ]; then
+            run 0 "$folder/trace.txt" /dev/null calls "$folder/machine.cfg" "$folder/events.txt"
+        else
+            read -ra options < "$folder/options.txt"
+            run 0 "$folder/trace.txt" /dev/null smp "$folder/machine.cfg" "$folder/scripts.txt" "${options[@]}"
+        fi
         run 0 <(echo yes) /dev/null check "$folder/machine.cfg" "$folder/trace.txt"
     done
 }
@@ -79,6 +89,33 @@ texts_at_fault() {
     run 1 /dev/null <(echo fmpsim: cut.txt: line 1: E6 cut short) check "$late/machine.cfg" cut.txt
     run 1 /dev/null <(echo fmpsim: word.cfg: line 2: F3 unsupported API CRE_MTX) calls word.cfg "$late/events.txt"
     run 1 /dev/null <(echo fmpsim: number.cfg: line 1: F7 value out of range) check number.cfg "$late/trace.txt"
+}
+
+# Processors that follow scripts, in threads: what holds in every order.
+scripts() {
+    local folder=$top/examples/scripted-spin-lock ended=no numbers=(--ticks 1 --turns 100)
+    play smp "$folder/machine.cfg" "$folder/scripts.txt" "${numbers[@]}"
+    [ $? = 0 ] && [ ! -s errors ] && [ "$(grep -c 'tick taken' output)" = 2 ] && [ "$(grep -c ' gone ' output)" = 2 ] && ended=yes
+    count "$ended" smp "$folder/machine.cfg" "$folder/scripts.txt" "${numbers[@]}"
+    cp output trace.txt
+    run 0 <(echo yes) /dev/null check "$folder/machine.cfg" trace.txt
+    from=$folder/scripts.txt run 0 "$folder/trace.txt" /dev/null smp "$folder/machine.cfg" - "${numbers[@]}" --seed 11
+    # the first four lines of the trace, and no room for more
+    from=$folder/scripts.txt run 6 <(head -n 4 "$folder/trace.txt") /dev/null smp "$folder/machine.cfg" - --ticks 1 --turns 4 --seed 11
+    # the only task of the machine starts itself anew each time
+    printf 'PROCESSORS(1);\nDEF_CLASS(C, 1, {1});\nCLASS(C) { CRE_TSK(T, {TA_ACT, 0, main, 1, 4096, NULL}); }\n' > again.cfg
+    printf 'script main\nact_tsk(TSK_SELF)\nend\n' > again.txt
+    run 6 <(printf '1 P1 T act_tsk(TSK_SELF) E_OK\n2 P1 T ext_tsk() gone\n3 P1 T act_tsk(TSK_SELF) E_OK\n') /dev/null \
+        smp again.cfg again.txt --ticks 0 --turns 3
+    printf 'script main\nslp_tsk()\ntick\nend\n' > tick.txt
+    printf 'script main\nslp_tsk()\n' > open.txt
+    run 1 /dev/null <(echo fmpsim: tick.txt: line 3: E2 bad word) smp again.cfg tick.txt --ticks 0 --turns 1
+    run 1 /dev/null <(echo fmpsim: open.txt: line 1: E6 cut short) smp again.cfg open.txt --ticks 0 --turns 1 --seed 1
+    run 1 /dev/null <(echo fmpsim: tick.txt: line 1: F3 unsupported API script) smp tick.txt again.txt --ticks 0 --turns 1
+    run 3 /dev/null <(echo fmpsim: read failed) smp again.cfg missing --ticks 0 --turns 1
+    to=/dev/full run 3 /dev/null <(echo fmpsim: write failed) smp again.cfg again.txt --ticks 0 --turns 1 --seed 0
+    # a million records of over a kilobyte each
+    memory=100000 run 4 /dev/null <(echo fmpsim: want of memory) smp again.cfg again.txt --ticks 0 --turns 1000000 --seed 0
 }
 
 # The events come through a pipe, and the trace goes into one.
@@ -115,9 +152,15 @@ command_lines() {
     usage 2 errors output calls "$late/machine.cfg"
     usage 2 errors output calls "$late/machine.cfg" "$late/events.txt" more
     usage 2 errors output check "$late/machine.cfg" "$late/trace.txt" more
+    usage 2 errors output smp again.cfg again.txt --ticks 0
+    usage 2 errors output smp again.cfg again.txt --turns 1
+    run 2 /dev/null <(value 0 turns '0 is not in 1..=1000000') smp again.cfg again.txt --ticks 0 --turns 0
+    run 2 /dev/null <(value 1000001 ticks '1000001 is not in 0..=1000000') smp again.cfg again.txt --ticks 1000001 --turns 1
+    run 2 /dev/null <(value none seed 'invalid digit found in string') smp again.cfg again.txt --ticks 0 --turns 1 --seed none
     usage 0 output errors --help
     usage 0 output errors calls --help
     usage 0 output errors check --help
+    usage 0 output errors smp --help
 }
 
 [ "${1-}" = --runs ] || prove
@@ -125,6 +168,7 @@ for program in "$top"/crates/fmpsim/out/fmpsim{,.by-rattle}; do
     if [ -x "$program" ]; then
         examples
         texts_at_fault
+        scripts
         pipes
         devices_that_fail
         command_lines

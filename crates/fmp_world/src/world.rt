@@ -1,5 +1,5 @@
 //! The world: a history that is a run of the machine.
-ghost use Rattle.std.specs.Prelude.{◌≡◌, ◌+◌, ◌-◌, ◌≤◌, ◌<◌, ◌^◌, [], ◌∷◌, ◌++◌, length, IfOk, Some, None, ℕ, IsTrue, true, ◌↔◌};
+ghost use Rattle.std.specs.Prelude.{◌≡◌, ◌+◌, ◌-◌, ◌≤◌, ◌<◌, ◌^◌, [], ◌∷◌, ◌++◌, length, IfOk, Some, None, ℕ, IsTrue, true, ◌↔◌, is_some};
 ghost use Rattle.fmp_codes.specs.Records.{processor_of};
 ghost use Rattle.fmp_machine.specs.Valid.{IsValid};
 ghost use Rattle.fmp_world.specs.Histories.{state_after, is_idle, IsQuiet};
@@ -116,6 +116,13 @@ impl<'a> World<'a> {
         let receipt = self.make(event);
         seat.keep(receipt);
         Turn::Made(receipt)
+    }
+
+    /// Whether a processor has something to do, so that its turn makes a record where there is room.
+    pub fn has_turn(&self, p: Proc) -> bool
+        ensures { result ≡ is_some (scripted.choice self.now.config self.now.scripts self.now.records p) }
+    {
+        self.choose(p).is_some()
     }
 
     /// One tick of a processor. Where it is held, it is recorded so, and has to be given again.

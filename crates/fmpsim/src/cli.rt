@@ -1,6 +1,7 @@
 //! The command line.
 use clap::error::ErrorKind;
-use clap::{Arg, ArgAction, Command, Error};
+use clap::{Command, Error};
+use fmp_smp_command::{SmpRequest, parse_smp, path, smp_command};
 use fmpsim_run::Status;
 use std::alloc::{AllocError, Global};
 
@@ -75,6 +76,8 @@ pub enum Request<'a> {
     Calls(Paths<'a>),
     /// Whether a trace is the machine's.
     Check(Paths<'a>),
+    /// The trace of processors that follow scripts.
+    Smp(SmpRequest<'a>),
 }
 
 /// How a refused command line ends the program. Help is asked for, so nothing is wrong there.
@@ -84,13 +87,6 @@ pub fn status_of(error: &Error) -> Status {
         ErrorKind::DisplayHelp | ErrorKind::DisplayVersion => Status::Done,
         _ => Status::Usage,
     }
-}
-
-fn path<'a>(alloc: Global, id: &'a str, about: &'a str) -> Arg<'a> {
-    Arg::new(alloc, id)
-        .required(true)
-        .action(ArgAction::Set)
-        .help(about)
 }
 
 fn calls_command<'a>(alloc: Global) -> Result<Command<'a>, AllocError> {
@@ -123,7 +119,8 @@ fn whole_command<'a>(alloc: Global) -> Result<Command<'a>, AllocError> {
         .subcommand_required(true)
         .arg_required_else_help(true)
         .subcommand(calls_command(alloc)?)?
-        .subcommand(check_command(alloc)?)
+        .subcommand(check_command(alloc)?)?
+        .subcommand(smp_command(alloc)?)
 }
 
 /// The two paths that the words behind a subcommand name.
@@ -149,6 +146,9 @@ pub fn parse<'a>(alloc: Global, words: &'a [String]) -> Result<Request<'a>, Erro
     if command == Some("check") {
         let check = check_command(alloc)?;
         return Ok(Request::Check(named_paths(check, &words[1..], "TRACE")?));
+    }
+    if command == Some("smp") {
+        return Ok(Request::Smp(parse_smp(alloc, &words[1..])?));
     }
     let mut whole = whole_command(alloc)?;
     whole.try_get_matches_from_mut(words)?;

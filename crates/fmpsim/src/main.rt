@@ -1,5 +1,5 @@
-//! fmpsim: reads a configuration and another text from files, or events from standard input. Writes the trace of the machine's answers to events, or
-//! whether a trace is that of its own events.
+//! fmpsim: reads a configuration and another text from files, or that text from standard input. Writes the trace of the
+//! machine's answers to events or of processors that follow scripts, or whether a trace is what the machine answers.
 #![tactic(auto)]
 
 mod cli;
@@ -7,10 +7,17 @@ mod cli;
 mod tests;
 
 use cli::{Paths, Request};
-use fmpsim_run::{FaultLine, ReadSource, RunFault, Status, WriteSink, run_calls, run_check};
+use fmp_smp::Open;
+use fmp_smp_command::{Limits, SmpRequest};
+use fmpsim_run::{
+    FaultLine, ReadSource, RunFault, Status, WriteSink, run_calls, run_check, run_seeded,
+    run_threads,
+};
 use std::io::{Input, Read};
 use std::process::ExitCode;
 use std::rt::{Env, Files};
+use std::sync::Wait;
+use std::thread::Threads;
 use std::{env, fs, io};
 
 /// The paths where no text is at fault.
@@ -19,7 +26,7 @@ const NO_PATHS: Paths<'static> = Paths {
     text: "",
 };
 
-/// The path in whose place the events are read from standard input.
+/// The path in whose place events or scripts are read from standard input.
 const STANDARD_INPUT: &str = "-";
 
 /// Writes the trace of the machine's answers, each line as its event comes.
@@ -64,6 +71,60 @@ fn check<R: Files + Print + AllocGlobal>(rt: &R, paths: &Paths<'_>) -> Result<St
     Ok(Status::of_verdict(verdict))
 }
 
+/// Writes the trace of processors that follow scripts, in threads or in the order of the seed.
+fn played<R, C, S>(
+    rt: &R,
+    config: C,
+    scripts: S,
+    request: &SmpRequest<'_>,
+) -> Result<Status, RunFault>
+where
+    R: Print + AllocGlobal + Threads + Wait + Sync,
+    C: Read + Drop,
+    S: Read + Drop,
+{
+    let alloc = rt.alloc();
+    let mut config = ReadSource::new(config);
+    let mut scripts = ReadSource::new(scripts);
+    let mut trace = WriteSink::new(alloc, io::writer(rt))?;
+    let Limits { ticks, turns } = request.limits;
+    let ended = match request.seed {
+        Some(seed) => run_seeded(
+            alloc,
+            &mut config,
+            &mut scripts,
+            &mut trace,
+            ticks,
+            turns,
+            seed,
+        )?,
+        None => run_threads(
+            rt,
+            alloc,
+            &mut config,
+            &mut scripts,
+            &mut trace,
+            ticks,
+            turns,
+            &Open,
+        )?,
+    };
+    Ok(Status::of_end(ended))
+}
+
+/// Opens both files before it reads either, or takes the scripts from standard input.
+fn smp<R: Files + Input + Print + AllocGlobal + Threads + Wait + Sync>(
+    rt: &R,
+    request: &SmpRequest<'_>,
+) -> Result<Status, RunFault> {
+    let config = fs::open(rt, request.config).map_err(|_| RunFault::Read)?;
+    if request.scripts == STANDARD_INPUT {
+        return played(rt, config, rt.reader(), request);
+    }
+    let scripts = fs::open(rt, request.scripts).map_err(|_| RunFault::Read)?;
+    played(rt, config, scripts, request)
+}
+
 /// Tells a fault on standard error, and how it ends the program.
 fn failed<R: Eprint>(rt: &R, paths: &Paths<'_>, fault: &RunFault) -> Status {
     let line = FaultLine {
@@ -99,15 +160,27 @@ fn words_of<R: Env + AllocGlobal>(rt: &R) -> io::Result<Vec<String>> {
 }
 
 /// Does what the words ask for.
-fn execute<R: Files + Input + Print + Eprint + AllocGlobal>(rt: &R, words: &[String]) -> Status {
+fn execute<R: Files + Input + Print + Eprint + AllocGlobal + Threads + Wait + Sync>(
+    rt: &R,
+    words: &[String],
+) -> Status {
     match cli::parse(rt.alloc(), words) {
         Ok(Request::Calls(paths)) => ended(rt, &paths, calls(rt, &paths)),
         Ok(Request::Check(paths)) => ended(rt, &paths, check(rt, &paths)),
+        Ok(Request::Smp(request)) => {
+            let paths = Paths {
+                config: request.config,
+                text: request.scripts,
+            };
+            ended(rt, &paths, smp(rt, &request))
+        }
         Err(error) => refused(rt, &error),
     }
 }
 
-fn run<R: Env + Files + Input + Print + Eprint + AllocGlobal>(rt: &R) -> Status {
+fn run<R: Env + Files + Input + Print + Eprint + AllocGlobal + Threads + Wait + Sync>(
+    rt: &R,
+) -> Status {
     match words_of(rt) {
         Ok(words) => execute(rt, words.as_slice()),
         Err(error) if error.kind() == io::ErrorKind::InvalidData => {

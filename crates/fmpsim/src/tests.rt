@@ -33,6 +33,29 @@ fn both_commands(rt: HostRuntime) -> Result<(), Fail> {
     Ok(())
 }
 
+/// Two paths and two numbers, and a seed where one is given.
+#[test]
+fn smp_command(rt: HostRuntime) -> Result<(), Fail> {
+    for (line, seed) in [
+        ("fmpsim smp machine.cfg - --ticks 0 --turns 1000000", None),
+        (
+            "fmpsim smp --turns 1000000 --seed 18446744073709551615 machine.cfg --ticks 0 -",
+            Some(u64::MAX),
+        ),
+    ] {
+        let words = words_of(rt.alloc(), line)?;
+        let Request::Smp(request) = cli::parse(rt.alloc(), words.as_slice())? else {
+            return Err("a run of processors is asked for")?;
+        };
+        assert_eq!(rt; request.config, "machine.cfg");
+        assert_eq!(rt; request.scripts, "-");
+        assert_eq!(rt; request.limits.ticks, 0);
+        assert_eq!(rt; request.limits.turns, 1_000_000);
+        assert_eq!(rt; request.seed, seed);
+    }
+    Ok(())
+}
+
 /// The line is refused, and the program ends so.
 fn is_refused(rt: &impl Abort, alloc: Global, line: &str, status: Status) -> Result<(), Fail> {
     let words = words_of(alloc, line)?;
@@ -55,6 +78,14 @@ fn refused_lines(rt: HostRuntime) -> Result<(), Fail> {
         "fmpsim calls --fast machine.cfg events.txt",
         "fmpsim check machine.cfg",
         "fmpsim check machine.cfg trace.txt more",
+        "fmpsim smp machine.cfg scripts.txt",
+        "fmpsim smp machine.cfg scripts.txt --ticks 0",
+        "fmpsim smp machine.cfg scripts.txt --turns 1",
+        "fmpsim smp machine.cfg --ticks 0 --turns 1",
+        "fmpsim smp machine.cfg scripts.txt --ticks 0 --turns 0",
+        "fmpsim smp machine.cfg scripts.txt --ticks 0 --turns 1000001",
+        "fmpsim smp machine.cfg scripts.txt --ticks 1000001 --turns 1",
+        "fmpsim smp machine.cfg scripts.txt --ticks 0 --turns 1 --seed 18446744073709551616",
     ] {
         is_refused(&rt, rt.alloc(), line, Status::Usage)?;
     }
@@ -67,6 +98,7 @@ fn help(rt: HostRuntime) -> Result<(), Fail> {
         "fmpsim --help",
         "fmpsim calls --help",
         "fmpsim check --help",
+        "fmpsim smp --help",
         "fmpsim --version",
     ] {
         is_refused(&rt, rt.alloc(), line, Status::Done)?;

@@ -45,6 +45,8 @@ module _ (config_text event_text old : List ℕ) where
   nothing_out run.Read text write = inl refl
   nothing_out run.Write text write = absurd (false≢true (sym write))
   nothing_out run.Memory text write = inl refl
+  nothing_out run.Start text write = inl refl
+  nothing_out run.Disagree text write = inl refl
 
   pub no_text : (fault : RunFault) → is_text fault ≡ false → FirstTextFault config_text event_text fault
   no_text (run.Config fault) text = tt
@@ -52,6 +54,8 @@ module _ (config_text event_text old : List ℕ) where
   no_text run.Read text = tt
   no_text run.Write text = tt
   no_text run.Memory text = tt
+  no_text run.Start text = tt
+  no_text run.Disagree text = tt
 
   -- a fault behind a right configuration
   module _ (c : Setup) (says : SaysConfig config_text c) where
@@ -62,6 +66,8 @@ module _ (config_text event_text old : List ℕ) where
     leaves_out new run.Read config left = inr (c, says, left)
     leaves_out new run.Write config left = (trace_of c (reading_by_line c.names event_text).events, record { config = c; says = says; prints = refl }, left)
     leaves_out new run.Memory config left = inr (c, says, left)
+    leaves_out new run.Start config left = inr (c, says, left)
+    leaves_out new run.Disagree config left = inr (c, says, left)
 
     pub first_out : (fault : RunFault) → FirstEventFault (reading_by_line c.names event_text) fault → FirstTextFault config_text event_text fault
     first_out (run.Config fault) first = tt
@@ -69,6 +75,8 @@ module _ (config_text event_text old : List ℕ) where
     first_out run.Read first = tt
     first_out run.Write first = tt
     first_out run.Memory first = tt
+    first_out run.Start first = tt
+    first_out run.Disagree first = tt
 
     -- the same of a result
     pub leaves_result : {T : Type 0} (new : List ℕ) (r : Result T RunFault) → IfErr r (λ fault. is_config fault ≡ false)

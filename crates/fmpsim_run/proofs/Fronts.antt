@@ -8,6 +8,11 @@ use Rattle.fmp_statements.specs.Faults.{fault_of_line}
 use Rattle.fmp_config.specs.Limits.{most_bytes as MOST_CONFIG_BYTES}
 use Rattle.fmp_machine.specs.Setup.{Setup}
 use Rattle.fmp_config.specs.Reading.{config_in}
+use Rattle.fmp_names.specs.Names.{NameLists}
+use Rattle.fmp_scripts.specs.Scripts.{Steps}
+use Rattle.fmp_scripts.specs.Texts.{fault_at, scripts_in}
+use Rattle.fmp_text.specs.Limits.{most_bytes as MOST_TEXT_BYTES}
+use Rattle.fmp_text.specs.declared.fault.TextKind.TheVariants as text_kind
 
 -- any function of a text that answers one thing past the limit
 same : {A : Type 0} (limit : ℕ) (f : List ℕ → A) (past : A) → ((text : List ℕ) → limit < length text → f text ≡ past)
@@ -36,3 +41,19 @@ config_in-ok text config is = go (nat_lt MOST_CONFIG_BYTES (length text)) refl
         let bad = rw long at is in
         cc
     go false short = ltb-false MOST_CONFIG_BYTES (length text) short
+
+pub scripts_in-front : (names : NameLists) (all text rest : List ℕ) → all ≡ text ++ rest → (length text ≤ MOST_TEXT_BYTES → rest ≡ []) →
+    scripts_in names all ≡ scripts_in names text
+unfolding scripts_in
+scripts_in-front names all text rest split whole =
+    same MOST_TEXT_BYTES (scripts_in names) (fault_at text_kind.TooMany 0) (λ t long. rw (lt-ltb MOST_TEXT_BYTES (length t) long) refl) all text rest split whole
+
+pub scripts_in-ok : (names : NameLists) (text : List ℕ) (scripts : List Steps) → scripts_in names text ≡ Ok scripts → length text ≤ MOST_TEXT_BYTES
+unfolding scripts_in
+scripts_in-ok names text scripts is = go (nat_lt MOST_TEXT_BYTES (length text)) refl
+  where
+    go : (b : Bool) → nat_lt MOST_TEXT_BYTES (length text) ≡ b → length text ≤ MOST_TEXT_BYTES
+    go true long =
+        let bad = rw long at is in
+        cc
+    go false short = ltb-false MOST_TEXT_BYTES (length text) short

@@ -25,3 +25,5 @@ only_memory text c (run.Text fault) says first other = absurd (false≢true (sym
 only_memory text c run.Read says first other = tt
 only_memory text c run.Write says first other = tt
 only_memory text c run.Memory says first other = tt
+only_memory text c run.Start says first other = tt
+only_memory text c run.Disagree says first other = tt

@@ -12,7 +12,10 @@ use Rattle.fmp_names.specs.Names.{AreValid}
 use Rattle.fmp_text.specs.Limits.{most_bytes as MOST_BYTES}
 use Rattle.fmp_trace.specs.Checking.{PrintsAnswers}
 use Rattle.fmp_trace.specs.Lines.{lines_from}
+use Rattle.fmp_world.specs.declared.finishing.Ended.{Ended}
+use Rattle.fmp_world.specs.Histories.{events_of}
 use Rattle.fmpsim_run.specs.Runs.{Answered, SaysConfig}
+use Rattle.fmpsim_run.specs.Scripted.{Played}
 use Rattle.fmpsim_run.proofs.Grammars.{one_config}
 
 -- the trace that answers a list of events prints what this machine answers to them
@@ -29,3 +32,9 @@ answered_prints config_text event_text trace c is valid names_valid a short =
       short = short;
       prints = subst (λ (s : Setup). trace ≡ lines_from s.names 1 (answers numbered (booted s) a.events)) same a.prints;
     }
+
+-- so does the trace of processors that follow scripts
+pub played_prints : (config_text script_text trace : List ℕ) (ticks turns : ℕ) (ended : Ended) (c : Setup) → SaysConfig config_text c
+    → (p : Played config_text script_text ticks turns trace ended) → length trace ≤ MOST_BYTES → PrintsAnswers c trace (events_of p.records)
+played_prints config_text script_text trace ticks turns ended c is p short =
+    subst (λ (s : Setup). PrintsAnswers s trace (events_of p.records)) (one_config config_text p.config c p.says is) (p.answers short)

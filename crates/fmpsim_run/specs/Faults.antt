@@ -2,6 +2,8 @@
 use Rattle.std.specs.Prelude.{ℕ, Bool, true, false, List, ◌++◌, Result, Ok, Err, codes}
 use Rattle.fmp_config.specs.Faults.{text_of as config_text_of}
 use Rattle.fmp_text.specs.Faults.{text_of as text_text_of}
+use Rattle.fmp_smp.specs.declared.fault.SmpFault.{SmpFault}
+use Rattle.fmp_smp.specs.declared.fault.SmpFault.TheVariants as smp
 use Rattle.fmpsim_run.specs.declared.whole.ReadFault.{ReadFault}
 use Rattle.fmpsim_run.specs.declared.whole.ReadFault.TheVariants as read
 use Rattle.fmpsim_run.specs.declared.fault.RunFault.{RunFault}
@@ -11,6 +13,12 @@ use Rattle.fmpsim_run.specs.declared.fault.RunFault.TheVariants as run
 abbrev pub read_fault_of : ReadFault → RunFault
 read_fault_of read.Failed = run.Read
 read_fault_of read.Memory = run.Memory
+
+-- the run's fault where the processors made no run
+abbrev pub smp_fault_of : SmpFault → RunFault
+smp_fault_of smp.Memory = run.Memory
+smp_fault_of smp.Start = run.Start
+smp_fault_of smp.Disagree = run.Disagree
 
 abbrev pub is_read : RunFault → Bool
 is_read run.Read = true
@@ -44,6 +52,8 @@ text_of (run.Text fault) = text_text_of fault
 text_of run.Read = codes "read failed"
 text_of run.Write = codes "write failed"
 text_of run.Memory = codes "want of memory"
+text_of run.Start = codes "no thread could be started"
+text_of run.Disagree = codes "receipts disagree"
 
 -- the line that tells a fault, with the path of the configuration or of the other text where that has it
 abbrev pub fault_line : List ℕ → List ℕ → RunFault → List ℕ

@@ -3,4 +3,5 @@ pub mod Faults
 pub mod Statuses
 pub mod Runs
 pub mod Streams
+pub mod Scripted
 pub mod Checks

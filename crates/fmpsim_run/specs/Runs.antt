@@ -76,9 +76,8 @@ abbrev pub LeavesOut : List ℕ → List ℕ → List ℕ → List ℕ → RunFa
 LeavesOut config_text event_text old new (run.Config fault) = new ≡ old
 LeavesOut config_text event_text old new (run.Text fault) =
     (config : Setup) × SaysConfig config_text config × IsStopped config (reading_by_line config.names event_text) old new fault
-LeavesOut config_text event_text old new run.Read = IsFront config_text event_text old new
 LeavesOut config_text event_text old new run.Write = IsBegun config_text event_text old new
-LeavesOut config_text event_text old new run.Memory = IsFront config_text event_text old new
+LeavesOut config_text event_text old new other = IsFront config_text event_text old new
 
 -- a fault of the configuration is the first one of its text, or want of memory
 abbrev pub FirstConfigFault : List ℕ → RunFault → Type 0

@@ -4,12 +4,14 @@ use Rattle.fmp_statements.specs.declared.fault.ConfigKind.{ConfigKind}
 use Rattle.fmp_statements.specs.declared.fault.ConfigKind.TheVariants as config_kind
 use Rattle.fmp_text.specs.declared.fault.TextKind.{TextKind}
 use Rattle.fmp_text.specs.declared.fault.TextKind.TheVariants as text_kind
+use Rattle.fmp_world.specs.declared.finishing.Ended.{Ended}
+use Rattle.fmp_world.specs.declared.finishing.Ended.TheVariants as ended
 use Rattle.fmp_trace.specs.declared.checking.Verdict.{Verdict}
 use Rattle.fmp_trace.specs.declared.checking.Verdict.TheVariants.{Yes, No}
 use Rattle.fmpsim_run.specs.declared.fault.RunFault.{RunFault}
 use Rattle.fmpsim_run.specs.declared.fault.RunFault.TheVariants as run
 use Rattle.fmpsim_run.specs.declared.status.Status.{Status}
-use Rattle.fmpsim_run.specs.declared.status.Status.TheVariants.{Done, Faulty, Usage, Device, Memory, Different}
+use Rattle.fmpsim_run.specs.declared.status.Status.TheVariants.{Done, Faulty, Usage, Device, Memory, Different, Limit}
 
 -- the exit status
 abbrev pub code_of : Status → ℕ
@@ -19,6 +21,7 @@ code_of Usage = 2
 code_of Device = 3
 code_of Memory = 4
 code_of Different = 5
+code_of Limit = 6
 
 abbrev pub status_of_config : ConfigKind → Status
 status_of_config config_kind.Memory = Memory
@@ -35,8 +38,15 @@ status_of (run.Text fault) = status_of_text fault.kind
 status_of run.Read = Device
 status_of run.Write = Device
 status_of run.Memory = Memory
+status_of run.Start = Memory
+status_of run.Disagree = Memory
 
 -- after a verdict
 abbrev pub status_of_verdict : Verdict → Status
 status_of_verdict Yes = Done
 status_of_verdict (No line) = Different
+
+-- after a run of processors
+abbrev pub status_of_end : Ended → Status
+status_of_end ended.Quiet = Done
+status_of_end ended.Limit = Limit

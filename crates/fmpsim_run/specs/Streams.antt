@@ -27,9 +27,8 @@ pub record Streams (tells : Bool) (config : Setup) (whole : Reading) (old : List
 abbrev pub Leaves : Setup → Reading → List ℕ → List ℕ → RunFault → Type 0
 Leaves config whole old new (run.Config fault) = Unit {0}
 Leaves config whole old new (run.Text fault) = IsStopped config whole old new fault
-Leaves config whole old new run.Read = IsFrontOut config whole.events old new
 Leaves config whole old new run.Write = BeginsWith old (trace_of config whole.events) new
-Leaves config whole old new run.Memory = IsFrontOut config whole.events old new
+Leaves config whole old new other = IsFrontOut config whole.events old new
 
 -- the text has no fault, and the trace of all its events was written after old
 pub record IsAllOut (config : Setup) (whole : Reading) (old new : List ℕ) : Type 0 where

@@ -5,6 +5,8 @@ ghost use Rattle.fmp_text.specs.Limits.{most_bytes as MOST_BYTES};
 ghost use Rattle.fmp_trace.specs.Checking.{Judges, PrintsAnswers};
 ghost use Rattle.fmpsim_run.specs.Faults.{failed_read, failed_write, is_config, is_write};
 ghost use Rattle.fmpsim_run.specs.Runs.{Answered, CountsReads, FirstConfigFault};
+ghost use Rattle.fmp_world.specs.declared.finishing.Ended.{Ended};
+ghost use Rattle.fmpsim_run.specs.Scripted.{Played};
 ghost use Rattle.fmpsim_run.specs.Checks.{Checked, IsCheckBegun, IsFirstOfTrace, IsYes, FirstTraceFault, verdict_text};
 
 use crate::fault::RunFault;
@@ -54,6 +56,8 @@ fn checked<R: Source, S: Source>(
     ensures checked { IsTrue R.tells → IsTrue S.tells → IfOk result (Checked (R.left config.old) (S.left trace.old)) }
     ensures answers { IsTrue R.tells → IsTrue S.tells → (event_text : List ℕ) → Answered (R.left config.old) event_text (S.left trace.old)
         → length (S.left trace.old) ≤ MOST_BYTES → IsYes result }
+    ensures plays { IsTrue R.tells → IsTrue S.tells → (script_text : List ℕ) (ticks turns : ℕ) (ended : Ended)
+        → Played (R.left config.old) script_text ticks turns (S.left trace.old) ended → length (S.left trace.old) ≤ MOST_BYTES → IsYes result }
     ensures config_read { IsTrue R.tells → OnOk result (R.left config.new ≡ []) }
     ensures trace_read { IsTrue S.tells → OnOk result (S.left trace.new ≡ []) }
 
@@ -105,6 +109,10 @@ pub fn run_check<R: Source, S: Source, W: Sink>(
     // A trace that answers some events, as `run_calls` writes it, is checked with yes.
     ensures answers { IsTrue R.tells → IsTrue S.tells → (event_text : List ℕ) → Answered (R.left config.old) event_text (S.left trace.old)
         → length (S.left trace.old) ≤ MOST_BYTES → IsYes result }
+
+    // So is one of processors that follow scripts, as `run_threads` and `run_seeded` write it.
+    ensures plays { IsTrue R.tells → IsTrue S.tells → (script_text : List ℕ) (ticks turns : ℕ) (ended : Ended)
+        → Played (R.left config.old) script_text ticks turns (S.left trace.old) ended → length (S.left trace.old) ≤ MOST_BYTES → IsYes result }
 
     // A fault of a text is its first one.
     ensures config_fault { IsTrue R.tells → IfErr result (FirstConfigFault (R.left config.old)) }

@@ -1,12 +1,13 @@
 //! Why a run did not go to its end.
 ghost use Rattle.std.specs.Prelude.{◌≡◌};
 ghost use Rattle.fmpsim_run.specs.declared.fault.RunFault.TheVariants.{Memory, Write};
-ghost use Rattle.fmpsim_run.specs.Faults.{read_fault_of};
+ghost use Rattle.fmpsim_run.specs.Faults.{read_fault_of, smp_fault_of};
 
 use crate::source::Failed;
 use crate::status::Status;
 use crate::whole::ReadFault;
 use fmp_config::{ConfigFault, ConfigKind};
+use fmp_smp::SmpFault;
 use fmp_text::{TextFault, TextKind};
 use std::alloc::AllocError;
 use std::error::Error;
@@ -25,6 +26,10 @@ pub enum RunFault {
     Write,
     /// Memory ran out.
     Memory,
+    /// A thread could not be started.
+    Start,
+    /// What the processors were told is not what the trace says.
+    Disagree,
 }
 
 impl RunFault {
@@ -48,7 +53,9 @@ impl RunFault {
                     ..
                 },
             )
-            | RunFault::Memory => Status::Memory,
+            | RunFault::Memory
+            | RunFault::Start
+            | RunFault::Disagree => Status::Memory,
             RunFault::Config(_) | RunFault::Text(_) => Status::Faulty,
             RunFault::Read | RunFault::Write => Status::Device,
         }
@@ -69,6 +76,8 @@ impl fmt::Display for RunFault {
             RunFault::Read => write!(f, "read failed"),
             RunFault::Write => write!(f, "write failed"),
             RunFault::Memory => write!(f, "want of memory"),
+            RunFault::Start => write!(f, "no thread could be started"),
+            RunFault::Disagree => write!(f, "receipts disagree"),
         }
     }
 }
@@ -97,7 +106,11 @@ impl fmt::Display for FaultLine<'_> {
         match fault {
             RunFault::Config(_) => write!(f, "fmpsim: {config}: {fault}"),
             RunFault::Text(_) => write!(f, "fmpsim: {text}: {fault}"),
-            RunFault::Read | RunFault::Write | RunFault::Memory => write!(f, "fmpsim: {fault}"),
+            RunFault::Read
+            | RunFault::Write
+            | RunFault::Memory
+            | RunFault::Start
+            | RunFault::Disagree => write!(f, "fmpsim: {fault}"),
         }
     }
 }
@@ -117,6 +130,18 @@ impl From<ReadFault> for RunFault {
         match error {
             ReadFault::Failed => RunFault::Read,
             ReadFault::Memory => RunFault::Memory,
+        }
+    }
+}
+
+impl From<SmpFault> for RunFault {
+    ghost from_gives = { λ error fault. fault ≡ smp_fault_of error };
+
+    fn from(error: SmpFault) -> RunFault {
+        match error {
+            SmpFault::Memory => RunFault::Memory,
+            SmpFault::Start => RunFault::Start,
+            SmpFault::Disagree => RunFault::Disagree,
         }
     }
 }

@@ -11,6 +11,7 @@ mod status;
 mod std_io;
 mod stream;
 mod texts;
+mod threads;
 mod whole;
 
 pub use calls::run_calls;
@@ -21,4 +22,5 @@ pub use sink::{Sink, write_all, write_out};
 pub use source::{Failed, Source};
 pub use status::Status;
 pub use std_io::{ReadSource, WriteSink};
+pub use threads::{run_seeded, run_threads};
 pub use whole::{ReadFault, read_up_to};

@@ -3,11 +3,12 @@ ghost use Rattle.std.specs.Prelude.{◌≡◌};
 ghost use Rattle.fmpsim_run.specs.Statuses as spec;
 
 use fmp_trace::Verdict;
+use fmp_world::Ended;
 
 /// How the program ends. The number of each is its exit status.
 #[derive(Clone, Copy, Debug, PartialEq, Eq)]
 pub enum Status {
-    /// All is done, the verdict is yes, or help was asked for.
+    /// All is done, the verdict is yes, no processor had anything left to do, or help was asked for.
     Done = 0,
     /// A text has a fault.
     Faulty = 1,
@@ -15,14 +16,16 @@ pub enum Status {
     Usage = 2,
     /// A file could not be read, or the output not be written.
     Device = 3,
-    /// Memory ran out.
+    /// Memory ran out, a thread could not be started, or receipts disagree.
     Memory = 4,
     /// The verdict is no.
     Different = 5,
+    /// A run of processors came to its limit of turns.
+    Limit = 6,
 }
 
 impl Status {
-    /// The exit status, from 0 to 5.
+    /// The exit status, from 0 to 6.
     pub const fn code(self) -> u8
         ensures { result ≡ spec.code_of self }
     {
@@ -36,6 +39,16 @@ impl Status {
         match verdict {
             Verdict::Yes => Status::Done,
             Verdict::No(_) => Status::Different,
+        }
+    }
+
+    /// How a run of processors ends.
+    pub const fn of_end(ended: Ended) -> Status
+        ensures { result ≡ spec.status_of_end ended }
+    {
+        match ended {
+            Ended::Quiet => Status::Done,
+            Ended::Limit => Status::Limit,
         }
     }
 }

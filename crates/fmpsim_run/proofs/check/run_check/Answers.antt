@@ -5,3 +5,8 @@ pub returns-in_err-verdict-clause-answers : goal.returns-in_err-verdict-clause-a
 returns-in_err-verdict-clause-answers g c = λ tells tells_too event_text answered short.
     let p = err_from_is_err_and c.from_residual.result c.from_residual.ensures.1 in
     rw (p.1, p.2) (c.in_err-verdict.ensures.answers tells tells_too event_text answered short)
+
+pub returns-in_err-verdict-clause-plays : goal.returns-in_err-verdict-clause-plays
+returns-in_err-verdict-clause-plays g c = λ tells tells_too script_text ticks turns ended played short.
+    let p = err_from_is_err_and c.from_residual.result c.from_residual.ensures.1 in
+    rw (p.1, p.2) (c.in_err-verdict.ensures.plays tells tells_too script_text ticks turns ended played short)

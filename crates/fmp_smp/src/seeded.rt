@@ -1,0 +1,102 @@
+//! All processors and the clock on one thread, in an order that a seed gives.
+ghost use Rattle.std.specs.Prelude.{◌≡◌, ◌≢◌, ◌≤◌, map, IfOk, IfErr};
+ghost use Rattle.fmp_world.specs.Ends.{IsSmpRun};
+
+use crate::fault::SmpFault;
+use crate::rounds::{Rounds, take_turn};
+use arrayvec::ArrayVec;
+use fmp_codes::Proc;
+use fmp_machine::Config;
+use fmp_scripts::Scripts;
+use fmp_world::{Seats, SmpRun, Turn, World};
+use rand_core::{Rng, SeedableRng};
+use rand_xoshiro::SplitMix64;
+use std::alloc::Global;
+
+/// Plays all processors and the clock on one thread, in an order that the seed gives: the same seed gives the same run.
+///
+/// Before each record those are listed that can make one: the processors that have something to do, in their order, and behind
+/// them the clock, as long as it has ticks to give. Then the next number of SplitMix64 from the seed, modulo the length of this
+/// list, is the place in it, from 0, of the one that does: a processor takes its turn, the clock gives its next tick. So there is
+/// one number for each record, also where only one can make it. The clock gives its ticks as [`run_smp`](crate::run_smp) does:
+/// one taken tick to each processor in order, round by round, or under a global timer to the master alone; a held tick is its next
+/// one again.
+///
+/// The run ends when the list is empty, which says that all ticks are taken and no processor has anything to do, or when the history
+/// has `turns` records. All memory is taken before the first turn.
+///
+/// Errors: `Memory` where there is none for that, `Disagree` where this made no run.
+pub fn run_seeded(
+    alloc: Global,
+    config: &Config,
+    scripts: Scripts,
+    ticks: u32,
+    turns: u32,
+    seed: u64,
+) -> Result<SmpRun, SmpFault>
+    requires ticks { ticks ≤ 1000000 }
+    requires least { 1 ≤ turns }
+    requires most { turns ≤ 1000000 }
+    ensures run { IfOk result (λ r. IsSmpRun config.now scripts ticks turns r.records.items (map (λ v. v.items) r.receipts.items) r.ended) }
+    ensures no_start { IfErr result (λ f. f ≢ SmpFault.Start) }
+{
+    let (mut world, mut seats) = World::boot(alloc, config, &scripts, turns)?;
+    let mut rounds = Rounds::new(config, ticks);
+    let mut numbers = SplitMix64::seed_from_u64(seed);
+    for _ in 0..turns {
+        let Some(mover) = draw(alloc, &world, &rounds, &mut numbers) else {
+            break;
+        };
+        if go(mover, &mut world, &mut seats, &mut rounds) == Turn::Full {
+            break;
+        }
+    }
+    world
+        .finish(seats, config, &scripts, ticks, turns)
+        .ok_or(SmpFault::Disagree)
+}
+
+/// Who makes the next record.
+#[derive(Clone, Copy, Default)]
+enum Mover {
+    Cpu(Proc),
+    #[default]
+    Clock,
+}
+
+// One of those that can make a record, or none where there is none.
+fn draw(
+    alloc: Global,
+    world: &World<'_>,
+    rounds: &Rounds,
+    numbers: &mut SplitMix64,
+) -> Option<Mover> {
+    let movers = movers(alloc, world, rounds);
+    let place = numbers.next_u64().checked_rem(movers.len() as u64)?;
+    movers.get(place as usize).copied()
+}
+
+// Those that can make a record: the processors in their order, and the clock behind them.
+fn movers(alloc: Global, world: &World<'_>, rounds: &Rounds) -> ArrayVec<Mover, 9, Global> {
+    let mut movers = ArrayVec::new_in(alloc);
+    for at in 0..world.processors() {
+        let p = Proc::new(at + 1);
+        if world.has_turn(p) {
+            movers.push(Mover::Cpu(p));
+        }
+    }
+    if !rounds.are_over() {
+        movers.push(Mover::Clock);
+    }
+    movers
+}
+
+fn go(mover: Mover, world: &mut World<'_>, seats: &mut Seats, rounds: &mut Rounds) -> Turn {
+    match mover {
+        Mover::Clock => rounds.give(world, &mut seats.clock),
+        Mover::Cpu(p) => match seats.cpus.get_mut(p.index()) {
+            Some(cpu) => take_turn(world, cpu),
+            None => Turn::Full,
+        },
+    }
+}

@@ -1,0 +1,86 @@
+//! What the threads of a run share.
+use crate::gate::Gate;
+use crate::rounds::{Rounds, take_turn};
+use crossbeam_utils::sync::Unparker;
+use fmp_codes::{Proc, Record};
+use fmp_world::{Clock, Cpu, Turn, World};
+use std::sync::atomic::{AtomicBool, Ordering};
+use std::sync::{Mutex, Wait};
+
+// For each place, whether the record lists a request to the processor there.
+fn requested(made: Option<&Record>) -> [bool; 8] {
+    let mut requested = [false; 8];
+    if let Some(made) = made {
+        for p in made.requests.as_slice() {
+            requested[p.index()] = true;
+        }
+    }
+    requested
+}
+
+/// The world under its lock, what wakes each processor, and whether the run is over.
+#[derive(Drop)]
+pub struct Shared<'a, G> {
+    pub world: Mutex<World<'a>>,
+    pub unparkers: Vec<Unparker>,
+    pub over: AtomicBool,
+    pub gate: &'a G,
+}
+
+impl<'a, G: Gate> Shared<'a, G> {
+    pub fn is_over(&self) -> bool {
+        self.over.load(Ordering::SeqCst)
+    }
+
+    /// Ends the run: all threads wake, and see that it is over.
+    pub fn end(&self) {
+        self.over.store(true, Ordering::SeqCst);
+        self.wake_all();
+    }
+
+    pub fn wake_all(&self) {
+        for unparker in &self.unparkers {
+            unparker.unpark();
+        }
+    }
+
+    // Wakes a processor as often as the gate says.
+    fn wake(&self, from: Proc, to: Proc) {
+        if let Some(unparker) = self.unparkers.get(to.index()) {
+            for _ in 0..self.gate.wakes(from, to) {
+                unparker.unpark();
+            }
+        }
+    }
+
+    /// Wakes the processors of these places.
+    pub fn wake_requested(&self, from: Proc, requested: &[bool; 8]) {
+        for at in 0..8 {
+            if requested[at] {
+                self.wake(from, Proc::from_index(at));
+            }
+        }
+    }
+
+    /// One turn in one hold of the lock, and the places of the processors to which its record lists a request.
+    pub fn turn<T: Wait>(&self, rt: &T, cpu: &mut Cpu) -> (Turn, [bool; 8]) {
+        let mut guard = self.world.lock(rt);
+        let world = &mut *guard;
+        let turn = take_turn(world, cpu);
+        let requested = match turn {
+            Turn::Made(_) => requested(world.records().last()),
+            Turn::Nothing | Turn::Full => [false; 8],
+        };
+        (turn, requested)
+    }
+
+    /// One tick in one hold of the lock.
+    pub fn tick<T: Wait>(&self, rt: &T, clock: &mut Clock, rounds: &mut Rounds) -> Turn {
+        let mut guard = self.world.lock(rt);
+        rounds.give(&mut *guard, clock)
+    }
+
+    pub fn is_quiet<T: Wait>(&self, rt: &T) -> bool {
+        self.world.lock(rt).quiet()
+    }
+}

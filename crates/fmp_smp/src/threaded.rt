@@ -1,0 +1,153 @@
+//! One thread for each processor, and one for the clock.
+ghost use Rattle.std.specs.Prelude.{◌≡◌, ◌≤◌, map, IfOk};
+ghost use Rattle.fmp_world.specs.Ends.{IsSmpRun};
+
+use crate::fault::SmpFault;
+use crate::gate::Gate;
+use crate::rounds::Rounds;
+use crate::shared::Shared;
+use arrayvec::ArrayVec;
+use crossbeam_utils::sync::{Parker, Unparker};
+use fmp_machine::Config;
+use fmp_scripts::Scripts;
+use fmp_world::{Clock, Cpu, Seats, SmpRun, Turn, World};
+use std::alloc::{AllocError, Global};
+use std::sync::atomic::AtomicBool;
+use std::sync::{Mutex, Wait};
+use std::thread;
+use std::thread::{JoinHandle, Threads};
+
+/// Runs each processor in a thread of its own, and a clock in another, which gives each processor `ticks` taken ticks: round by
+/// round in the order of the processors, or under a global timer to the master alone. A held tick is recorded so, and given again
+/// in a later hold of the lock before any other. Each turn and each tick is one hold of the one lock.
+///
+/// The run ends when all ticks are taken and the world is quiet, or when the history has `turns` records. The memory of the world
+/// and its seats is taken before the first turn.
+///
+/// Errors: `Memory` where there is no memory for that, `Start` where a thread could not be started (those that were are joined),
+/// `Disagree` where what came back is no run.
+pub fn run_smp<T: Threads + Wait + Sync, G: Gate + Sync>(
+    rt: &T,
+    alloc: Global,
+    config: &Config,
+    scripts: Scripts,
+    ticks: u32,
+    turns: u32,
+    gate: &G,
+) -> Result<SmpRun, SmpFault>
+    requires ticks { ticks ≤ 1000000 }
+    requires least { 1 ≤ turns }
+    requires most { turns ≤ 1000000 }
+    ensures run { IfOk result (λ r. IsSmpRun config.now scripts ticks turns r.records.items (map (λ v. v.items) r.receipts.items) r.ended) }
+{
+    let (world, seats) = World::boot(alloc, config, &scripts, turns)?;
+    let (parkers, unparkers) = make_parkers(alloc, config.processors())?;
+    let threads = Vec::with_capacity(alloc, 8)?;
+    let shared = Shared {
+        world: Mutex::new(world),
+        unparkers,
+        over: AtomicBool::new(false),
+        gate,
+    };
+    let rounds = Rounds::new(config, ticks);
+    let seats = run_seats(rt, &shared, seats, parkers, threads, rounds).ok_or(SmpFault::Start)?;
+    let world = shared.world.into_inner();
+    world
+        .finish(seats, config, &scripts, ticks, turns)
+        .ok_or(SmpFault::Disagree)
+}
+
+// A parker for each processor, and what wakes it.
+fn make_parkers(alloc: Global, processors: u8) -> Result<(Vec<Parker>, Vec<Unparker>), AllocError> {
+    let mut parkers = Vec::with_capacity(alloc, 8)?;
+    let mut unparkers = Vec::with_capacity(alloc, 8)?;
+    for _ in 0..processors {
+        let parker = Parker::new(alloc)?;
+        unparkers.push(parker.unparker().clone()?)?;
+        parkers.push(parker)?;
+    }
+    Ok((parkers, unparkers))
+}
+
+// Starts and joins all threads. The seats come back where each of them could be started.
+fn run_seats<T: Threads + Wait + Sync, G: Gate + Sync>(
+    rt: &T,
+    shared: &Shared<'_, G>,
+    seats: Seats,
+    parkers: Vec<Parker>,
+    mut threads: Vec<JoinHandle<Cpu>>,
+    rounds: Rounds,
+) -> Option<Seats> {
+    let Seats { cpus, clock } = seats;
+    let alloc = *cpus.allocator();
+    thread::scope(thread::scope_env(), rt, move |scope| {
+        let mut started = true;
+        let ticking = match scope.spawn(move || run_clock(rt, shared, clock, rounds)) {
+            Ok(thread) => Some(thread),
+            Err(refused) => {
+                drop(refused);
+                None
+            }
+        };
+        for (cpu, parker) in cpus.into_iter().zip(parkers) {
+            match scope.spawn(move || run_cpu(rt, shared, cpu, parker)) {
+                Ok(thread) => started = threads.push(thread).is_ok() && started,
+                Err(refused) => {
+                    drop(refused);
+                    started = false;
+                }
+            }
+        }
+        if !started || ticking.is_none() {
+            shared.end();
+        }
+        let mut cpus = ArrayVec::new_in(alloc);
+        for thread in threads {
+            started = cpus.try_push(thread.join(rt)).is_ok() && started;
+        }
+        let clock = ticking?.join(rt);
+        started.then_some(Seats { cpus, clock })
+    })
+}
+
+// Takes turns until the run is over. Where there is nothing to do, it sleeps until it is woken.
+fn run_cpu<T: Wait, G: Gate>(rt: &T, shared: &Shared<'_, G>, mut cpu: Cpu, parker: Parker) -> Cpu {
+    let p = cpu.processor();
+    for _ in rt.forever() {
+        if shared.is_over() {
+            break;
+        }
+        shared.gate.before_turn(p);
+        let (turn, requested) = shared.turn(rt, &mut cpu);
+        shared.gate.between(p);
+        match turn {
+            Turn::Made(_) => shared.wake_requested(p, &requested),
+            Turn::Nothing => parker.park(rt),
+            Turn::Full => shared.end(),
+        }
+    }
+    cpu
+}
+
+// Gives the ticks, and then waits until the world is quiet. All processors are woken again and again, so that none sleeps on where
+// a wake-up was lost.
+fn run_clock<T: Wait, G: Gate>(
+    rt: &T,
+    shared: &Shared<'_, G>,
+    mut clock: Clock,
+    mut rounds: Rounds,
+) -> Clock {
+    for _ in rt.forever() {
+        if shared.is_over() {
+            break;
+        }
+        match shared.tick(rt, &mut clock, &mut rounds) {
+            Turn::Made(_) => shared.wake_all(),
+            Turn::Nothing if shared.is_quiet(rt) => shared.end(),
+            Turn::Nothing => shared.wake_all(),
+            Turn::Full => shared.end(),
+        }
+        thread::yield_now();
+    }
+    clock
+}

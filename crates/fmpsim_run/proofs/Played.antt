@@ -1,0 +1,46 @@
+-- How a run of processors that follow scripts ends.
+use Rattle.std.proofs.Common.{◌≡◌, ◌≤◌, ◌++◌, ℕ, List, refl, ap, arith}
+use Rattle.std.proofs.lemmas.List.{length-map}
+use Rattle.fmp_codes.specs.declared.records.Record.{Record}
+use Rattle.fmp_machine.specs.Setup.{Setup}
+use Rattle.fmp_scripts.specs.ScriptGrammar.{SpellsScripts}
+use Rattle.fmp_scripts.specs.Scripts.{Steps, AreInBits}
+use Rattle.fmp_names.specs.Names.{NameLists}
+use Rattle.fmp_trace.specs.Lines.{lines_from}
+use Rattle.fmp_world.specs.declared.finishing.Ended.{Ended}
+use Rattle.fmp_world.specs.declared.seats.Receipt.{Receipt}
+use Rattle.fmp_world.specs.Ends.{IsSmpRun}
+use Rattle.fmpsim_run.specs.Devices.{BeginsWith}
+use Rattle.fmpsim_run.specs.Runs.{SaysConfig}
+use Rattle.fmpsim_run.specs.Scripted.{IsPlayBegun, IsPlayed, Played}
+
+-- the trace of a run of at most 1,000,000 turns
+pub played : (config_text script_text : List ℕ) (ticks turns : ℕ) (c : Setup) (scripts : List Steps) (h : List Record) (receipts : List (List Receipt)) (ended : Ended)
+    → SaysConfig config_text c → SpellsScripts c.names script_text scripts → AreInBits scripts → turns ≤ 1000000
+    → IsSmpRun c scripts ticks turns h receipts ended → Played config_text script_text ticks turns (lines_from c.names 1 h) ended
+played config_text script_text ticks turns c scripts h receipts ended says spells fit few is = record {
+  config = c;
+  scripts = scripts;
+  records = h;
+  receipts = receipts;
+  says = says;
+  spells = spells;
+  run = is;
+  prints = refl;
+  answers = λ short. record {
+    on = is.run.on;
+    in_bits = is.in_bits fit;
+    few = omega (arith, length-map h (λ (r : Record). r.event), is.within, few);
+    short = short;
+    prints = ap (lines_from c.names 1) is.run.answers;
+  };
+}
+
+-- what was written, where these names and records are that run's
+module _ (config_text script_text : List ℕ) (ticks turns : ℕ) (c : Setup) (h : List Record) (ended : Ended) (run : Played config_text script_text ticks turns (lines_from c.names 1 h) ended)
+    (names : NameLists) (records : List Record) (same : names ≡ c.names) (all : records ≡ h) where
+  pub all_played : (old new : List ℕ) → new ≡ old ++ lines_from names 1 records → IsPlayed config_text script_text ticks turns old new ended
+  all_played old new is = (lines_from c.names 1 h, run, rw (same, all) at is)
+
+  pub begun_played : (old new : List ℕ) → BeginsWith old (lines_from names 1 records) new → IsPlayBegun config_text script_text ticks turns old new
+  begun_played old new is = (lines_from c.names 1 h, ended, run, rw (same, all) at is)

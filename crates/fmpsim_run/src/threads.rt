@@ -1,0 +1,160 @@
+//! The runs of processors that follow scripts, each in a thread of its own or in an order that a seed determines.
+ghost use Rattle.std.specs.Prelude.{◌≡◌, ◌≢◌, ◌+◌, ◌-◌, ◌≤◌, ◌^◌, ◌<◌, ◌++◌, [], length, IsTrue, OnOk, IfOk, IfErr, Err, false, if◌then◌else◌};
+ghost use Rattle.fmp_scripts.specs.ScriptGrammar.{SpellsScripts};
+ghost use Rattle.fmp_scripts.specs.Scripts.{AreInBits};
+ghost use Rattle.fmp_trace.specs.Lines.{lines_from};
+ghost use Rattle.fmpsim_run.specs.Devices.{BeginsWith};
+ghost use Rattle.fmpsim_run.specs.Faults.{failed_read, failed_write, is_config, is_read, is_text};
+ghost use Rattle.fmpsim_run.specs.Runs.{CountsReads, FirstConfigFault, SaysConfig};
+ghost use Rattle.fmpsim_run.specs.Scripted.{FirstScriptFault, IsPlayBegun, IsPlayed};
+
+use crate::fault::RunFault;
+use crate::sink::{Sink, write_out};
+use crate::source::Source;
+use crate::texts::{config_from, scripts_from};
+use fmp_codes::Record;
+use fmp_machine::Config;
+use fmp_scripts::Scripts;
+use fmp_smp::{Gate, run_smp};
+use fmp_text::Names;
+use fmp_trace::trace_text;
+use fmp_world::Ended;
+use std::alloc::Global;
+use std::sync::Wait;
+use std::thread::Threads;
+
+/// The machine and the scripts of two texts. It has no writer in hand, so nothing is written before both are accepted.
+fn texts_from<R: Source, S: Source>(
+    alloc: Global,
+    config: &mut R,
+    scripts: &mut S,
+) -> Result<(Config, Scripts), RunFault>
+    requires config_calls { R.failures config.old < 2 ^ 64 - 1 }
+    requires script_calls { S.failures scripts.old < 2 ^ 64 - 1 }
+    ensures says { IsTrue R.tells → IfOk result (λ r. SaysConfig (R.left config.old) r.0) }
+    ensures spells { IsTrue S.tells → IfOk result (λ r. SpellsScripts r.0.names (S.left scripts.old) r.1) }
+    ensures in_bits { IfOk result (λ r. AreInBits r.1) }
+    ensures config_read { IsTrue R.tells → OnOk result (R.left config.new ≡ []) }
+    ensures scripts_read { IsTrue S.tells → OnOk result (S.left scripts.new ≡ []) }
+    ensures config_fault { IsTrue R.tells → IfErr result (FirstConfigFault (R.left config.old)) }
+    ensures text_fault { IsTrue R.tells → IsTrue S.tells → IfErr result (FirstScriptFault (R.left config.old) (S.left scripts.old)) }
+    ensures reads { CountsReads result (R.failures config.old) (R.failures config.new) (S.failures scripts.old) (S.failures scripts.new) }
+    ensures no_write { failed_write result ≡ false }
+{
+    let configuration = config_from(alloc, config)?;
+    let list = scripts_from(alloc, configuration.names(), scripts)?;
+    Ok((configuration, list))
+}
+
+/// Writes the trace of the records, and holds none of it back.
+fn write_records<W: Sink>(
+    alloc: Global,
+    names: &Names,
+    records: &[Record],
+    trace: &mut W,
+) -> Result<(), RunFault>
+    requires calls { W.failures trace.old < 2 ^ 64 - 1 }
+    requires few { length records.now < 2 ^ 32 }
+    ensures written { IsTrue W.tells → OnOk result (W.written trace.new ≡ W.written trace.old ++ lines_from names.now 1 records.now) }
+    ensures passed { OnOk result (W.buffered trace.new ≡ []) }
+    ensures write { IsTrue W.tells → (result ≡ Err RunFault.Write)
+        → BeginsWith (W.written trace.old) (lines_from names.now 1 records.now) (W.written trace.new) }
+    ensures unwritten { IsTrue W.tells → IfErr result (λ fault. fault ≢ RunFault.Write → W.written trace.new ≡ W.written trace.old) }
+    ensures kinds { IfErr result (λ fault. (is_config fault ≡ false) × (is_text fault ≡ false) × (is_read fault ≡ false)) }
+    ensures writes { W.failures trace.new ≡ W.failures trace.old + (if failed_write result then 1 else 0) }
+{
+    let text = trace_text(alloc, records, names)?;
+    Ok(write_out(trace, text.as_slice())?)
+}
+
+/// Reads a configuration and scripts, runs each processor in a thread of its own, and writes the trace of what happened.
+///
+/// A clock gives each processor so many ticks. The run ends where all are taken and no processor has anything left to do,
+/// or where it has so many turns.
+pub fn run_threads<T: Threads + Wait + Sync, R: Source, S: Source, W: Sink, G: Gate + Sync>(
+    rt: &T,
+    alloc: Global,
+    config: &mut R,
+    scripts: &mut S,
+    trace: &mut W,
+    ticks: u32,
+    turns: u32,
+    gate: &G,
+) -> Result<Ended, RunFault>
+    requires config_calls { R.failures config.old < 2 ^ 64 - 1 }
+    requires script_calls { S.failures scripts.old < 2 ^ 64 - 1 }
+    requires trace_calls { W.failures trace.old < 2 ^ 64 - 1 }
+    requires ticks { ticks ≤ 1000000 }
+    requires least { 1 ≤ turns }
+    requires most { turns ≤ 1000000 }
+
+    // Both texts were read to their ends, and what is written is the trace of a run of the one text's machine by the other's
+    // scripts. None of it is held back.
+    ensures answered { IsTrue R.tells → IsTrue S.tells → IsTrue W.tells
+        → IfOk result (IsPlayed (R.left config.old) (S.left scripts.old) ticks turns (W.written trace.old) (W.written trace.new)) }
+    ensures passed { OnOk result (W.buffered trace.new ≡ []) }
+    ensures config_read { IsTrue R.tells → OnOk result (R.left config.new ≡ []) }
+    ensures scripts_read { IsTrue S.tells → OnOk result (S.left scripts.new ≡ []) }
+
+    // A fault of a text is its first one.
+    ensures config_fault { IsTrue R.tells → IfErr result (FirstConfigFault (R.left config.old)) }
+    ensures text_fault { IsTrue R.tells → IsTrue S.tells → IfErr result (FirstScriptFault (R.left config.old) (S.left scripts.old)) }
+
+    // After a failed write or flush a beginning of the trace is out, and after any other fault nothing is.
+    ensures write { IsTrue R.tells → IsTrue S.tells → IsTrue W.tells → (result ≡ Err RunFault.Write)
+        → IsPlayBegun (R.left config.old) (S.left scripts.old) ticks turns (W.written trace.old) (W.written trace.new) }
+    ensures unwritten { IsTrue W.tells → IfErr result (λ fault. fault ≢ RunFault.Write → W.written trace.new ≡ W.written trace.old) }
+
+    // Which calls of the devices failed.
+    ensures reads { CountsReads result (R.failures config.old) (R.failures config.new) (S.failures scripts.old) (S.failures scripts.new) }
+    ensures writes { W.failures trace.new ≡ W.failures trace.old + (if failed_write result then 1 else 0) }
+{
+    let (machine, list) = texts_from(alloc, config, scripts)?;
+    let run = run_smp(rt, alloc, &machine, list, ticks, turns, gate)?;
+    write_records(alloc, machine.names(), run.records.as_slice(), trace)?;
+    Ok(run.ended)
+}
+
+/// The same without threads, in an order that the seed determines: the same texts and numbers give the same trace.
+pub fn run_seeded<R: Source, S: Source, W: Sink>(
+    alloc: Global,
+    config: &mut R,
+    scripts: &mut S,
+    trace: &mut W,
+    ticks: u32,
+    turns: u32,
+    seed: u64,
+) -> Result<Ended, RunFault>
+    requires config_calls { R.failures config.old < 2 ^ 64 - 1 }
+    requires script_calls { S.failures scripts.old < 2 ^ 64 - 1 }
+    requires trace_calls { W.failures trace.old < 2 ^ 64 - 1 }
+    requires ticks { ticks ≤ 1000000 }
+    requires least { 1 ≤ turns }
+    requires most { turns ≤ 1000000 }
+
+    // Both texts were read to their ends, and what is written is the trace of a run of the one text's machine by the other's
+    // scripts. None of it is held back.
+    ensures answered { IsTrue R.tells → IsTrue S.tells → IsTrue W.tells
+        → IfOk result (IsPlayed (R.left config.old) (S.left scripts.old) ticks turns (W.written trace.old) (W.written trace.new)) }
+    ensures passed { OnOk result (W.buffered trace.new ≡ []) }
+    ensures config_read { IsTrue R.tells → OnOk result (R.left config.new ≡ []) }
+    ensures scripts_read { IsTrue S.tells → OnOk result (S.left scripts.new ≡ []) }
+
+    // A fault of a text is its first one.
+    ensures config_fault { IsTrue R.tells → IfErr result (FirstConfigFault (R.left config.old)) }
+    ensures text_fault { IsTrue R.tells → IsTrue S.tells → IfErr result (FirstScriptFault (R.left config.old) (S.left scripts.old)) }
+
+    // After a failed write or flush a beginning of the trace is out, and after any other fault nothing is.
+    ensures write { IsTrue R.tells → IsTrue S.tells → IsTrue W.tells → (result ≡ Err RunFault.Write)
+        → IsPlayBegun (R.left config.old) (S.left scripts.old) ticks turns (W.written trace.old) (W.written trace.new) }
+    ensures unwritten { IsTrue W.tells → IfErr result (λ fault. fault ≢ RunFault.Write → W.written trace.new ≡ W.written trace.old) }
+
+    // Which calls of the devices failed.
+    ensures reads { CountsReads result (R.failures config.old) (R.failures config.new) (S.failures scripts.old) (S.failures scripts.new) }
+    ensures writes { W.failures trace.new ≡ W.failures trace.old + (if failed_write result then 1 else 0) }
+{
+    let (machine, list) = texts_from(alloc, config, scripts)?;
+    let run = fmp_smp::run_seeded(alloc, &machine, list, ticks, turns, seed)?;
+    write_records(alloc, machine.names(), run.records.as_slice(), trace)?;
+    Ok(run.ended)
+}
