@@ -1,0 +1,124 @@
+//! Configurations and scripts of these runs.
+use fmp_config::read_config;
+use fmp_machine::Config;
+use fmp_scripts::{Scripts, read_scripts};
+use std::alloc::Global;
+use std::test::Fail;
+
+/// What a run plays.
+#[derive(Clone, Copy)]
+pub struct Play {
+    pub config: &'static str,
+    pub scripts: &'static str,
+}
+
+impl Play {
+    pub fn config(self, alloc: Global) -> Result<Config, Fail> {
+        Ok(read_config(alloc, self.config.as_bytes())?)
+    }
+
+    pub fn scripts(self, alloc: Global, config: &Config) -> Result<Scripts, Fail> {
+        Ok(read_scripts(alloc, self.scripts.as_bytes(), config.names())?)
+    }
+}
+
+const ACTIVATES_AND_ASKS: &str = "\
+script main1
+  act_tsk(T2)
+end
+script main2
+  get_pid()
+end
+";
+
+/// The task of P1 activates that of P2, which asks its processor's number.
+pub const REMOTE: Play = Play {
+    config: "\
+PROCESSORS(2);
+DEF_CLASS(C1, 1, {1, 2});
+DEF_CLASS(C2, 2, {1, 2});
+CLASS(C1) { CRE_TSK(T1, {TA_ACT, 0, main1, 10, 4096, NULL}); }
+CLASS(C2) { CRE_TSK(T2, {TA_NULL, 0, main2, 10, 4096, NULL}); }
+",
+    scripts: ACTIVATES_AND_ASKS,
+};
+
+/// The same, where the ticks of P2 alone count.
+pub const REMOTE_MASTER: Play = Play {
+    config: "\
+PROCESSORS(2);
+TIMER(GLOBAL, 2);
+DEF_CLASS(C1, 1, {1, 2});
+DEF_CLASS(C2, 2, {1, 2});
+CLASS(C1) { CRE_TSK(T1, {TA_ACT, 0, main1, 10, 4096, NULL}); }
+CLASS(C2) { CRE_TSK(T2, {TA_NULL, 0, main2, 10, 4096, NULL}); }
+",
+    scripts: ACTIVATES_AND_ASKS,
+};
+
+/// A task on each processor, which ends at once.
+pub const BOTH: Play = Play {
+    config: "\
+PROCESSORS(2);
+DEF_CLASS(C1, 1, {1, 2});
+DEF_CLASS(C2, 2, {1, 2});
+CLASS(C1) { CRE_TSK(T1, {TA_ACT, 0, main1, 10, 4096, NULL}); }
+CLASS(C2) { CRE_TSK(T2, {TA_ACT, 0, main2, 10, 4096, NULL}); }
+",
+    scripts: "",
+};
+
+/// Both tasks take a spin lock.
+pub const SPINNING: Play = Play {
+    config: "\
+PROCESSORS(2);
+DEF_CLASS(C1, 1, {1, 2});
+DEF_CLASS(C2, 2, {1, 2});
+CLASS(C1) {
+  CRE_TSK(T1, {TA_ACT, 0, main1, 10, 4096, NULL});
+  CRE_SPN(L, {TA_NULL});
+}
+CLASS(C2) { CRE_TSK(T2, {TA_ACT, 0, main2, 10, 4096, NULL}); }
+",
+    scripts: "\
+script main1
+  loc_spn(L)
+  unl_spn(L)
+end
+script main2
+  loc_spn(L)
+  unl_spn(L)
+end
+",
+};
+
+/// A task that activates itself again and again.
+pub const ENDLESS: Play = Play {
+    config: "\
+PROCESSORS(1);
+DEF_CLASS(C1, 1, {1});
+CLASS(C1) { CRE_TSK(T1, {TA_ACT, 0, main1, 10, 4096, NULL}); }
+",
+    scripts: "\
+script main1
+  act_tsk(TSK_SELF)
+end
+",
+};
+
+/// The one task waits for the next tick, and the ticks of P1 alone count.
+pub const MASTER: Play = Play {
+    config: "\
+PROCESSORS(2);
+TIMER(GLOBAL, 1);
+DEF_CLASS(C1, 1, {1, 2});
+DEF_CLASS(C2, 2, {1, 2});
+CLASS(C1) { CRE_TSK(T1, {TA_ACT, 0, main1, 10, 4096, NULL}); }
+CLASS(C2) { CRE_TSK(T2, {TA_ACT, 0, main2, 10, 4096, NULL}); }
+",
+    scripts: "\
+script main2
+  dly_tsk(0)
+end
+",
+};
