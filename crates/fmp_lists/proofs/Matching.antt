@@ -9,7 +9,7 @@ use Rattle.fmp_codes.specs.declared.numbers.Pri.{Pri}
 use Rattle.fmp_codes.specs.declared.codes.Code.{Code}
 use Rattle.fmp_machine.specs.declared.setup.Order.{Order}
 use Rattle.fmp_machine.specs.declared.setup.Order.TheVariants as order
-use Rattle.fmp_machine.specs.declared.effect.Effect.{Effect}
+use Rattle.fmp_machine.specs.Effects.{Effect}
 use Rattle.fmp_machine.specs.declared.machine.TaskRecord.{TaskRecord}
 use Rattle.fmp_machine.specs.declared.machine.Wait.{Wait}
 use Rattle.fmp_machine.specs.declared.machine.QueueKind.{QueueKind}

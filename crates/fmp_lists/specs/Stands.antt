@@ -5,7 +5,7 @@ use Rattle.fmp_codes.specs.declared.numbers.Task.{Task}
 use Rattle.fmp_codes.specs.declared.numbers.Object.{Object}
 use Rattle.fmp_codes.specs.declared.numbers.Pri.{Pri}
 use Rattle.fmp_codes.specs.declared.records.Record.{Record}
-use Rattle.fmp_machine.specs.declared.effect.Effect.{Effect}
+use Rattle.fmp_machine.specs.Effects.{Effect}
 use Rattle.fmp_machine.specs.declared.setup.Order.{Order}
 use Rattle.fmp_machine.specs.declared.setup.DataQueueSetup.{DataQueueSetup}
 use Rattle.fmp_machine.specs.declared.machine.TaskRecord.{TaskRecord}

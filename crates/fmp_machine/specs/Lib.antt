@@ -6,6 +6,7 @@ pub mod Keeping
 pub mod Tasks
 pub mod Numbers
 pub mod Arguments
+pub mod Effects
 pub mod Rows
 pub mod Processors
 pub mod TaskCalls
@@ -20,3 +21,4 @@ pub mod Boot
 pub mod Outcomes
 pub mod Parts
 pub mod Building
+pub mod Due

@@ -11,7 +11,7 @@ use Rattle.fmp_codes.specs.declared.records.Answer.{Answer}
 use Rattle.fmp_codes.specs.declared.records.Answer.TheVariants as answer
 use Rattle.fmp_codes.specs.declared.records.Record.{Record}
 use Rattle.fmp_codes.specs.declared.records.Runner.{Runner}
-use Rattle.fmp_machine.specs.declared.effect.Effect.{Effect}
+use Rattle.fmp_machine.specs.Effects.{Effect}
 use Rattle.fmp_machine.specs.Setup.{has_time}
 use Rattle.fmp_machine.specs.World.{World, processor, with_processor, handler, runner_of, is_held, item, processors_of}
 use Rattle.fmp_machine.specs.Keeping.{Keeping, top}

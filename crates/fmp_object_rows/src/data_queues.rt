@@ -9,7 +9,7 @@ ghost use Rattle.fmp_object_rows.specs.Forms.{form_from};
 
 use crate::forms::check_form;
 use crate::waits::caller_waits;
-use fmp_codes::{Code, Object, Proc, Task};
+use fmp_codes::{Answer, Code, Object, Proc, Task};
 use fmp_machine::{Context, Effect, QueueKind, Rule, Wait};
 use fmp_words::{Objects, check_rule, check_timeout, data_queue_named, refuse_if, release};
 
@@ -140,10 +140,7 @@ fn force<M: Objects>(machine: &mut M, d: Object, value: i64) -> Effect
 {
     let lost = machine.first_value(d);
     shift(machine, d, value);
-    Effect {
-        lost,
-        ..Effect::done()
-    }
+    Effect::done().losing(lost)
 }
 
 /// Sends a value, if need be in the place of the oldest one.
@@ -210,11 +207,10 @@ fn receive<M: Objects>(machine: &mut M, d: Object, waiter: Option<Task>) -> Effe
         Some(t) => {
             let wait = machine.task(t).wait;
             let value = take_value(machine, d, wait);
-            let released = release(machine, t, Code::Accepted, None);
-            Effect {
-                releases: released.releases,
-                ..Effect::value(value)
-            }
+            release(machine, t, Code::Accepted, None).answering(Answer::Done(
+                Code::Accepted,
+                Some(value),
+            ))
         }
     }
 }

@@ -1,8 +1,9 @@
 //! The calls on eventflags.
-ghost use Rattle.std.specs.Prelude.{◌≡◌, ◌+◌, ◌<◌, ◌≤◌, ◌&&◌, true, not, nat_lt, is_some, length};
+ghost use Rattle.std.specs.Prelude.{◌≡◌, ◌+◌, ◌<◌, ◌≤◌, ◌&&◌, [], true, not, nat_lt, is_some, length};
 ghost use Rattle.fmp_machine.specs.Arguments.{is_timeout};
 ghost use Rattle.fmp_machine.specs.World.{processor};
-ghost use Rattle.fmp_machine.specs.Rows.{called, done_or_wait};
+ghost use Rattle.fmp_machine.specs.Effects.{adding};
+ghost use Rattle.fmp_machine.specs.Rows.{and_releases, called, done_or_wait};
 ghost use Rattle.fmp_machine.specs.Objects.{eventflag, holds};
 ghost use Rattle.fmp_machine.specs.Outcomes.{effect_of, refused_if};
 ghost use Rattle.fmp_machine.specs.SyncCalls.{is_met, cleared, served, is_taken, answered, set_flg, clr_flg, twai_flg, pol_flg};
@@ -45,21 +46,21 @@ fn cleared<M: Objects>(machine: &M, f: Object, x: u32) -> u32
     }
 }
 
-/// Sets the bits of an eventflag, and releases those of these tasks whose waits they meet, in their order.
-fn serve<M: Objects>(machine: &mut M, f: Object, x: u32, tasks: &[Task]) -> Releases
-    requires few { length tasks.now ≤ 64 }
+/// Sets the bits of an eventflag, and releases those of these tasks whose waits they meet, in their order. Each release is told
+/// as the last one.
+fn serve<M: Objects>(machine: &mut M, f: Object, x: u32, tasks: &[Task], told: &mut Releases)
+    requires few { length told.old + length tasks.now ≤ 64 }
     requires room { length tasks.now ≤ M.room machine.old }
-    ensures state { (M.world machine.new, result) ≡ served M.keeping (M.world machine.old) f x tasks.now }
+    ensures state { (M.world machine.new, told.new) ≡ and_releases told.old (served M.keeping (M.world machine.old) f x tasks.now) }
     ensures room { M.room machine.old ≤ M.room machine.new + length tasks.now }
 {
-    let mut releases = Releases::new();
     let mut bits = x;
     for t in tasks {
         let wait = machine.task(*t).wait;
         if is_met(bits, wait) {
             let rest = cleared(machine, f, bits);
             make_ready(machine, *t);
-            releases.push(Release {
+            told.push(Release {
                 task: *t,
                 code: Code::Accepted,
                 value: Some(i64::from(bits)),
@@ -68,10 +69,9 @@ fn serve<M: Objects>(machine: &mut M, f: Object, x: u32, tasks: &[Task]) -> Rele
         }
     }
     machine.set_pattern(f, bits);
-    releases
 }
 
-/// Sets bits of an eventflag, and releases those whose waits they meet.
+/// Sets bits of an eventflag, and releases those whose waits they meet, which it tells in their order.
 #[tactic(auto, unfolding(fmp_machine::specs::SyncCalls::set_flg))]
 pub(crate) fn set_flg<M: Objects>(
     machine: &mut M,
@@ -79,20 +79,20 @@ pub(crate) fn set_flg<M: Objects>(
     context: Context,
     id: i32,
     pattern: u32,
+    told: &mut Releases,
 ) -> Result<Effect, Code>
-    requires { 64 ≤ M.room machine.old }
-    ensures row { let w = M.world machine.old in (M.world machine.new, effect_of result) ≡ called w p (form_from context (set_flg M.keeping w id pattern)) }
+    requires room { 64 ≤ M.room machine.old }
+    requires empty { told.old ≡ [] }
+    ensures row { let w = M.world machine.old in (M.world machine.new, adding told.new (effect_of result)) ≡ called w p (form_from context (set_flg M.keeping w id pattern)) }
+    ensures once { (effect_of result).releases ≡ [] }
     ensures room { M.room machine.old ≤ M.room machine.new + 64 }
 {
     check_form(machine, p, context, Rule::in_task())?;
     let f = eventflag_named(machine, id)?;
     let bits = machine.eventflag(f).pattern | pattern;
     let waiters = machine.waiters(QueueKind::Eventflag, f);
-    let releases = serve(machine, f, bits, waiters.as_slice());
-    Ok(Effect {
-        releases,
-        ..Effect::done()
-    })
+    serve(machine, f, bits, waiters.as_slice(), told);
+    Ok(Effect::done())
 }
 
 /// Clears all bits of an eventflag that are not those of a pattern.

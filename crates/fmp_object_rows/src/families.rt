@@ -1,5 +1,6 @@
 //! The calls on objects by their families.
-ghost use Rattle.std.specs.Prelude.{◌≡◌, ◌+◌, ◌≤◌};
+ghost use Rattle.std.specs.Prelude.{◌≡◌, ◌+◌, ◌≤◌, []};
+ghost use Rattle.fmp_machine.specs.Effects.{TellsOnce, adding};
 ghost use Rattle.fmp_machine.specs.Rows.{called};
 ghost use Rattle.fmp_machine.specs.Outcomes.{effect_of};
 ghost use Rattle.fmp_machine.specs.SyncCalls.{sync_row};
@@ -14,17 +15,25 @@ use crate::eventflags::{clr_flg, pol_flg, set_flg, twai_flg};
 use crate::pools::{pget_mpf, rel_mpf, tget_mpf};
 use crate::semaphores::{pol_sem, sig_sem, twai_sem};
 use crate::spin_locks::{loc_spn, try_spn, unl_spn};
-use fmp_codes::{BufferCall, Code, Proc, SpinCall, SyncCall, TimeCall};
+use fmp_codes::{BufferCall, Code, Proc, Releases, SpinCall, SyncCall, TimeCall};
 use fmp_machine::{Context, Effect};
 use fmp_words::Objects;
 
 /// The timeout of a call that has none.
 const FOREVER: i32 = -1;
 
-/// A call on semaphores and eventflags from a processor: what it did, or the code with which it is refused.
-pub fn sync_call<M: Objects>(machine: &mut M, p: Proc, call: SyncCall) -> Result<Effect, Code>
-    requires { 64 ≤ M.room machine.old }
-    ensures row { let w = M.world machine.old in (M.world machine.new, effect_of result) ≡ called w p (sync_row M.keeping w p call) }
+/// A call on semaphores and eventflags from a processor: what it did, or the code with which it is refused. The releases of a
+/// call that can end many waits are told, and the one release of another is in its effect.
+pub fn sync_call<M: Objects>(
+    machine: &mut M,
+    p: Proc,
+    call: SyncCall,
+    told: &mut Releases,
+) -> Result<Effect, Code>
+    requires room { 64 ≤ M.room machine.old }
+    requires empty { told.old ≡ [] }
+    ensures row { let w = M.world machine.old in (M.world machine.new, adding told.new (effect_of result)) ≡ called w p (sync_row M.keeping w p call) }
+    ensures once { TellsOnce told.new (effect_of result) }
     ensures room { M.room machine.old ≤ M.room machine.new + 64 }
 {
     match call {
@@ -33,8 +42,8 @@ pub fn sync_call<M: Objects>(machine: &mut M, p: Proc, call: SyncCall) -> Result
         SyncCall::WaiSem(id) => twai_sem(machine, p, id, FOREVER),
         SyncCall::TwaiSem(id, timeout) => twai_sem(machine, p, id, timeout),
         SyncCall::PolSem(id) => pol_sem(machine, p, id),
-        SyncCall::SetFlg(id, pattern) => set_flg(machine, p, Context::Task, id, pattern),
-        SyncCall::IsetFlg(id, pattern) => set_flg(machine, p, Context::Handler, id, pattern),
+        SyncCall::SetFlg(id, pattern) => set_flg(machine, p, Context::Task, id, pattern, told),
+        SyncCall::IsetFlg(id, pattern) => set_flg(machine, p, Context::Handler, id, pattern, told),
         SyncCall::ClrFlg(id, pattern) => clr_flg(machine, p, id, pattern),
         SyncCall::WaiFlg(id, pattern, mode) => twai_flg(machine, p, id, pattern, mode, FOREVER),
         SyncCall::TwaiFlg(id, pattern, mode, timeout) => {

@@ -7,10 +7,10 @@ ghost use Rattle.fmp_machine.specs.Step.{step};
 ghost use Rattle.fmp_safety.specs.Safe.{Safe};
 ghost use Rattle.fmp_safety.specs.Laws.{FindsNothing, TakesRequest, RunsTop};
 
-use fmp_codes::{Event, Record};
+use fmp_codes::{Answer, Event, Record};
 use fmp_machine::Config;
 use fmp_plain_rows::Machine;
-use fmp_step::{boot, step};
+use fmp_step::{boot, step_into};
 use std::alloc::AllocError;
 use std::marker::Model;
 
@@ -55,8 +55,24 @@ impl Plain {
         ensures taken { TakesRequest self.old.state event result self.new.state }
         ensures top { RunsTop numbered self.old.state event result self.new.state }
     {
+        let mut told = Record::answer(event, None, Answer::Nothing);
+        self.step_into(event, &mut told);
+        told
+    }
+
+    /// Plays one event, and makes a record tell what it answers and did, whatever it told before.
+    pub fn step_into(&mut self, event: Event, told: &mut Record)
+        requires { self.old.steps < 4294967295 }
+        ensures step { (self.new.state, told.new) ≡ step numbered self.old.state event }
+        ensures steps { self.new.steps ≡ self.old.steps + 1 }
+
+        // As of `step`.
+        ensures nothing { FindsNothing numbered self.old.state event told.new self.new.state }
+        ensures taken { TakesRequest self.old.state event told.new self.new.state }
+        ensures top { RunsTop numbered self.old.state event told.new self.new.state }
+    {
         self.steps += 1;
-        step(&mut self.machine, event)
+        step_into(&mut self.machine, event, told);
     }
 
     /// Its state between two events.

@@ -17,7 +17,7 @@ use Rattle.fmp_codes.specs.declared.records.Event.TheVariants as event
 use Rattle.fmp_codes.specs.declared.records.Record.{Record}
 use Rattle.fmp_codes.specs.declared.records.Runner.TheVariants as runner
 use Rattle.fmp_calls.specs.Arguments.{EventInBits}
-use Rattle.fmp_machine.specs.declared.effect.Effect.{Effect}
+use Rattle.fmp_machine.specs.Effects.{Effect}
 use Rattle.fmp_machine.specs.declared.machine.TaskRecord.{TaskRecord}
 use Rattle.fmp_machine.specs.Setup.{Setup}
 use Rattle.fmp_machine.specs.Valid.{IsValid}

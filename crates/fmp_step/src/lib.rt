@@ -8,4 +8,4 @@ mod stepping;
 mod tick;
 
 pub use booting::boot;
-pub use stepping::step;
+pub use stepping::{step, step_into};

@@ -1,5 +1,6 @@
 //! One step of a machine.
-ghost use Rattle.std.specs.Prelude.{◌≡◌, ◌+◌, ◌≤◌, if◌then◌else◌};
+ghost use Rattle.std.specs.Prelude.{◌≡◌, ◌+◌, ◌≤◌, [], if◌then◌else◌};
+ghost use Rattle.fmp_machine.specs.Effects.{TellsOnce, adding};
 ghost use Rattle.fmp_machine.specs.Setup.{has_time};
 ghost use Rattle.fmp_machine.specs.World.{processor};
 ghost use Rattle.fmp_machine.specs.Step.{front_of, settled, unchanged, step};
@@ -9,7 +10,7 @@ use crate::dispatch::{changed_run, settle, tops};
 use crate::family;
 use crate::tick::tick;
 use arrayvec::ArrayVec;
-use fmp_codes::{Answer, Call, Event, Proc, Record, Runner, Task};
+use fmp_codes::{Answer, Call, Event, Proc, Record, Requests, Runner, Task};
 use fmp_machine::{Effect, Timer};
 use fmp_words::{Objects, Words, is_held, runner};
 
@@ -36,36 +37,38 @@ fn front_of<M: Words>(machine: &M, event: Event, q: Proc) -> Front
     }
 }
 
-/// The end of an event that did this.
+/// The end of an event that did this, and ended the waits that are told already.
 #[tactic(auto, unfolding(fmp_machine::specs::Step::settled))]
-fn settled<M: Words>(machine: &mut M, front: Front, effect: Effect) -> Record
-    ensures step { (M.world machine.new, result) ≡ settled M.keeping (seen front) (M.world machine.old, effect) }
+fn settled<M: Words>(machine: &mut M, front: Front, effect: Effect, told: &mut Record)
+    requires once { TellsOnce told.old.releases effect }
+    ensures step { (M.world machine.new, told.new) ≡ settled M.keeping (seen front) (M.world machine.old, adding told.old.releases effect) }
     ensures room { M.room machine.new ≡ M.room machine.old }
 {
-    let requests = settle(machine, front.tops.as_slice(), front.processor);
-    let running = machine.processor(front.processor).running;
-    let Effect {
-        answer,
-        releases,
-        lost,
-    } = effect;
-    Record {
-        event: front.event,
-        runner: front.runner,
-        answer,
-        releases,
-        lost,
-        run_change: changed_run(front.running, running),
-        requests,
+    let (answer, release, lost) = effect.into_parts();
+    if let Some(release) = release {
+        told.releases.push(release);
     }
+    told.event = front.event;
+    told.runner = front.runner;
+    told.answer = answer;
+    told.lost = lost;
+    told.requests = settle(machine, front.tops.as_slice(), front.processor);
+    let running = machine.processor(front.processor).running;
+    told.run_change = changed_run(front.running, running);
 }
 
 /// The record of an event that changes nothing.
 #[tactic(auto, unfolding(fmp_machine::specs::Step::unchanged))]
-fn unchanged<M: Words>(machine: &M, event: Event, q: Proc, answer: Answer) -> Record
-    ensures { (M.world machine.now, result) ≡ unchanged (M.world machine.now) event q answer }
+fn unchanged<M: Words>(machine: &M, event: Event, q: Proc, answer: Answer, told: &mut Record)
+    requires empty { told.old.releases ≡ [] }
+    ensures { (M.world machine.now, told.new) ≡ unchanged (M.world machine.now) event q answer }
 {
-    Record::answer(event, runner(machine, q), answer)
+    told.event = event;
+    told.runner = runner(machine, q);
+    told.answer = answer;
+    told.lost = None;
+    told.run_change = None;
+    told.requests = Requests::new();
 }
 
 /// Plays one event, and tells what it answers and did.
@@ -74,25 +77,38 @@ pub fn step<M: Objects>(machine: &mut M, event: Event) -> Record
     ensures step { (M.world machine.new, result) ≡ step M.keeping (M.world machine.old) event }
     ensures room { M.room machine.old ≤ M.room machine.new + 64 }
 {
+    let mut told = Record::answer(event, None, Answer::Nothing);
+    step_into(machine, event, &mut told);
+    told
+}
+
+/// Plays one event, and makes a record tell what it answers and did, whatever it told before.
+pub fn step_into<M: Objects>(machine: &mut M, event: Event, told: &mut Record)
+    requires { 64 ≤ M.room machine.old }
+    ensures step { (M.world machine.new, told.new) ≡ step M.keeping (M.world machine.old) event }
+    ensures room { M.room machine.old ≤ M.room machine.new + 64 }
+{
+    told.releases.clear();
     match event {
-        Event::Call(p, call) => step_call(machine, p, call),
-        Event::Tick(p) => step_tick(machine, p),
-        Event::Ipi(p) => step_interrupt(machine, p),
+        Event::Call(p, call) => step_call(machine, p, call, told),
+        Event::Tick(p) => step_tick(machine, p, told),
+        Event::Ipi(p) => step_interrupt(machine, p, told),
     }
 }
 
-fn step_call<M: Objects>(machine: &mut M, p: Proc, call: Call) -> Record
-    requires { 64 ≤ M.room machine.old }
-    ensures step { (M.world machine.new, result) ≡ step M.keeping (M.world machine.old) (Event.Call p call) }
+fn step_call<M: Objects>(machine: &mut M, p: Proc, call: Call, told: &mut Record)
+    requires room { 64 ≤ M.room machine.old }
+    requires empty { told.old.releases ≡ [] }
+    ensures step { (M.world machine.new, told.new) ≡ step M.keeping (M.world machine.old) (Event.Call p call) }
     ensures room { M.room machine.old ≤ M.room machine.new + 64 }
 {
     let event = Event::Call(p, call);
     if runner(machine, p).is_none() {
-        return unchanged(machine, event, p, Answer::Idle);
+        return unchanged(machine, event, p, Answer::Idle, told);
     }
     let front = front_of(machine, event, p);
-    let effect = family::call(machine, p, call);
-    settled(machine, front, effect)
+    let effect = family::call(machine, p, call, &mut told.releases);
+    settled(machine, front, effect, told);
 }
 
 /// Whether ticks on a processor count.
@@ -105,34 +121,36 @@ fn has_time(timer: Timer, p: Proc) -> bool
     }
 }
 
-fn step_tick<M: Objects>(machine: &mut M, p: Proc) -> Record
-    requires { 64 ≤ M.room machine.old }
-    ensures step { (M.world machine.new, result) ≡ step M.keeping (M.world machine.old) (Event.Tick p) }
+fn step_tick<M: Objects>(machine: &mut M, p: Proc, told: &mut Record)
+    requires room { 64 ≤ M.room machine.old }
+    requires empty { told.old.releases ≡ [] }
+    ensures step { (M.world machine.new, told.new) ≡ step M.keeping (M.world machine.old) (Event.Tick p) }
     ensures room { M.room machine.old ≤ M.room machine.new + 64 }
 {
     let event = Event::Tick(p);
     if !has_time(machine.timer(), p) {
-        return unchanged(machine, event, p, Answer::Nothing);
+        return unchanged(machine, event, p, Answer::Nothing, told);
     }
     if machine.processor(p).locked || machine.handler(p).is_some() {
-        return unchanged(machine, event, p, Answer::Held);
+        return unchanged(machine, event, p, Answer::Held, told);
     }
     let front = front_of(machine, event, p);
-    let effect = tick(machine, p);
-    settled(machine, front, effect)
+    tick(machine, p, &mut told.releases);
+    settled(machine, front, Effect::answer(Answer::Taken), told);
 }
 
-fn step_interrupt<M: Words>(machine: &mut M, p: Proc) -> Record
-    ensures step { (M.world machine.new, result) ≡ step M.keeping (M.world machine.old) (Event.Ipi p) }
+fn step_interrupt<M: Words>(machine: &mut M, p: Proc, told: &mut Record)
+    requires empty { told.old.releases ≡ [] }
+    ensures step { (M.world machine.new, told.new) ≡ step M.keeping (M.world machine.old) (Event.Ipi p) }
     ensures room { M.room machine.new ≡ M.room machine.old }
 {
     let event = Event::Ipi(p);
     if is_held(machine, p) {
-        return unchanged(machine, event, p, Answer::Held);
+        return unchanged(machine, event, p, Answer::Held, told);
     }
     let front = front_of(machine, event, p);
     let answer = interrupt_answer(machine, p);
-    settled(machine, front, Effect::answer(answer))
+    settled(machine, front, Effect::answer(answer), told);
 }
 
 /// Whether a request was pending.

@@ -1,11 +1,13 @@
 //! A tick: the counts fall, and what reaches 0 is served.
-ghost use Rattle.std.specs.Prelude.{◌≡◌, ◌+◌, ◌≤◌, None, length};
+ghost use Rattle.std.specs.Prelude.{◌≡◌, ◌+◌, ◌≤◌, [], None, length};
 ghost use Rattle.fmp_machine.specs.World.{handler};
+ghost use Rattle.fmp_machine.specs.Rows.{and_releases, plain};
 ghost use Rattle.fmp_machine.specs.Tick.{code_of, released, alarms_due, cyclics_due, with_handlers_due, tick};
+ghost use Rattle.fmp_codes.specs.declared.records.Answer.TheVariants as answer;
 ghost use Rattle.fmp_step.specs.Due.{due_count};
 
-use fmp_codes::{Answer, Code, Object, Proc, Release, Releases, Runner, Task};
-use fmp_machine::{Effect, Wait};
+use fmp_codes::{Code, Object, Proc, Release, Releases, Runner, Task};
+use fmp_machine::Wait;
 use fmp_words::{Objects, Words, make_ready};
 
 /// How a wait ends when its time is over.
@@ -18,25 +20,23 @@ fn code_of(wait: Option<Wait>) -> Code
     }
 }
 
-/// Ends the waits of these tasks, one after another, since their time is over.
-fn release_all<M: Words>(machine: &mut M, tasks: &[Task]) -> Releases
-    requires few { length tasks.now ≤ 64 }
+/// Ends the waits of these tasks, one after another, since their time is over. Each release is told as the last one.
+fn release_all<M: Words>(machine: &mut M, tasks: &[Task], told: &mut Releases)
+    requires few { length told.old + length tasks.now ≤ 64 }
     requires room { 64 ≤ M.room machine.old }
-    ensures state { (M.world machine.new, result) ≡ released M.keeping (M.world machine.old) tasks.now }
+    ensures state { (M.world machine.new, told.new) ≡ and_releases told.old (released M.keeping (M.world machine.old) tasks.now) }
     ensures due { (M.world machine.new).due ≡ (M.world machine.old).due }
     ensures room { M.room machine.old ≤ M.room machine.new + 64 }
 {
-    let mut releases = Releases::new();
     for t in tasks {
         let wait = machine.task(*t).wait;
         make_ready(machine, *t);
-        releases.push(Release {
+        told.push(Release {
             task: *t,
             code: code_of(wait),
             value: None,
         });
     }
-    releases
 }
 
 /// Lets these alarms become due on a processor, and stops them.
@@ -79,20 +79,17 @@ fn make_handlers_due<M: Objects>(machine: &mut M, p: Proc)
 }
 
 /// What a tick does on a processor that runs no handler: counts fall, waits whose time is over end in the order in which they
-/// began, and handlers become due. It does not dispatch.
+/// began, which is told, and handlers become due. It does not dispatch.
 #[tactic(auto, unfolding(fmp_machine::specs::Tick::counted_down, fmp_machine::specs::Tick::ticked))]
-pub(crate) fn tick<M: Objects>(machine: &mut M, p: Proc) -> Effect
+pub(crate) fn tick<M: Objects>(machine: &mut M, p: Proc, told: &mut Releases)
     requires room { 64 ≤ M.room machine.old }
     requires idle { handler (M.world machine.old) p ≡ None }
-    ensures step { (M.world machine.new, result) ≡ tick M.keeping (M.world machine.old) p }
+    requires empty { told.old ≡ [] }
+    ensures step { (M.world machine.new, record (plain answer.Taken) { releases = told.new }) ≡ tick M.keeping (M.world machine.old) p }
     ensures room { M.room machine.old ≤ M.room machine.new + 64 }
 {
     machine.count_down(p);
     let waits = machine.expired_waits();
-    let releases = release_all(machine, waits.as_slice());
+    release_all(machine, waits.as_slice(), told);
     make_handlers_due(machine, p);
-    Effect {
-        releases,
-        ..Effect::answer(Answer::Taken)
-    }
 }

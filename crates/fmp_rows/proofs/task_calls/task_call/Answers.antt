@@ -1,6 +1,6 @@
 use Rattle.std.proofs.Common.{rules, ◌≡◌, ℤ, to_z, of_z, w32, subst}
 use Rattle.fmp_codes.specs.declared.numbers.Proc.{Proc}
-use Rattle.fmp_machine.specs.declared.effect.Effect.{Effect}
+use Rattle.fmp_machine.specs.Effects.{Effect}
 use Rattle.fmp_machine.specs.World.{World}
 use Rattle.fmp_machine.specs.Rows.{called}
 use Rattle.fmp_machine.specs.TaskCalls.{get_pri}
