@@ -1,8 +1,13 @@
 -- What the kernel keeps, and what it tells, over one step.
-use Rattle.std.proofs.Common.{◌≡◌, ◌≤◌, length, sym, ap, ◌∙◌, subst}
+use Rattle.std.proofs.Common.{◌≡◌, ◌-◌, ◌<◌, ◌≤◌, true, false, None, length, sym, ap, ◌∙◌, subst, arith, ⊎_elim}
+use Rattle.std.specs.Prelude.{is_some}
+use Rattle.std.proofs.lemmas.Bool.{cases_lt}
+use Rattle.std.proofs.lemmas.List.{get_or_past}
+use Rattle.fmp_codes.specs.declared.numbers.Task.{Task}
 use Rattle.fmp_codes.specs.declared.records.Event.{Event}
 use Rattle.fmp_codes.specs.declared.records.Record.{Record}
-use Rattle.fmp_machine.specs.World.{World}
+use Rattle.fmp_links.specs.Tasks.{has_task}
+use Rattle.fmp_machine.specs.World.{World, item}
 use Rattle.fmp_machine.specs.Numbers.{State, numbered}
 use Rattle.fmp_machine.specs.Step.{step}
 use Rattle.fmp_safety.specs.Runs.{processor_of}
@@ -66,3 +71,15 @@ kept_safe k h = lists_safe k h.state h.stands h.safe
 
 pub kept_lists : (k : World Queues) → IsKept k → ListsAreRight k
 kept_lists k h = lists_are_right k h.state h.stands
+
+-- each task whose wait has ticks left is one of the tasks
+pub kept_timed : (k : World Queues) → IsKept k → (t : Task) → has_task t k.order.timed ≡ true → t.number ≤ length k.tasks
+kept_timed k h t e =
+    let m = h.state in
+    let w = h.stands.order.waits in
+    let first = t.least in
+    let has : is_some (item None m.waits_left t.number) ≡ true = sym (w.timed.members t) ∙ e in
+    subst (λ (x : World Queues). t.number ≤ length x.tasks) (sym h.stands.same)
+    (⊎_elim (λ (low : t.number - 1 < length m.tasks). omega (arith, low, first))
+    (λ (past : length m.tasks ≤ t.number - 1). absurd (let bad : true ≡ false = sym has ∙ ap is_some (get_or_past m.waits_left (t.number - 1) None (omega (arith, past, w.left_counted))) in cc))
+    (cases_lt (t.number - 1) (length m.tasks)))

@@ -11,10 +11,10 @@ ghost use Rattle.fmp_queues.specs.Queues.{listed};
 ghost use Rattle.fmp_lists.specs.Stands.{Stands};
 ghost use Rattle.fmp_lists.specs.Laws.{ListsAreRight};
 
-use fmp_codes::{Event, Record};
+use fmp_codes::{Answer, Event, Record};
 use fmp_kernel_rows::Machine;
 use fmp_machine::Config;
-use fmp_step::{boot, step};
+use fmp_step::{boot, step_into};
 use std::alloc::AllocError;
 use std::marker::Model;
 
@@ -64,6 +64,25 @@ impl Kernel {
         ensures taken { TakesRequest self.old event result self.new }
         ensures top { RunsTop listed self.old event result self.new }
     {
-        step(&mut self.machine, event)
+        let mut told = Record::answer(event, None, Answer::Nothing);
+        self.step_into(event, &mut told);
+        told
+    }
+
+    /// Plays one event on a processor of the machine, and makes a record tell what it answers and did, whatever it told before.
+    pub fn step_into(&mut self, event: Event, told: &mut Record)
+        requires { (processor_of event).number ≤ length self.old.processors }
+        ensures stands { (m : State) → Stands self.old m → Stands self.new (step numbered m event).0 }
+        ensures record { (m : State) → Stands self.old m → told.new ≡ (step numbered m event).1 }
+        ensures processors { length self.new.processors ≡ length self.old.processors }
+
+        // As of `step`.
+        ensures safe { Safe listed self.new }
+        ensures lists { ListsAreRight self.new }
+        ensures nothing { FindsNothing listed self.old event told.new self.new }
+        ensures taken { TakesRequest self.old event told.new self.new }
+        ensures top { RunsTop listed self.old event told.new self.new }
+    {
+        step_into(&mut self.machine, event, told);
     }
 }

@@ -1,6 +1,7 @@
 //! What the kernel shows of its state: what it reads in its lists, which is what each state of the model tells for which it
 //! stands.
 ghost use Rattle.std.specs.Prelude.{◌≡◌, ◌≤◌, length};
+ghost use Rattle.fmp_machine.specs.Due.{IsNextDue};
 ghost use Rattle.fmp_machine.specs.World.{task, processor, handler, is_held};
 ghost use Rattle.fmp_machine.specs.Keeping.{top, queue};
 ghost use Rattle.fmp_machine.specs.Numbers.{State, numbered};
@@ -94,5 +95,14 @@ impl Kernel {
         ensures model { (m : State) → Stands self.now m → result.items ≡ queue numbered m kind o }
     {
         self.machine.waiters(kind, o)
+    }
+
+    /// The least ticks left for which a tick on a processor counts: of timed waits, and of cyclic handlers and alarms that are
+    /// started.
+    pub fn next_due(&self, p: Proc) -> Option<u64>
+        ensures lists { IsNextDue self.now p result }
+        ensures model { (m : State) → Stands self.now m → IsNextDue m p result }
+    {
+        self.machine.next_due(p)
     }
 }

@@ -1,6 +1,9 @@
 //! The state of the kernel. Where there is none of a number, a read gives a blank record and a write does nothing.
-ghost use Rattle.std.specs.Prelude.{◌≡◌, IfOk};
+ghost use Rattle.std.specs.Prelude.{◌≡◌, ◌≤◌, true, length, IfOk};
+ghost use Rattle.fmp_codes.specs.declared.numbers.Task.{Task as AnyTask};
+ghost use Rattle.fmp_links.specs.Tasks.{has_task};
 ghost use Rattle.fmp_machine.specs.Boot.{blank};
+ghost use Rattle.fmp_machine.specs.Due.{IsNextDue};
 ghost use Rattle.fmp_queues.specs.Queues.{listed, no_queues};
 
 use arrayvec::ArrayVec;
@@ -63,5 +66,13 @@ impl Machine {
         ensures { result.items ≡ listed.ready self.now.order self.now.tasks p priority }
     {
         self.ready.list(p, priority)
+    }
+
+    /// The least ticks left for which a tick on a processor counts, if there are some.
+    pub fn next_due(&self, p: Proc) -> Option<u64>
+        requires { (t : AnyTask) → has_task t self.now.order.timed ≡ true → t.number ≤ length self.now.tasks }
+        ensures { IsNextDue self.now p result }
+    {
+        self.assigned.next_due(p)
     }
 }

@@ -82,6 +82,11 @@ module _ (cyclics : List Cyclic) (left : List (Option Left)) (few : length cycli
       ∙ ap (λ (b : Bool). cond b (start_left (get_or cyclics (96 + i - 96) blank_cyclic)) None) (lt-ltb (96 + i - 96) (length cyclics) (omega (arith, at, l)))
       ∙ ap (λ (j : ℕ). start_left (get_or cyclics j blank_cyclic)) at
 
+  past : (k : ℕ) → 96 + length cyclics ≤ k → k < 128 → get_or left k None ≡ None
+  past k f g = h k g
+      ∙ ap (λ (b : Bool). cond b None (cond (nat_lt (k - 96) (length cyclics)) (start_left (get_or cyclics (k - 96) blank_cyclic)) None)) (le-ltb k 96 (omega (arith, f)))
+      ∙ ap (λ (b : Bool). cond b (start_left (get_or cyclics (k - 96) blank_cyclic)) None) (le-ltb (k - 96) (length cyclics) (omega (arith, f)))
+
   pub none_left : {X : Type 0} (place n : ℕ) (ss : List X) → length ss ≡ n → place + n ≤ 96 → lefts left place n ≡ map (λ s. None) ss
   none_left place n ss e l =
       ext_get_or None (lefts left place n) (map (λ s. None) ss) (length-lefts left place n ∙ sym (length-map ss (λ s. None) ∙ e))
@@ -104,6 +109,8 @@ module _ (cyclics : List Cyclic) (left : List (Option Left)) (few : length cycli
     tasks_at = λ i l. subst (IsAt (get_or tasks i no_task).assigned) (sym (low (0 + i) (omega (arith, l, few_tasks)))) tt;
     cyclics_at = λ i l. subst (IsAt (get_or cyclics i blank_cyclic).assigned) (sym (high i l)) (start_at (get_or cyclics i blank_cyclic));
     alarms_at = λ i l. subst (IsAt (get_or alarms i blank_alarm).assigned) (sym (low (64 + i) (omega (arith, l, few_alarms)))) tt;
+    no_cyclics = past;
+    no_alarms = λ k f g. low k g;
     few_tasks = few_tasks;
     few_cyclics = few;
     few_alarms = few_alarms;

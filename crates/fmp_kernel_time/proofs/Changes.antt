@@ -2,7 +2,7 @@
 use Rattle.std.proofs.Common.{◌≡◌, ℕ, ◌+◌, ◌-◌, ◌<◌, ◌≤◌, ◌==◌, ◌++◌, ◌∷◌, [], Bool, true, false, cond, Option, Some, None, List, length, set, get_or, refl, sym, ap, ◌∙◌, subst, arith, ⊎_elim}
 use Rattle.std.specs.Prelude.{option_map, is_some}
 use Rattle.std.proofs.lemmas.Bool.{cases_eq, eq-eqb, ne_eqb}
-use Rattle.std.proofs.lemmas.List.{length-set, set-get_or, get_or_past}
+use Rattle.std.proofs.lemmas.List.{length-set, set-get_or, set_past, get_or_past}
 use Rattle.fmp_codes.specs.declared.numbers.Proc.{Proc}
 use Rattle.fmp_codes.specs.declared.numbers.Task.{Task}
 use Rattle.fmp_codes.specs.declared.numbers.Object.{Object}
@@ -18,9 +18,9 @@ use Rattle.fmp_time.specs.declared.item.Item.TheVariants.{Wait, Alarm as AlarmIt
 use Rattle.fmp_time.specs.Left.{Left, ticks_of}
 use Rattle.fmp_time.specs.Times.{Times, left_of, moved, moved_to, cancelled, renewed}
 use Rattle.fmp_kernel_time.specs.Assignments.{Assignments, assignments_of, lefts, blank_cyclic, blank_alarm, cyclic_in, alarm_in}
-use Rattle.fmp_kernel_time.specs.Counting.{IsAt, AreInStep, followed, with_left}
+use Rattle.fmp_kernel_time.specs.Counting.{IsAt, NoneCounts, AreInStep, followed, with_left}
 use Rattle.fmp_kernel_time.proofs.Lefts.{length-lefts, lefts-at, lefts-set, lefts-past, lefts-moved}
-use Rattle.fmp_kernel_time.proofs.Standing.{at_same, at_moved, at-past, at-set, at-write, at-both}
+use Rattle.fmp_kernel_time.proofs.Standing.{at_same, at_moved, at-past, at-set, at-write, at-both, none-set}
 
 -- assignments are the same where their lists are
 pub made : (timer : Timer) (tasks : List TaskRecord) (cyclics : List Cyclic) (alarms : List Alarm) (w v c d a b : List (Option ℕ)) (t u : List Task) → w ≡ v → t ≡ u → c ≡ d → a ≡ b →
@@ -47,6 +47,12 @@ module _ (timer : Timer) (tasks : List TaskRecord) (cyclics : List Cyclic) (alar
       let low = t.least in
       omega (arith, high, low, s.all)
 
+  none-wait : (t : Task) (l : Option Left) (from to : ℕ) → 64 ≤ from → NoneCounts m.left from to → NoneCounts (set m.left (t.number - 1) l) from to
+  none-wait t l from to h none =
+      let high = t.most in
+      let low = t.least in
+      none-set m.left from to (t.number - 1) l none (λ f g. absurd (omega (arith, h, f, high, low)))
+
   pub wait_set : (t : Task) (l : Option Left) (w : List Task) → assignments_of timer tasks cyclics alarms (record { left = set m.left (t.number - 1) l; waits = w })
       ≡ record (assignments_of timer tasks cyclics alarms m) { waits_left = with_item (lefts m.left 0 (length tasks)) t.number (option_map ticks_of l); timed = w }
   wait_set t l w = made timer tasks cyclics alarms _ _ _ _ _ _ _ _
@@ -59,6 +65,8 @@ module _ (timer : Timer) (tasks : List TaskRecord) (cyclics : List Cyclic) (alar
     tasks_at = at-set (λ r. r.assigned) no_task tasks m.left 0 s.tasks_at (t.number - 1) (t.number - 1) l (wait_in t) (omega arith) (λ low. h);
     cyclics_at = at-past (λ c. c.assigned) blank_cyclic cyclics m.left 96 s.cyclics_at (t.number - 1) l (λ i low e. apart-wait t 96 i (omega arith) e);
     alarms_at = at-past (λ a. a.assigned) blank_alarm alarms m.left 64 s.alarms_at (t.number - 1) l (λ i low e. apart-wait t 64 i (omega arith) e);
+    no_cyclics = none-wait t l (96 + length cyclics) 128 (omega arith) s.no_cyclics;
+    no_alarms = none-wait t l (64 + length alarms) 96 (omega arith) s.no_alarms;
     few_tasks = s.few_tasks;
     few_cyclics = s.few_cyclics;
     few_alarms = s.few_alarms;
@@ -92,11 +100,13 @@ module _ (timer : Timer) (tasks : List TaskRecord) (cyclics : List Cyclic) (alar
       (lefts-set m.left 96 (length cyclics) (o.number - 1) (96 + (o.number - 1)) l s.all (omega (arith, s.few_cyclics)) refl)
       (lefts-past m.left 64 (length alarms) (96 + (o.number - 1)) l (λ i h e. apart-cyclic o 64 i (length alarms) h (omega (arith, s.few_alarms)) e))
 
-  pub cyclic_step : (o : Object) (l : Option Left) → IsAt (cyclic_in cyclics o).assigned l → AreInStep tasks cyclics alarms (set m.left (96 + (o.number - 1)) l)
-  cyclic_step o l h = record {
+  pub cyclic_step : (o : Object) (l : Option Left) → o.number - 1 < length cyclics → IsAt (cyclic_in cyclics o).assigned l → AreInStep tasks cyclics alarms (set m.left (96 + (o.number - 1)) l)
+  cyclic_step o l here h = record {
     tasks_at = at-past (λ r. r.assigned) no_task tasks m.left 0 s.tasks_at (96 + (o.number - 1)) l (λ i low e. apart-cyclic o 0 i (length tasks) low (omega (arith, s.few_tasks)) e);
     cyclics_at = at-set (λ c. c.assigned) blank_cyclic cyclics m.left 96 s.cyclics_at (96 + (o.number - 1)) (o.number - 1) l (cyclic_in_left o) refl (λ low. h);
     alarms_at = at-past (λ a. a.assigned) blank_alarm alarms m.left 64 s.alarms_at (96 + (o.number - 1)) l (λ i low e. apart-cyclic o 64 i (length alarms) low (omega (arith, s.few_alarms)) e);
+    no_cyclics = none-set m.left (96 + length cyclics) 128 (96 + (o.number - 1)) l s.no_cyclics (λ f g. absurd (omega (arith, f, here)));
+    no_alarms = none-set m.left (64 + length alarms) 96 (96 + (o.number - 1)) l s.no_alarms (λ f g. absurd (omega (arith, g)));
     few_tasks = s.few_tasks;
     few_cyclics = s.few_cyclics;
     few_alarms = s.few_alarms;
@@ -108,9 +118,15 @@ module _ (timer : Timer) (tasks : List TaskRecord) (cyclics : List Cyclic) (alar
   cyclic_begun o p None = cyclic_set o None
   cyclic_begun o p (Some n) = cyclic_set o (Some (record { processor = p; ticks = n }))
 
-  pub cyclic_begun_step : (o : Object) (p : Proc) (left : Option ℕ) → p ≡ (cyclic_in cyclics o).assigned → AreInStep tasks cyclics alarms (with_left m p (CyclicItem o) left).left
-  cyclic_begun_step o p None e = cyclic_step o None tt
-  cyclic_begun_step o p (Some n) e = cyclic_step o (Some (record { processor = p; ticks = n })) (ap (λ (q : Proc). q.number) e)
+  -- where there is no such handler
+  pub cyclic_past : (o : Object) (left : Option ℕ) → length cyclics ≤ o.number - 1 → assignments_of timer tasks cyclics alarms m
+      ≡ record (assignments_of timer tasks cyclics alarms m) { cyclics_left = with_item (lefts m.left 96 (length cyclics)) o.number left }
+  cyclic_past o left past = made timer tasks cyclics alarms _ _ _ _ _ _ _ _ refl refl
+      (sym (set_past (lefts m.left 96 (length cyclics)) (o.number - 1) left (omega (arith, past, length-lefts m.left 96 (length cyclics))))) refl
+
+  pub cyclic_begun_step : (o : Object) (p : Proc) (left : Option ℕ) → o.number - 1 < length cyclics → p ≡ (cyclic_in cyclics o).assigned → AreInStep tasks cyclics alarms (with_left m p (CyclicItem o) left).left
+  cyclic_begun_step o p None here e = cyclic_step o None here tt
+  cyclic_begun_step o p (Some n) here e = cyclic_step o (Some (record { processor = p; ticks = n })) here (ap (λ (q : Proc). q.number) e)
 
   -- An alarm.
 
@@ -119,6 +135,12 @@ module _ (timer : Timer) (tasks : List TaskRecord) (cyclics : List Cyclic) (alar
 
   beside-alarm : (o : Object) (i : ℕ) → 96 + i ≡ 64 + (o.number - 1) → ⊥
   beside-alarm o i e = let high = o.most in omega (arith, high, e)
+
+  none-alarm : (o : Object) (l : Option Left) → NoneCounts (set m.left (64 + (o.number - 1)) l) (96 + length cyclics) 128
+  none-alarm o l =
+      let high = o.most in
+      let low = o.least in
+      none-set m.left (96 + length cyclics) 128 (64 + (o.number - 1)) l s.no_cyclics (λ f g. absurd (omega (arith, f, high, low)))
 
   pub alarm_in_left : (o : Object) → 64 + (o.number - 1) < length m.left
   alarm_in_left o =
@@ -133,11 +155,13 @@ module _ (timer : Timer) (tasks : List TaskRecord) (cyclics : List Cyclic) (alar
       (lefts-past m.left 96 (length cyclics) (64 + (o.number - 1)) l (λ i h e. beside-alarm o i e))
       (lefts-set m.left 64 (length alarms) (o.number - 1) (64 + (o.number - 1)) l s.all (omega (arith, s.few_alarms)) refl)
 
-  pub alarm_step : (o : Object) (l : Option Left) → IsAt (alarm_in alarms o).assigned l → AreInStep tasks cyclics alarms (set m.left (64 + (o.number - 1)) l)
-  alarm_step o l h = record {
+  pub alarm_step : (o : Object) (l : Option Left) → o.number - 1 < length alarms → IsAt (alarm_in alarms o).assigned l → AreInStep tasks cyclics alarms (set m.left (64 + (o.number - 1)) l)
+  alarm_step o l here h = record {
     tasks_at = at-past (λ r. r.assigned) no_task tasks m.left 0 s.tasks_at (64 + (o.number - 1)) l (λ i low e. apart-alarm o i (length tasks) low s.few_tasks e);
     cyclics_at = at-past (λ c. c.assigned) blank_cyclic cyclics m.left 96 s.cyclics_at (64 + (o.number - 1)) l (λ i low e. beside-alarm o i e);
     alarms_at = at-set (λ a. a.assigned) blank_alarm alarms m.left 64 s.alarms_at (64 + (o.number - 1)) (o.number - 1) l (alarm_in_left o) refl (λ low. h);
+    no_cyclics = none-alarm o l;
+    no_alarms = none-set m.left (64 + length alarms) 96 (64 + (o.number - 1)) l s.no_alarms (λ f g. absurd (omega (arith, f, here)));
     few_tasks = s.few_tasks;
     few_cyclics = s.few_cyclics;
     few_alarms = s.few_alarms;
@@ -149,9 +173,14 @@ module _ (timer : Timer) (tasks : List TaskRecord) (cyclics : List Cyclic) (alar
   alarm_begun o p None = alarm_set o None
   alarm_begun o p (Some n) = alarm_set o (Some (record { processor = p; ticks = n }))
 
-  pub alarm_begun_step : (o : Object) (p : Proc) (left : Option ℕ) → p ≡ (alarm_in alarms o).assigned → AreInStep tasks cyclics alarms (with_left m p (AlarmItem o) left).left
-  alarm_begun_step o p None e = alarm_step o None tt
-  alarm_begun_step o p (Some n) e = alarm_step o (Some (record { processor = p; ticks = n })) (ap (λ (q : Proc). q.number) e)
+  pub alarm_past : (o : Object) (left : Option ℕ) → length alarms ≤ o.number - 1 → assignments_of timer tasks cyclics alarms m
+      ≡ record (assignments_of timer tasks cyclics alarms m) { alarms_left = with_item (lefts m.left 64 (length alarms)) o.number left }
+  alarm_past o left past = made timer tasks cyclics alarms _ _ _ _ _ _ _ _ refl refl refl
+      (sym (set_past (lefts m.left 64 (length alarms)) (o.number - 1) left (omega (arith, past, length-lefts m.left 64 (length alarms)))))
+
+  pub alarm_begun_step : (o : Object) (p : Proc) (left : Option ℕ) → o.number - 1 < length alarms → p ≡ (alarm_in alarms o).assigned → AreInStep tasks cyclics alarms (with_left m p (AlarmItem o) left).left
+  alarm_begun_step o p None here e = alarm_step o None here tt
+  alarm_begun_step o p (Some n) here e = alarm_step o (Some (record { processor = p; ticks = n })) here (ap (λ (q : Proc). q.number) e)
 
   -- A wait begins anew.
 
@@ -206,6 +235,8 @@ module _ (timer : Timer) (tasks : List TaskRecord) (cyclics : List Cyclic) (alar
         (λ low. at_same r.assigned (item no_task tasks t.number).assigned (get_or m.left (0 + (t.number - 1)) None) e (s.tasks_at (t.number - 1) low));
     cyclics_at = s.cyclics_at;
     alarms_at = s.alarms_at;
+    no_cyclics = s.no_cyclics;
+    no_alarms = s.no_alarms;
     few_tasks = omega (arith, s.few_tasks, length-set tasks (t.number - 1) r);
     few_cyclics = s.few_cyclics;
     few_alarms = s.few_alarms;
@@ -218,6 +249,8 @@ module _ (timer : Timer) (tasks : List TaskRecord) (cyclics : List Cyclic) (alar
         (at_moved r.assigned (left_of m (Wait t)));
     cyclics_at = at-past (λ c. c.assigned) blank_cyclic cyclics m.left 96 s.cyclics_at (t.number - 1) (moved r.assigned (left_of m (Wait t))) (λ i low e. apart-wait t 96 i (omega arith) e);
     alarms_at = at-past (λ a. a.assigned) blank_alarm alarms m.left 64 s.alarms_at (t.number - 1) (moved r.assigned (left_of m (Wait t))) (λ i low e. apart-wait t 64 i (omega arith) e);
+    no_cyclics = none-wait t (moved r.assigned (left_of m (Wait t))) (96 + length cyclics) 128 (omega arith) s.no_cyclics;
+    no_alarms = none-wait t (moved r.assigned (left_of m (Wait t))) (64 + length alarms) 96 (omega arith) s.no_alarms;
     few_tasks = omega (arith, s.few_tasks, length-set tasks (t.number - 1) r);
     few_cyclics = s.few_cyclics;
     few_alarms = s.few_alarms;
@@ -251,6 +284,10 @@ module _ (timer : Timer) (tasks : List TaskRecord) (cyclics : List Cyclic) (alar
     cyclics_at = at-both (λ c. c.assigned) blank_cyclic cyclics m.left 96 s.cyclics_at (96 + (o.number - 1)) (o.number - 1) c (moved p (left_of m (CyclicItem o))) (cyclic_in_left o) refl
         (subst (λ (q : Proc). IsAt q (moved p (left_of m (CyclicItem o)))) (sym e) (at_moved p (left_of m (CyclicItem o))));
     alarms_at = at-past (λ a. a.assigned) blank_alarm alarms m.left 64 s.alarms_at (96 + (o.number - 1)) (moved p (left_of m (CyclicItem o))) (λ i low e. apart-cyclic o 64 i (length alarms) low (omega (arith, s.few_alarms)) e);
+    no_cyclics = none-set m.left (96 + length (with_item cyclics o.number c)) 128 (96 + (o.number - 1)) (moved p (left_of m (CyclicItem o)))
+        (λ k f g. s.no_cyclics k (omega (arith, f, length-set cyclics (o.number - 1) c)) g)
+        (λ f g. ap (moved p) (s.no_cyclics (96 + (o.number - 1)) (omega (arith, f, length-set cyclics (o.number - 1) c)) g));
+    no_alarms = none-set m.left (64 + length alarms) 96 (96 + (o.number - 1)) (moved p (left_of m (CyclicItem o))) s.no_alarms (λ f g. absurd (omega (arith, g)));
     few_tasks = s.few_tasks;
     few_cyclics = omega (arith, s.few_cyclics, length-set cyclics (o.number - 1) c);
     few_alarms = s.few_alarms;
@@ -270,6 +307,10 @@ module _ (timer : Timer) (tasks : List TaskRecord) (cyclics : List Cyclic) (alar
     cyclics_at = at-past (λ c. c.assigned) blank_cyclic cyclics m.left 96 s.cyclics_at (64 + (o.number - 1)) (moved p (left_of m (AlarmItem o))) (λ i low e. beside-alarm o i e);
     alarms_at = at-both (λ a. a.assigned) blank_alarm alarms m.left 64 s.alarms_at (64 + (o.number - 1)) (o.number - 1) a (moved p (left_of m (AlarmItem o))) (alarm_in_left o) refl
         (subst (λ (q : Proc). IsAt q (moved p (left_of m (AlarmItem o)))) (sym e) (at_moved p (left_of m (AlarmItem o))));
+    no_cyclics = none-alarm o (moved p (left_of m (AlarmItem o)));
+    no_alarms = none-set m.left (64 + length (with_item alarms o.number a)) 96 (64 + (o.number - 1)) (moved p (left_of m (AlarmItem o)))
+        (λ k f g. s.no_alarms k (omega (arith, f, length-set alarms (o.number - 1) a)) g)
+        (λ f g. ap (moved p) (s.no_alarms (64 + (o.number - 1)) (omega (arith, f, length-set alarms (o.number - 1) a)) g));
     few_tasks = s.few_tasks;
     few_cyclics = s.few_cyclics;
     few_alarms = omega (arith, s.few_alarms, length-set alarms (o.number - 1) a);

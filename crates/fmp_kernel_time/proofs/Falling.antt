@@ -17,7 +17,7 @@ use Rattle.fmp_time.specs.Times.{Times, lowered_on}
 use Rattle.fmp_kernel_time.specs.Assignments.{assignments_of, lefts, blank_cyclic, blank_alarm}
 use Rattle.fmp_kernel_time.specs.Counting.{IsAt, AreAt, AreInStep, less_one, less_below, fallen}
 use Rattle.fmp_kernel_time.proofs.Lefts.{length-lefts, lefts-at}
-use Rattle.fmp_kernel_time.proofs.Standing.{at-map}
+use Rattle.fmp_kernel_time.proofs.Standing.{at-map, none-map}
 use Rattle.fmp_kernel_time.proofs.Changes.{made}
 
 -- One processor after the other.
@@ -106,7 +106,7 @@ module _ {X : Type 0} (falls : X → Bool) (d : X) where
   lowered-at (x ∷ xs) (n ∷ ns) zero h e = refl
   lowered-at (x ∷ xs) (n ∷ ns) (suc i) h e = lowered-at xs ns i (omega (arith, h)) (omega (arith, e))
 
-counts_same : (t : Timer) (p q r : Proc) → q.number ≡ r.number → counts_for t p q ≡ counts_for t p r
+pub counts_same : (t : Timer) (p q r : Proc) → q.number ≡ r.number → counts_for t p q ≡ counts_for t p r
 counts_same timer.Local p q r e = ap (λ (n : ℕ). n == p.number) e
 counts_same (timer.Global master) p q r e = refl
 
@@ -152,6 +152,8 @@ module _ (t : Timer) (tasks : List TaskRecord) (cyclics : List Cyclic) (alarms :
     tasks_at = at-map (λ r. r.assigned) no_task tasks m.left 0 s.tasks_at (fallen t p) (λ q l. fallen_at t p q l) (omega (arith, s.few_tasks, s.all));
     cyclics_at = at-map (λ c. c.assigned) blank_cyclic cyclics m.left 96 s.cyclics_at (fallen t p) (λ q l. fallen_at t p q l) (omega (arith, s.few_cyclics, s.all));
     alarms_at = at-map (λ a. a.assigned) blank_alarm alarms m.left 64 s.alarms_at (fallen t p) (λ q l. fallen_at t p q l) (omega (arith, s.few_alarms, s.all));
+    no_cyclics = none-map m.left (96 + length cyclics) 128 (fallen t p) (omega (arith, s.all)) refl s.no_cyclics;
+    no_alarms = none-map m.left (64 + length alarms) 96 (fallen t p) (omega (arith, s.all)) refl s.no_alarms;
     few_tasks = s.few_tasks;
     few_cyclics = s.few_cyclics;
     few_alarms = s.few_alarms;

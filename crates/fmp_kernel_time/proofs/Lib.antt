@@ -4,3 +4,4 @@ pub mod Changes
 pub mod Falling
 pub mod Among
 pub mod Boot
+pub mod Least

@@ -1,11 +1,11 @@
 -- Items stay on the processors to which these are assigned.
 use Rattle.std.proofs.Common.{◌≡◌, ℕ, ◌+◌, ◌<◌, ◌≤◌, Option, Some, None, List, length, set, get_or, map, refl, sym, ap, ◌∙◌, subst, arith, ⊎_elim}
-use Rattle.std.proofs.lemmas.Bool.{cases_eq}
-use Rattle.std.proofs.lemmas.List.{get_or-set_same, get_or-set_other, length-set, get_or-map}
+use Rattle.std.proofs.lemmas.Bool.{cases_eq, cases_lt}
+use Rattle.std.proofs.lemmas.List.{get_or-set_same, get_or-set_other, get_or_past, length-set, get_or-map}
 use Rattle.fmp_codes.specs.declared.numbers.Proc.{Proc}
 use Rattle.fmp_time.specs.Left.{Left}
 use Rattle.fmp_time.specs.Times.{moved}
-use Rattle.fmp_kernel_time.specs.Counting.{IsAt, AreAt}
+use Rattle.fmp_kernel_time.specs.Counting.{IsAt, AreAt, NoneCounts}
 
 pub at_same : (p q : Proc) (l : Option Left) → p.number ≡ q.number → IsAt q l → IsAt p l
 at_same p q None e h = tt
@@ -57,3 +57,17 @@ module _ {X : Type 0} (assigned : X → Proc) (blank : X) (xs : List X) (left : 
   pub at-map : (f : Option Left → Option Left) → ((p : Proc) (l : Option Left) → IsAt p l → IsAt p (f l)) → place + length xs ≤ length left → AreAt assigned blank xs (map f left) place
   at-map f stays few = λ i low.
       subst (IsAt (assigned (get_or xs i blank))) (sym (get_or-map f left (place + i) None None (omega (arith, low, few)))) (stays (assigned (get_or xs i blank)) (get_or left (place + i) None) (h i low))
+
+-- another value, which is none where it is one of those that do not count
+pub none-set : (left : List (Option Left)) (from to k : ℕ) (l : Option Left) → NoneCounts left from to → (from ≤ k → k < to → l ≡ None) → NoneCounts (set left k l) from to
+none-set left from to k l h none = λ j low high. ⊎_elim
+    (λ (f : j ≡ k). ⊎_elim
+    (λ (g : k < length left). ap (λ (u : ℕ). get_or (set left k l) u None) f ∙ get_or-set_same left k l None g ∙ none (omega (arith, low, f)) (omega (arith, high, f)))
+    (λ (g : length left ≤ k). get_or_past (set left k l) j None (omega (arith, f, g, length-set left k l)))
+    (cases_lt k (length left)))
+    (λ (f : j ≡ k → ⊥). get_or-set_other left k j l None f ∙ h j low high)
+    (cases_eq j k)
+
+-- what changes nothing where there is nothing
+pub none-map : (left : List (Option Left)) (from to : ℕ) (f : Option Left → Option Left) → to ≤ length left → f None ≡ None → NoneCounts left from to → NoneCounts (map f left) from to
+none-map left from to f few e h = λ j low high. get_or-map f left j None None (omega (arith, high, few)) ∙ ap f (h j low high) ∙ e

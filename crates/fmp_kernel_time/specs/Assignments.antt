@@ -2,12 +2,14 @@
 use Rattle.std.specs.Prelude.{ℕ, Option, None, List, map, length, slice_index_or, option_map}
 use Rattle.std.specs.List.{range_with_len}
 use Rattle.fmp_codes.specs.Numbers.{as_proc}
+use Rattle.fmp_codes.specs.declared.numbers.Proc.{Proc}
 use Rattle.fmp_codes.specs.declared.numbers.Task.{Task}
 use Rattle.fmp_codes.specs.declared.numbers.Object.{Object}
 use Rattle.fmp_machine.specs.declared.setup.Timer.{Timer}
 use Rattle.fmp_machine.specs.declared.machine.TaskRecord.{TaskRecord}
 use Rattle.fmp_machine.specs.declared.machine.Cyclic.{Cyclic}
 use Rattle.fmp_machine.specs.declared.machine.Alarm.{Alarm}
+use Rattle.fmp_machine.specs.Due.{AreLeft, IsLeast}
 use Rattle.fmp_machine.specs.Objects.{no_cyclic, no_alarm}
 use Rattle.fmp_machine.specs.World.{item}
 use Rattle.fmp_time.specs.Left.{Left, ticks_of}
@@ -52,3 +54,7 @@ assignments_of timer tasks cyclics alarms m = record {
   alarms = alarms;
   alarms_left = lefts m.left 64 (length alarms);
 }
+
+-- the least ticks left for which a tick on p counts, if there are some
+abbrev pub IsNextDue : Assignments → Proc → Option ℕ → Type 0
+IsNextDue a p next = IsLeast (AreLeft a.timer p a.tasks a.waits_left a.cyclics a.cyclics_left a.alarms a.alarms_left) next

@@ -1,5 +1,5 @@
 -- The timers count on the processors to which things are assigned.
-use Rattle.std.specs.Prelude.{◌≡◌, ℕ, ◌+◌, ◌-◌, ◌<◌, ◌≤◌, Option, None, Some, List, length, nat_lt, slice_index_or, if◌then◌else◌, ◌==◌}
+use Rattle.std.specs.Prelude.{◌≡◌, ℕ, ◌+◌, ◌-◌, ◌<◌, ◌≤◌, Option, None, Some, List, length, nat_lt, slice_index_or, if◌then◌else◌, ◌==◌, min}
 use Rattle.fmp_codes.specs.declared.numbers.Proc.{Proc}
 use Rattle.fmp_machine.specs.declared.setup.Timer.{Timer}
 use Rattle.fmp_machine.specs.declared.machine.TaskRecord.{TaskRecord}
@@ -9,7 +9,7 @@ use Rattle.fmp_machine.specs.Setup.{counts_for}
 use Rattle.fmp_machine.specs.World.{no_task}
 use Rattle.fmp_time.specs.declared.item.Item.{Item}
 use Rattle.fmp_time.specs.Left.{Left}
-use Rattle.fmp_time.specs.Times.{Times, armed, cancelled, moved_to}
+use Rattle.fmp_time.specs.Times.{Times, left_of, armed, cancelled, moved_to}
 use Rattle.fmp_kernel_time.specs.Assignments.{blank_cyclic, blank_alarm}
 
 -- what counts is on this processor
@@ -21,10 +21,17 @@ IsAt p (Some l) = l.processor.number ≡ p.number
 abbrev pub AreAt : {X : Type 0} → (X → Proc) → X → List X → List (Option Left) → ℕ → Type 0
 AreAt assigned blank xs left place = (i : ℕ) → i < length xs → IsAt (assigned (slice_index_or xs i blank)) (slice_index_or left (place + i) None)
 
+-- nothing counts from one place of the timers to another
+abbrev pub NoneCounts : List (Option Left) → ℕ → ℕ → Type 0
+NoneCounts left from to = (k : ℕ) → from ≤ k → k < to → slice_index_or left k None ≡ None
+
 pub record AreInStep (tasks : List TaskRecord) (cyclics : List Cyclic) (alarms : List Alarm) (left : List (Option Left)) : Type 0 where
   pub tasks_at : AreAt (λ r. r.assigned) no_task tasks left 0
   pub cyclics_at : AreAt (λ c. c.assigned) blank_cyclic cyclics left 96
   pub alarms_at : AreAt (λ a. a.assigned) blank_alarm alarms left 64
+  -- handlers past the last one
+  pub no_cyclics : NoneCounts left (96 + length cyclics) 128
+  pub no_alarms : NoneCounts left (64 + length alarms) 96
   pub few_tasks : length tasks ≤ 64
   pub few_cyclics : length cyclics ≤ 32
   pub few_alarms : length alarms ≤ 32
@@ -53,3 +60,23 @@ less_below n (Some l) = if nat_lt (l.processor.number - 1) n then less_one (Some
 abbrev pub fallen : Timer → Proc → Option Left → Option Left
 fallen timer p None = None
 fallen timer p (Some l) = if counts_for timer p l.processor then less_one (Some l) else Some l
+
+-- the ticks left, where a tick on p counts for them
+abbrev pub ticks_for : Timer → Proc → Option Left → Option ℕ
+ticks_for timer p None = None
+ticks_for timer p (Some l) = if counts_for timer p l.processor then Some l.ticks else None
+
+-- the ticks left, where they are on one of the first so many processors
+abbrev pub ticks_below : ℕ → Option Left → Option ℕ
+ticks_below n None = None
+ticks_below n (Some l) = if nat_lt (l.processor.number - 1) n then Some l.ticks else None
+
+-- what this shows of an item is so many ticks
+abbrev pub AreShown : (Option Left → Option ℕ) → Times → ℕ → Type 0
+AreShown shown m n = (x : Item) × (shown (left_of m x) ≡ Some n)
+
+-- the lesser of two counts, where there are such
+abbrev pub lesser : Option ℕ → Option ℕ → Option ℕ
+lesser None b = b
+lesser (Some n) None = Some n
+lesser (Some n) (Some m) = Some (min n m)

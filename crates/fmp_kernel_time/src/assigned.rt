@@ -1,15 +1,16 @@
 //! What is assigned to processors.
-ghost use Rattle.std.specs.Prelude.{◌≡◌, ◌≤◌, None, [], length, map};
+ghost use Rattle.std.specs.Prelude.{◌≡◌, ◌≤◌, None, [], length, map, true};
+ghost use Rattle.fmp_codes.specs.declared.numbers.Task.{Task as AnyTask};
 ghost use Rattle.fmp_machine.specs.Boot.{resting, phase_left};
 ghost use Rattle.fmp_machine.specs.Setup.{counts_for};
 ghost use Rattle.fmp_machine.specs.Tick.{lowered, expired, tasks_expired};
 ghost use Rattle.fmp_machine.specs.World.{item, with_item, no_task};
-ghost use Rattle.fmp_links.specs.Tasks.{without};
+ghost use Rattle.fmp_links.specs.Tasks.{has_task, without};
 ghost use Rattle.fmp_queues.specs.Queues.{timed_by};
-ghost use Rattle.fmp_kernel_time.specs.Assignments.{cyclic_in, alarm_in};
+ghost use Rattle.fmp_kernel_time.specs.Assignments.{cyclic_in, alarm_in, IsNextDue};
 ghost use Rattle.fmp_kernel_time.specs.Starting.{first_cyclic, first_alarm};
 
-use crate::counting::{count_down, follow, set_left};
+use crate::counting::{count_down, follow, least, set_left};
 use crate::expired::{objects_among, tasks_among};
 use crate::handlers::{
     assign_alarm_at, assign_cyclic_at, first_alarms, first_cyclics, first_timers,
@@ -166,8 +167,10 @@ impl Assigned {
     pub fn set_cyclic_left(&mut self, c: Object, left: Option<u64>)
         ensures { self.new ≡ record self.old { cyclics_left = with_item self.old.cyclics_left c.number left } }
     {
-        let p = self.cyclic(c).assigned;
-        set_left(&mut self.timers, p, Item::Cyclic(c), left);
+        if c.index() < self.cyclics.len() {
+            let p = self.cyclic(c).assigned;
+            set_left(&mut self.timers, p, Item::Cyclic(c), left);
+        }
     }
 
     /// Assigns a cyclic handler to a processor. Where it counts, it goes on with the ticks that it has left.
@@ -182,8 +185,10 @@ impl Assigned {
     pub fn set_alarm_left(&mut self, a: Object, left: Option<u64>)
         ensures { self.new ≡ record self.old { alarms_left = with_item self.old.alarms_left a.number left } }
     {
-        let p = self.alarm(a).assigned;
-        set_left(&mut self.timers, p, Item::Alarm(a), left);
+        if a.index() < self.alarms.len() {
+            let p = self.alarm(a).assigned;
+            set_left(&mut self.timers, p, Item::Alarm(a), left);
+        }
     }
 
     /// Assigns an alarm to a processor. Where it counts, it goes on with the ticks that it has left.
@@ -195,6 +200,23 @@ impl Assigned {
     }
 
     // ---- ticks
+
+    /// The least ticks left for which a tick on a processor counts, if there are some.
+    pub fn next_due(&self, p: Proc) -> Option<u64>
+        requires { (t : AnyTask) → has_task t self.now.timed ≡ true → t.number ≤ length self.now.tasks }
+        ensures { IsNextDue self.now p result }
+    {
+        match self.timer {
+            Timer::Local => self.timers.next(p),
+            Timer::Global(master) => {
+                if p.number == master.number {
+                    least(&self.timers)
+                } else {
+                    None
+                }
+            }
+        }
+    }
 
     /// Lowers the ticks left for which a tick on a processor counts.
     pub fn count_down(&mut self, p: Proc)

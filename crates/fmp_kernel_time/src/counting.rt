@@ -1,6 +1,8 @@
 //! How the ticks left fall, and follow what they belong to.
 ghost use Rattle.std.specs.Prelude.{◌≡◌, map};
-ghost use Rattle.fmp_kernel_time.specs.Counting.{followed, with_left, less_one, fallen};
+ghost use Rattle.fmp_machine.specs.Due.{IsLeast};
+ghost use Rattle.fmp_time.specs.Times.{AreWaits};
+ghost use Rattle.fmp_kernel_time.specs.Counting.{followed, with_left, less_one, fallen, ticks_below, AreShown, lesser};
 
 use fmp_codes::Proc;
 use fmp_machine::Timer;
@@ -27,6 +29,28 @@ pub(crate) fn count_down(timers: &mut Timers, timer: Timer, p: Proc)
             }
         }
     }
+}
+
+/// The lesser of two counts, where there are such.
+fn lesser(left: Option<u64>, other: Option<u64>) -> Option<u64>
+    ensures { result ≡ lesser left other }
+{
+    match (left, other) {
+        (Some(ticks), Some(others)) => Some(ticks.min(others)),
+        _ => left.or(other),
+    }
+}
+
+/// The least ticks left of all.
+pub(crate) fn least(timers: &Timers) -> Option<u64>
+    ensures least { IsLeast (AreShown (ticks_below 8) timers.now) result }
+    ensures waits { AreWaits timers.now }
+{
+    let mut least = None;
+    for index in 0..8usize {
+        least = lesser(least, timers.next(Proc::from_index(index)));
+    }
+    least
 }
 
 /// Lets an item that counts go on on another processor, if it is assigned to another one.

@@ -6,7 +6,7 @@ use crate::random_calls::{Range, Standing};
 use fmp_codes::{Answer, Code, Object, Pri, Proc, Record, Task};
 use fmp_config::read_config;
 use fmp_kernel::Kernel;
-use fmp_machine::QueueKind;
+use fmp_machine::{QueueKind, Timer};
 use fmp_plain::Plain;
 use fmp_words::{Objects, Words, is_held};
 use std::alloc::{AllocError, Global};
@@ -103,6 +103,28 @@ fn machine(alloc: Global, processors: usize, time: Time) -> Result<Vec<u8>, Allo
     Ok(text)
 }
 
+/// The least ticks left for which a tick on a processor counts, of all waits, cyclic handlers and alarms.
+fn least_left(plain: &Plain, p: Proc) -> Option<u64> {
+    let machine = plain.machine();
+    let counts = |q: Proc| match machine.timer() {
+        Timer::Local => q == p,
+        Timer::Global(master) => p == master,
+    };
+    let waits = (0..machine.task_count())
+        .map(Task::from_index)
+        .filter(|t| counts(machine.task(*t).assigned))
+        .filter_map(|t| machine.wait_left(t));
+    let cyclics = (0..machine.cyclic_count())
+        .map(Object::from_index)
+        .filter(|c| counts(machine.cyclic(*c).assigned))
+        .filter_map(|c| machine.cyclic_left(c));
+    let alarms = (0..machine.alarm_count())
+        .map(Object::from_index)
+        .filter(|a| counts(machine.alarm(*a).assigned))
+        .filter_map(|a| machine.alarm_left(a));
+    waits.chain(cyclics).chain(alarms).min()
+}
+
 /// The kernel shows of a processor what the plain machine has.
 fn same_processor(kernel: &Kernel, plain: &Plain, p: Proc) -> bool {
     let machine = plain.machine();
@@ -115,6 +137,7 @@ fn same_processor(kernel: &Kernel, plain: &Plain, p: Proc) -> bool {
         && kernel.pending(p) == processor.latch
         && kernel.handler(p) == machine.handler(p)
         && kernel.held(p) == is_held(machine, p)
+        && kernel.next_due(p) == least_left(plain, p)
 }
 
 /// The same tasks wait in the queues of the objects of one number.

@@ -11,6 +11,8 @@ mod kernel_and_plain;
 #[cfg(test)]
 mod memory_pools;
 #[cfg(test)]
+mod next_due;
+#[cfg(test)]
 mod random;
 #[cfg(test)]
 mod random_calls;

@@ -13,6 +13,7 @@ mod due;
 mod groups;
 mod handlers;
 mod kept;
+mod left;
 mod locks;
 mod machine;
 mod numbers;

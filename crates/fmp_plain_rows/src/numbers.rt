@@ -1,6 +1,6 @@
 //! The numbers by which the machine keeps what came before what.
-ghost use Rattle.std.specs.Prelude.{◌≡◌, ◌+◌, ◌<◌, ◌≤◌, ◌^◌, ℕ, Option, None, option_map};
-ghost use Rattle.fmp_machine.specs.World.{task, item, with_item};
+ghost use Rattle.std.specs.Prelude.{◌≡◌, ◌+◌, ◌<◌, ◌≤◌, ◌^◌, ℕ, Option, option_map};
+ghost use Rattle.fmp_machine.specs.World.{task, with_item};
 ghost use Rattle.fmp_machine.specs.Keeping.{order_of, rejoin};
 ghost use Rattle.fmp_machine.specs.Numbers.{numbered};
 ghost use Rattle.fmp_machine.specs.declared.machine.TaskRecord.{TaskRecord as AnyTaskRecord};
@@ -32,14 +32,6 @@ impl Machine {
         if let Some(place) = self.ready.get_mut(t.index()) {
             *place = number;
         }
-    }
-
-    /// The ticks left of a wait of a task, where it is timed.
-    pub(crate) fn wait_left(&self, t: Task) -> Option<u64>
-        ensures { result ≡ item None self.now.waits_left t.number }
-    {
-        let left = self.waits_left.as_slice().get(t.index()).copied();
-        left.flatten()
     }
 
     /// Changes how many ticks a wait of a task has left.

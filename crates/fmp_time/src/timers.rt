@@ -96,7 +96,8 @@ impl Timers {
 
     /// The least ticks left on a processor, if something counts there.
     pub fn next(&self, processor: Proc) -> Option<u64>
-        ensures { IsLeastOn self.now processor result }
+        ensures least { IsLeastOn self.now processor result }
+        ensures waits { AreWaits self.now }
     {
         self.differences.next(processor.index())
     }

@@ -4,8 +4,8 @@ use Rattle.fmp_time.specs.Times.{Times, IsLeastOn}
 use Rattle.fmp_time.proofs.Effects.{least_is}
 use Rattle.fmp_time.proofs.timers.Timers.next.Goals as goal
 
-pub returns : goal.returns
-returns c =
+pub returns-clause-least : goal.returns-clause-least
+returns-clause-least c =
     let q = c.self.inside.differences in
     let r = c.next.result in
     subst (λ (m : Times). IsLeastOn m c.args.processor r) c.self.view_is
