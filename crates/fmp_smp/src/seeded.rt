@@ -1,5 +1,7 @@
 //! All processors and the clock on one thread, in an order that a seed gives.
-ghost use Rattle.std.specs.Prelude.{◌≡◌, ◌≢◌, ◌≤◌, map, IfOk, IfErr};
+ghost use Rattle.std.specs.Prelude.{◌≡◌, ◌≢◌, ◌≤◌, map, length, IfOk, IfErr};
+ghost use Rattle.fmp_smp.specs.Seeds as spec;
+ghost use Rattle.fmp_smp.specs.Seeds.{IsInOrderOf};
 ghost use Rattle.fmp_world.specs.Ends.{IsSmpRun};
 
 use crate::fault::SmpFault;
@@ -8,8 +10,9 @@ use arrayvec::ArrayVec;
 use fmp_codes::Proc;
 use fmp_machine::Config;
 use fmp_scripts::Scripts;
-use fmp_world::{Seats, SmpRun, Turn, World};
-use rand_core::{Rng, SeedableRng};
+use fmp_world::{Cpu, Seats, SmpRun, Turn, World};
+use rand_core::SeedableRng;
+use rand_core::utils::NextWord;
 use rand_xoshiro::SplitMix64;
 use std::alloc::Global;
 
@@ -38,16 +41,14 @@ pub fn run_seeded(
     requires least { 1 ≤ turns }
     requires most { turns ≤ 1000000 }
     ensures run { IfOk result (λ r. IsSmpRun config.now scripts ticks turns r.records.items (map (λ v. v.items) r.receipts.items) r.ended) }
+    ensures order { IfOk result (λ r. IsInOrderOf seed config.now scripts ticks r.records.items) }
     ensures no_start { IfErr result (λ f. f ≢ SmpFault.Start) }
 {
     let (mut world, mut seats) = World::boot(alloc, config, &scripts, turns)?;
     let mut rounds = Rounds::new(config, ticks);
     let mut numbers = SplitMix64::seed_from_u64(seed);
     for _ in 0..turns {
-        let Some(mover) = draw(alloc, &world, &rounds, &mut numbers) else {
-            break;
-        };
-        if go(mover, &mut world, &mut seats, &mut rounds) == Turn::Full {
+        if !go_on(alloc, &mut world, &mut seats, &mut rounds, &mut numbers) {
             break;
         }
     }
@@ -64,20 +65,24 @@ enum Mover {
     Clock,
 }
 
-// One of those that can make a record, or none where there is none.
-fn draw(
-    alloc: Global,
-    world: &World<'_>,
-    rounds: &Rounds,
-    numbers: &mut SplitMix64,
-) -> Option<Mover> {
-    let movers = movers(alloc, world, rounds);
-    let place = numbers.next_u64().checked_rem(movers.len() as u64)?;
+// One of these, at the place that a number gives modulo their count, if there are any.
+#[tactic(auto, unfolding(crate::specs::Seeds::drawn))]
+fn drawn(movers: &[Mover], number: u64) -> Option<Mover>
+    ensures { result ≡ spec.drawn movers.now number }
+{
+    if movers.is_empty() {
+        return None;
+    }
+    let place = number % movers.len() as u64;
     movers.get(place as usize).copied()
 }
 
-// Those that can make a record: the processors in their order, and the clock behind them.
-fn movers(alloc: Global, world: &World<'_>, rounds: &Rounds) -> ArrayVec<Mover, 9, Global> {
+// The processors that can make a record, in their order.
+#[tactic(auto, unfolding(crate::specs::Seeds::cpus_of))]
+fn cpus_of(alloc: Global, world: &World<'_>) -> ArrayVec<Mover, 9, Global>
+    ensures are { result.items ≡ spec.cpus_of world.now.config world.now.scripts world.now.records world.now.config.processors }
+    ensures few { length result.items ≤ 8 }
+{
     let mut movers = ArrayVec::new_in(alloc);
     for at in 0..world.processors() {
         let p = Proc::new(at + 1);
@@ -85,18 +90,58 @@ fn movers(alloc: Global, world: &World<'_>, rounds: &Rounds) -> ArrayVec<Mover, 
             movers.push(Mover::Cpu(p));
         }
     }
+    movers
+}
+
+// Those that can make a record: the processors in their order, and the clock behind them.
+#[tactic(auto, unfolding(crate::specs::Seeds::movers))]
+fn movers(alloc: Global, world: &World<'_>, rounds: &Rounds) -> ArrayVec<Mover, 9, Global>
+    ensures { result.items ≡ spec.movers world.now.config world.now.scripts world.now.records rounds.now }
+{
+    let mut movers = cpus_of(alloc, world);
     if !rounds.are_over() {
         movers.push(Mover::Clock);
     }
     movers
 }
 
-fn go(mover: Mover, world: &mut World<'_>, seats: &mut Seats, rounds: &mut Rounds) -> Turn {
+// The turn of a seat, if it is that of this processor.
+fn take_turn_of(p: Proc, world: &mut World<'_>, cpu: &mut Cpu) -> Turn
+    ensures { spec.TakesOf p world.old result world.new }
+{
+    if cpu.processor().number == p.number {
+        take_turn(world, cpu)
+    } else {
+        Turn::Full
+    }
+}
+
+// What a mover does.
+fn go(mover: Mover, world: &mut World<'_>, seats: &mut Seats, rounds: &mut Rounds) -> Turn
+    ensures { spec.Goes world.old rounds.old mover result world.new rounds.new }
+{
     match mover {
         Mover::Clock => rounds.give(world, &mut seats.clock),
         Mover::Cpu(p) => match seats.cpus.get_mut(p.index()) {
-            Some(cpu) => take_turn(world, cpu),
+            Some(cpu) => take_turn_of(p, world, cpu),
             None => Turn::Full,
         },
     }
+}
+
+// The next record, by the one whom the next number draws. Says whether there is one.
+fn go_on(
+    alloc: Global,
+    world: &mut World<'_>,
+    seats: &mut Seats,
+    rounds: &mut Rounds,
+    numbers: &mut SplitMix64,
+) -> bool
+    ensures { spec.GoesOn world.old rounds.old numbers.old result world.new rounds.new numbers.new }
+{
+    let movers = movers(alloc, world, rounds);
+    let Some(mover) = drawn(movers.as_slice(), numbers.next_word()) else {
+        return false;
+    };
+    matches!(go(mover, world, seats, rounds), Turn::Made(_))
 }
