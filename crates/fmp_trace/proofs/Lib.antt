@@ -1,5 +1,7 @@
 pub mod Bytes
 pub mod CheckedTexts
+pub mod Collected
+pub mod Compared
 pub mod FittingAnswers
 pub mod FittingArguments
 pub mod FittingLines
@@ -11,6 +13,7 @@ pub mod GuessedTails
 pub mod GuessedValues
 pub mod Guessing
 pub mod Numbered
+pub mod Patched
 pub mod ReadTexts
 pub mod Releases
 pub mod Results

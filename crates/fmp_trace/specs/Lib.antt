@@ -1,4 +1,6 @@
 pub mod Checking
+pub mod Comparing
+pub mod Differences
 pub mod Fits
 pub mod Guess
 pub mod GuessParts

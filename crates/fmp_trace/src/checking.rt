@@ -15,7 +15,7 @@ ghost use Rattle.fmp_trace.specs.Checking as spec;
 
 use crate::guess::guess;
 use crate::reading::{fault, is_line, line_record, next_line};
-use fmp_codes::Record;
+use fmp_codes::{Answer, Event, Proc, Record};
 use fmp_machine::Config;
 use fmp_plain::Plain;
 use fmp_text::{MOST_BYTES, Names, TextFault, TextKind};
@@ -31,7 +31,7 @@ pub enum Verdict {
 }
 
 /// Goes over the lines as reading does, and keeps no record.
-fn judge(alloc: Global, text: &[u8], names: &Names) -> Result<(), TextFault>
+pub fn judge(alloc: Global, text: &[u8], names: &Names) -> Result<(), TextFault>
     requires { length text.now ≤ most_bytes }
     ensures { spec.Passes result (records_from names.now 1 (pieces_of 10 text.now)) }
 {
@@ -50,17 +50,18 @@ fn judge(alloc: Global, text: &[u8], names: &Names) -> Result<(), TextFault>
     }
 }
 
-fn guessed(names: &Names, n: u32, line: &[u8]) -> Result<Record, TextFault>
+pub fn guessed(names: &Names, n: u32, line: &[u8]) -> Result<Record, TextFault>
     ensures { result ≡ ok_or (guess_of names.now line.now) (record { kind = TextKind.BadWord; line = n }) }
 {
     guess(names, line).ok_or(fault(TextKind::BadWord, n))
 }
 
-/// Plays the event of line n. Says whether the line prints the answer.
+/// Plays the event of line n, with a record to tell it. Says whether the line prints the answer.
 #[tactic(auto, unfolding(crate::specs::Checking::answered))]
 fn is_answer(
     scratch: &mut Vec<u8>,
     plain: &mut Plain,
+    told: &mut Record,
     names: &Names,
     n: u32,
     line: &[u8],
@@ -70,8 +71,8 @@ fn is_answer(
     ensures steps { OnOk result (plain.new.steps ≡ plain.old.steps + 1) }
 {
     let entry = guessed(names, n, line)?;
-    let answer = plain.step(entry.event);
-    Ok(is_line(scratch, names, n, &answer, line)?)
+    plain.step_into(entry.event, told);
+    Ok(is_line(scratch, names, n, told, line)?)
 }
 
 /// The verdict on a text that reads as records.
@@ -81,11 +82,12 @@ fn compare(alloc: Global, config: &Config, text: &[u8]) -> Result<Verdict, TextF
 {
     let names = config.names();
     let mut plain = Plain::boot(config)?;
+    let mut told = Record::answer(Event::Tick(Proc::new(1)), None, Answer::Nothing);
     let mut scratch = Vec::new(alloc);
     let mut number: u32 = 1;
     let mut rest = text;
     while let Some((line, after)) = next_line(rest) {
-        if !is_answer(&mut scratch, &mut plain, names, number, line)? {
+        if !is_answer(&mut scratch, &mut plain, &mut told, names, number, line)? {
             return Ok(Verdict::No(number));
         }
         number += 1;

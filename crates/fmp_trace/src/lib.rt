@@ -2,6 +2,7 @@
 #![tactic(auto)]
 
 mod checking;
+mod comparing;
 mod guess;
 mod laws;
 mod lines;
@@ -9,6 +10,7 @@ mod reading;
 mod values;
 
 pub use checking::{Verdict, check};
-pub use laws::{answers_fit_the_names, texts_print_one_list};
+pub use comparing::{Comparison, Shown, compare_lines};
+pub use laws::{answers_fit_the_names, differences_patch, texts_print_one_list};
 pub use lines::{trace_line, trace_text};
 pub use reading::read_trace;

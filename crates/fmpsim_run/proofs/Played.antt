@@ -7,15 +7,16 @@ use Rattle.fmp_scripts.specs.ScriptGrammar.{SpellsScripts}
 use Rattle.fmp_scripts.specs.Scripts.{Steps, AreInBits}
 use Rattle.fmp_names.specs.Names.{NameLists}
 use Rattle.fmp_trace.specs.Lines.{lines_from}
+use Rattle.fmp_smp.specs.Seeds.{IsInOrderOf}
 use Rattle.fmp_world.specs.declared.finishing.Ended.{Ended}
 use Rattle.fmp_world.specs.declared.seats.Receipt.{Receipt}
 use Rattle.fmp_world.specs.Ends.{IsSmpRun}
 use Rattle.fmpsim_run.specs.Devices.{BeginsWith}
 use Rattle.fmpsim_run.specs.Runs.{SaysConfig}
-use Rattle.fmpsim_run.specs.Scripted.{IsPlayBegun, IsPlayed, Played}
+use Rattle.fmpsim_run.specs.Scripted.{IsPlayBegun, IsPlayed, IsPlayedInOrder, Played}
 
 -- the trace of a run of at most 1,000,000 turns
-pub played : (config_text script_text : List ℕ) (ticks turns : ℕ) (c : Setup) (scripts : List Steps) (h : List Record) (receipts : List (List Receipt)) (ended : Ended)
+abbrev pub played : (config_text script_text : List ℕ) (ticks turns : ℕ) (c : Setup) (scripts : List Steps) (h : List Record) (receipts : List (List Receipt)) (ended : Ended)
     → SaysConfig config_text c → SpellsScripts c.names script_text scripts → AreInBits scripts → turns ≤ 1000000
     → IsSmpRun c scripts ticks turns h receipts ended → Played config_text script_text ticks turns (lines_from c.names 1 h) ended
 played config_text script_text ticks turns c scripts h receipts ended says spells fit few is = record {
@@ -41,6 +42,10 @@ module _ (config_text script_text : List ℕ) (ticks turns : ℕ) (c : Setup) (h
     (names : NameLists) (records : List Record) (same : names ≡ c.names) (all : records ≡ h) where
   pub all_played : (old new : List ℕ) → new ≡ old ++ lines_from names 1 records → IsPlayed config_text script_text ticks turns old new ended
   all_played old new is = (lines_from c.names 1 h, run, rw (same, all) at is)
+
+  pub played_in_order : (seed : ℕ) (old new : List ℕ) → new ≡ old ++ lines_from names 1 records → IsInOrderOf seed run.config run.scripts ticks run.records
+      → IsPlayedInOrder seed config_text script_text ticks turns old new ended
+  played_in_order seed old new is order = (lines_from c.names 1 h, run, rw (same, all) at is, order)
 
   pub begun_played : (old new : List ℕ) → BeginsWith old (lines_from names 1 records) new → IsPlayBegun config_text script_text ticks turns old new
   begun_played old new is = (lines_from c.names 1 h, ended, run, rw (same, all) at is)

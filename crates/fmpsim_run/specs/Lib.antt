@@ -5,3 +5,4 @@ pub mod Runs
 pub mod Streams
 pub mod Scripted
 pub mod Checks
+pub mod Reports

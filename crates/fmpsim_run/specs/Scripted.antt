@@ -6,6 +6,7 @@ use Rattle.fmp_names.specs.Names.{NameLists}
 use Rattle.fmp_scripts.specs.ScriptGrammar.{SpellsScripts}
 use Rattle.fmp_scripts.specs.Scripts.{Steps}
 use Rattle.fmp_scripts.specs.Texts.{scripts_in}
+use Rattle.fmp_smp.specs.Seeds.{IsInOrderOf}
 use Rattle.fmp_text.specs.Events.{IsMemory}
 use Rattle.fmp_text.specs.Limits.{most_bytes}
 use Rattle.fmp_trace.specs.Checking.{PrintsAnswers}
@@ -36,6 +37,12 @@ pub record Played (config_text script_text : List ℕ) (ticks turns : ℕ) (outp
 abbrev pub IsPlayed : List ℕ → List ℕ → ℕ → ℕ → List ℕ → List ℕ → Ended → Type 0
 IsPlayed config_text script_text ticks turns old new ended =
     (output : List ℕ) × Played config_text script_text ticks turns output ended × (new ≡ old ++ output)
+
+-- the same, and each record is of the event that the seed's next number draws
+abbrev pub IsPlayedInOrder : ℕ → List ℕ → List ℕ → ℕ → ℕ → List ℕ → List ℕ → Ended → Type 0
+IsPlayedInOrder seed config_text script_text ticks turns old new ended =
+    (output : List ℕ) × (run : Played config_text script_text ticks turns output ended) × (new ≡ old ++ output)
+    × IsInOrderOf seed run.config run.scripts ticks run.records
 
 -- a beginning of such an output was written after old
 abbrev pub IsPlayBegun : List ℕ → List ℕ → ℕ → ℕ → List ℕ → List ℕ → Type 0

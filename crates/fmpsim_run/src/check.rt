@@ -72,7 +72,7 @@ fn checked<R: Source, S: Source>(
 }
 
 /// A verdict as it is written: `yes`, or `no` and the number of the line.
-fn text_of(verdict: Verdict) -> ArrayString<MOST_TEXT>
+pub(crate) fn text_of(verdict: Verdict) -> ArrayString<MOST_TEXT>
     ensures { result.bytes ≡ verdict_text verdict }
 {
     let mut text = ArrayString::new();

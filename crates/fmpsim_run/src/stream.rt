@@ -19,7 +19,7 @@ ghost use Rattle.fmpsim_run.specs.Streams.{Leaves, Streams};
 use crate::fault::RunFault;
 use crate::sink::{Sink, write_all};
 use crate::source::{Failed, Source};
-use fmp_codes::Event;
+use fmp_codes::{Answer, Event, Proc, Record};
 use fmp_feed::EventFeed;
 use fmp_kernel::Kernel;
 use fmp_machine::Config;
@@ -27,12 +27,13 @@ use fmp_text::Names;
 use fmp_trace::trace_line;
 use std::alloc::{AllocError, Global};
 
-/// A run that answers each event as it comes. It keeps the unread rest of one line, and the line that it writes.
+/// A run that answers each event as it comes. It keeps the unread rest of one line, the last record, and the line that it writes.
 #[derive(Drop)]
 pub(crate) struct Answering {
     feed: EventFeed,
     kernel: Kernel,
     count: u32,
+    told: Record,
     line: Vec<u8>,
 }
 
@@ -49,6 +50,7 @@ impl Answering {
             feed: EventFeed::new(alloc)?,
             kernel: Kernel::boot(config)?,
             count: 0,
+            told: Record::answer(Event::Tick(Proc::new(1)), None, Answer::Nothing),
             line: Vec::new(alloc),
         })
     }
@@ -82,9 +84,9 @@ impl Answering {
         ensures kinds { IfErr result (λ fault. (fault ≡ RunFault.Memory) ⊎ (fault ≡ RunFault.Write)) }
         ensures writes { W.failures trace.new ≡ W.failures trace.old + (if failed_write result then 1 else 0) }
     {
-        let answer = self.kernel.step(event);
+        self.kernel.step_into(event, &mut self.told);
         self.count += 1;
-        trace_line(self.count, &answer, names, &mut self.line)?;
+        trace_line(self.count, &self.told, names, &mut self.line)?;
         Ok(write_all(trace, self.line.as_slice())?)
     }
 

@@ -6,7 +6,7 @@ ghost use Rattle.fmp_trace.specs.Lines.{lines_from};
 ghost use Rattle.fmpsim_run.specs.Devices.{BeginsWith};
 ghost use Rattle.fmpsim_run.specs.Faults.{failed_read, failed_write, is_config, is_read, is_text};
 ghost use Rattle.fmpsim_run.specs.Runs.{CountsReads, FirstConfigFault, SaysConfig};
-ghost use Rattle.fmpsim_run.specs.Scripted.{FirstScriptFault, IsPlayBegun, IsPlayed};
+ghost use Rattle.fmpsim_run.specs.Scripted.{FirstScriptFault, IsPlayBegun, IsPlayed, IsPlayedInOrder};
 
 use crate::fault::RunFault;
 use crate::sink::{Sink, write_out};
@@ -133,9 +133,9 @@ pub fn run_seeded<R: Source, S: Source, W: Sink>(
     requires most { turns ≤ 1000000 }
 
     // Both texts were read to their ends, and what is written is the trace of a run of the one text's machine by the other's
-    // scripts. None of it is held back.
+    // scripts, in the order that the seed determines. None of it is held back.
     ensures answered { IsTrue R.tells → IsTrue S.tells → IsTrue W.tells
-        → IfOk result (IsPlayed (R.left config.old) (S.left scripts.old) ticks turns (W.written trace.old) (W.written trace.new)) }
+        → IfOk result (IsPlayedInOrder seed (R.left config.old) (S.left scripts.old) ticks turns (W.written trace.old) (W.written trace.new)) }
     ensures passed { OnOk result (W.buffered trace.new ≡ []) }
     ensures config_read { IsTrue R.tells → OnOk result (R.left config.new ≡ []) }
     ensures scripts_read { IsTrue S.tells → OnOk result (S.left scripts.new ≡ []) }

@@ -1,7 +1,7 @@
 use Rattle.std.proofs.Common.{◌≡◌, ap, map, Err}
 use Rattle.std.proofs.lemmas.Result.{err_from_is_err_and}
 use Rattle.fmpsim_run.specs.declared.fault.RunFault.TheVariants.{Write}
-use Rattle.fmpsim_run.proofs.Played.{all_played, begun_played, played}
+use Rattle.fmpsim_run.proofs.Played.{played_in_order, begun_played, played}
 use Rattle.fmpsim_run.proofs.threads.run_seeded.Goals as goal
 
 pub returns-in_err-write_records-clause-write : goal.returns-in_err-write_records-clause-write
@@ -25,7 +25,7 @@ pub returns-clause-answered : goal.returns-clause-answered
 returns-clause-answered g c = λ configs texts writes.
     let read = c.in_ok-machine.ensures in
     let r = c.in_ok-run.run' in
-    all_played _ _ c.args.ticks c.args.turns c.in_ok-machine.machine r.records.items r.ended
+    played_in_order _ _ c.args.ticks c.args.turns c.in_ok-machine.machine r.records.items r.ended
     (played _ _ c.args.ticks c.args.turns c.in_ok-machine.machine c.in_ok-machine.list r.records.items (map (λ v. v.items) r.receipts.items) r.ended
     (read.says configs) (read.spells texts) read.in_bits c.requires.most c.in_ok-run.ensures.run)
-    _ _ c.names.ensures.value c.as_slice.ensures.value _ _ (c.in_ok-write_records.ensures.written writes)
+    _ _ c.names.ensures.value c.as_slice.ensures.value c.args.seed _ _ (c.in_ok-write_records.ensures.written writes) c.in_ok-run.ensures.order

@@ -1,0 +1,42 @@
+-- What a run that reports where a trace differs does.
+use Rattle.std.specs.Prelude.{◌≡◌, ℕ, List, [], ◌++◌, Result, Ok, Err, codes}
+use Rattle.fmp_machine.specs.Setup.{Setup}
+use Rattle.fmp_trace.specs.declared.checking.Verdict.{Verdict}
+use Rattle.fmp_trace.specs.declared.checking.Verdict.TheVariants.{Yes, No}
+use Rattle.fmp_trace.specs.declared.comparing.Comparison.{Comparison}
+use Rattle.fmp_trace.specs.declared.comparing.Shown.{Shown}
+use Rattle.fmp_trace.specs.declared.comparing.Shown.TheVariants.{First, Each}
+use Rattle.fmp_trace.specs.Checking.{Judges}
+use Rattle.fmp_trace.specs.Differences.{Contrasts}
+use Rattle.fmpsim_run.specs.declared.fault.RunFault.{RunFault}
+use Rattle.fmpsim_run.specs.Checks.{verdict_text}
+use Rattle.fmpsim_run.specs.Devices.{BeginsWith}
+use Rattle.fmpsim_run.specs.Runs.{SaysConfig}
+
+-- what stands before the lines that differ: the verdict, or the header of a unified diff, which an empty one has not
+abbrev pub head_text : Shown → Verdict → List ℕ
+head_text First verdict = verdict_text verdict
+head_text Each Yes = []
+head_text Each (No n) = codes "--- trace\n+++ machine\n"
+
+-- the verdict on a trace and the lines in which it differs, by the answers of the one text's machine to the events of the other
+pub record Compared (shown : Shown) (config_text trace_text : List ℕ) (verdict : Verdict) (lines : List ℕ) : Type 0 where
+  pub config : Setup
+  pub says : SaysConfig config_text config
+  pub judges : Judges config trace_text verdict
+  pub contrasts : Contrasts shown config trace_text verdict lines
+
+-- the report with this verdict was written after old, all of it
+abbrev pub IsReported : Shown → List ℕ → List ℕ → List ℕ → List ℕ → Verdict → Type 0
+IsReported shown config_text trace_text old new verdict =
+    (lines : List ℕ) × Compared shown config_text trace_text verdict lines × (new ≡ old ++ (head_text shown verdict ++ lines))
+
+-- a front of the report was written after old
+abbrev pub IsReportBegun : Shown → List ℕ → List ℕ → List ℕ → List ℕ → Type 0
+IsReportBegun shown config_text trace_text old new =
+    (verdict : Verdict) × (lines : List ℕ) × Compared shown config_text trace_text verdict lines × BeginsWith old (head_text shown verdict ++ lines) new
+
+-- the verdict of a comparison
+abbrev pub verdict_in : Result Comparison RunFault → Result Verdict RunFault
+verdict_in (Ok found) = Ok found.verdict
+verdict_in (Err fault) = Err fault
