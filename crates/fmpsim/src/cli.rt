@@ -1,7 +1,8 @@
 //! The command line.
 use clap::error::ErrorKind;
-use clap::{Command, Error};
+use clap::{Arg, ArgAction, ArgMatches, Command, Error};
 use fmp_smp_command::{SmpRequest, parse_smp, path, smp_command};
+use fmp_trace::Shown;
 use fmpsim_run::Status;
 use std::alloc::{AllocError, Global};
 
@@ -54,6 +55,16 @@ The machine of the configuration answers the events of the trace. The verdict, o
 output, is `yes` where these answers are the trace, and else `no` and the number of the
 first line that differs.
 
+With --show that line stands under the verdict, and below it the machine's own:
+
+  no 57
+  - 57 P1 T1 act_tsk(T2) E_OK
+  + 57 P1 T1 act_tsk(T2) E_OK run=T2
+
+With --all there is a unified diff in place of the verdict, which `patch TRACE` reads. It has
+every line that differs; behind one the machine goes on with its own answers. Where none does
+it is empty.
+
 Exit status:
   0  yes
   1  a fault in a text, told on standard error with its line
@@ -61,6 +72,25 @@ Exit status:
   3  a file could not be read, or the output not be written
   4  want of memory
   5  no";
+
+const LIST_ABOUT: &str = "Lists the service calls, the statements and the faults";
+
+const LIST_HELP: &str = "\
+Without a name: each service call with its arguments, each statement of a configuration with
+its fields, and each fault with its number and words. With a name, such as `act_tsk`,
+`CRE_TSK` or `E4`: that call with what may be written for its arguments, that statement with
+its attributes and the ranges of its numbers on the greatest machine, or that fault with what
+to do about it.
+
+Exit status:
+  0  done
+  2  the command line is wrong, or nothing is called so
+  3  the output could not be written
+  4  want of memory";
+
+const SHOW: &str = "show";
+
+const ALL: &str = "all";
 
 /// The paths of a configuration and of the other text.
 #[derive(Clone, Copy, Debug)]
@@ -76,8 +106,12 @@ pub enum Request<'a> {
     Calls(Paths<'a>),
     /// Whether a trace is the machine's.
     Check(Paths<'a>),
+    /// Where a trace is not the machine's.
+    Report(Paths<'a>, Shown),
     /// The trace of processors that follow scripts.
     Smp(SmpRequest<'a>),
+    /// What may be written: all of it, or what is called so.
+    List(Option<&'a str>),
 }
 
 /// How a refused command line ends the program. Help is asked for, so nothing is wrong there.
@@ -102,13 +136,41 @@ fn calls_command<'a>(alloc: Global) -> Result<Command<'a>, AllocError> {
         ))
 }
 
+/// An option without a value.
+fn flag<'a>(alloc: Global, id: &'a str, about: &'a str) -> Arg<'a> {
+    Arg::new(alloc, id)
+        .long(id)
+        .action(ArgAction::SetTrue)
+        .help(about)
+}
+
 fn check_command<'a>(alloc: Global) -> Result<Command<'a>, AllocError> {
+    let show = flag(alloc, SHOW, "Also shows the first line that differs").conflicts_with(ALL)?;
+    let all = flag(
+        alloc,
+        ALL,
+        "Shows each line that differs, as a unified diff",
+    );
     Command::new(alloc, "check")
         .about(CHECK_ABOUT)
         .after_help(CHECK_HELP)
         .bin_name("fmpsim check")?
         .arg(path(alloc, "CFG", "Path of the configuration"))?
-        .arg(path(alloc, "TRACE", "Path of the trace"))
+        .arg(path(alloc, "TRACE", "Path of the trace"))?
+        .arg(show)?
+        .arg(all)
+}
+
+fn list_command<'a>(alloc: Global) -> Result<Command<'a>, AllocError> {
+    Command::new(alloc, "list")
+        .about(LIST_ABOUT)
+        .after_help(LIST_HELP)
+        .bin_name("fmpsim list")?
+        .arg(
+            Arg::new(alloc, "NAME")
+                .action(ArgAction::Set)
+                .help("A service call, a statement, or the number of a fault"),
+        )
 }
 
 /// The whole command line, for its help and for what is wrong in it.
@@ -120,35 +182,54 @@ fn whole_command<'a>(alloc: Global) -> Result<Command<'a>, AllocError> {
         .arg_required_else_help(true)
         .subcommand(calls_command(alloc)?)?
         .subcommand(check_command(alloc)?)?
-        .subcommand(smp_command(alloc)?)
+        .subcommand(smp_command(alloc)?)?
+        .subcommand(list_command(alloc)?)
 }
 
 /// The two paths that the words behind a subcommand name.
-fn named_paths<'a>(
-    mut command: Command<'a>,
-    words: &'a [String],
-    text: &str,
-) -> Result<Paths<'a>, Error> {
-    let matches = command.try_get_matches_from(words)?;
-    Ok(Paths {
+fn named_paths<'a>(matches: &ArgMatches<'a>, text: &str) -> Paths<'a> {
+    Paths {
         config: matches.get_str("CFG").unwrap_or(""),
         text: matches.get_str(text).unwrap_or(""),
+    }
+}
+
+fn parse_calls<'a>(alloc: Global, words: &'a [String]) -> Result<Request<'a>, Error> {
+    let matches = calls_command(alloc)?.try_get_matches_from(words)?;
+    Ok(Request::Calls(named_paths(&matches, "EVENTS")))
+}
+
+fn parse_check<'a>(alloc: Global, words: &'a [String]) -> Result<Request<'a>, Error> {
+    let matches = check_command(alloc)?.try_get_matches_from(words)?;
+    let paths = named_paths(&matches, "TRACE");
+    Ok(match (matches.get_flag(SHOW), matches.get_flag(ALL)) {
+        (true, _) => Request::Report(paths, Shown::First),
+        (false, true) => Request::Report(paths, Shown::Each),
+        (false, false) => Request::Check(paths),
     })
+}
+
+/// The name behind `list`, if there is one.
+fn listed_name<'a>(alloc: Global, words: &'a [String]) -> Result<Option<&'a str>, Error> {
+    let mut command = list_command(alloc)?;
+    let matches = command.try_get_matches_from(words)?;
+    Ok(matches.get_str("NAME"))
 }
 
 /// What the words of the command line ask for.
 pub fn parse<'a>(alloc: Global, words: &'a [String]) -> Result<Request<'a>, Error> {
     let command = words.get(1).map(|word| word.as_str());
     if command == Some("calls") {
-        let calls = calls_command(alloc)?;
-        return Ok(Request::Calls(named_paths(calls, &words[1..], "EVENTS")?));
+        return parse_calls(alloc, &words[1..]);
     }
     if command == Some("check") {
-        let check = check_command(alloc)?;
-        return Ok(Request::Check(named_paths(check, &words[1..], "TRACE")?));
+        return parse_check(alloc, &words[1..]);
     }
     if command == Some("smp") {
         return Ok(Request::Smp(parse_smp(alloc, &words[1..])?));
+    }
+    if command == Some("list") {
+        return Ok(Request::List(listed_name(alloc, &words[1..])?));
     }
     let mut whole = whole_command(alloc)?;
     whole.try_get_matches_from_mut(words)?;

@@ -1,5 +1,6 @@
 //! fmpsim: reads a configuration and another text from files, or that text from standard input. Writes the trace of the
-//! machine's answers to events or of processors that follow scripts, or whether a trace is what the machine answers.
+//! machine's answers to events or of processors that follow scripts, or whether and where a trace is what the machine answers. Or
+//! it lists what may be written in these texts.
 #![tactic(auto)]
 
 mod cli;
@@ -9,11 +10,12 @@ mod tests;
 use cli::{Paths, Request};
 use fmp_smp::Open;
 use fmp_smp_command::{Limits, SmpRequest};
+use fmp_trace::Shown;
 use fmpsim_run::{
-    FaultLine, ReadSource, RunFault, Status, WriteSink, run_calls, run_check, run_seeded,
-    run_threads,
+    FaultLine, ReadSource, RunFault, Status, WriteSink, run_calls, run_check, run_report,
+    run_seeded, run_threads,
 };
-use std::io::{Input, Read};
+use std::io::{Input, Read, Write};
 use std::process::ExitCode;
 use std::rt::{Env, Files};
 use std::sync::Wait;
@@ -67,6 +69,24 @@ fn check<R: Files + Print + AllocGlobal>(rt: &R, paths: &Paths<'_>) -> Result<St
         &mut ReadSource::new(config),
         &mut ReadSource::new(trace),
         &mut WriteSink::new(rt.alloc(), io::writer(rt))?,
+    )?;
+    Ok(Status::of_verdict(verdict))
+}
+
+/// Opens both files before it reads either, and writes where the trace is not the machine's.
+fn report<R: Files + Print + AllocGlobal>(
+    rt: &R,
+    paths: &Paths<'_>,
+    shown: Shown,
+) -> Result<Status, RunFault> {
+    let config = fs::open(rt, paths.config).map_err(|_| RunFault::Read)?;
+    let trace = fs::open(rt, paths.text).map_err(|_| RunFault::Read)?;
+    let verdict = run_report(
+        rt.alloc(),
+        &mut ReadSource::new(config),
+        &mut ReadSource::new(trace),
+        &mut WriteSink::new(rt.alloc(), io::writer(rt))?,
+        shown,
     )?;
     Ok(Status::of_verdict(verdict))
 }
@@ -125,6 +145,26 @@ fn smp<R: Files + Input + Print + AllocGlobal + Threads + Wait + Sync>(
     played(rt, config, scripts, request)
 }
 
+/// Writes a text.
+fn written<R: Print>(rt: &R, text: &[u8]) -> Result<Status, RunFault> {
+    io::writer(rt).write_all(text).map_err(|_| RunFault::Write)?;
+    Ok(Status::Done)
+}
+
+/// Writes what may be written in the texts, or what is told of a name.
+fn list<R: Print + Eprint + AllocGlobal>(rt: &R, name: Option<&str>) -> Result<Status, RunFault> {
+    let Some(name) = name else {
+        return written(rt, fmp_help::everything(rt.alloc())?.as_slice());
+    };
+    match fmp_help::about(rt.alloc(), name.as_bytes())? {
+        Some(text) => written(rt, text.as_slice()),
+        None => {
+            let _ = eprintln!(rt; "fmpsim: nothing is called {name}: see fmpsim list");
+            Ok(Status::Usage)
+        }
+    }
+}
+
 /// Tells a fault on standard error, and how it ends the program.
 fn failed<R: Eprint>(rt: &R, paths: &Paths<'_>, fault: &RunFault) -> Status {
     let line = FaultLine {
@@ -167,6 +207,7 @@ fn execute<R: Files + Input + Print + Eprint + AllocGlobal + Threads + Wait + Sy
     match cli::parse(rt.alloc(), words) {
         Ok(Request::Calls(paths)) => ended(rt, &paths, calls(rt, &paths)),
         Ok(Request::Check(paths)) => ended(rt, &paths, check(rt, &paths)),
+        Ok(Request::Report(paths, shown)) => ended(rt, &paths, report(rt, &paths, shown)),
         Ok(Request::Smp(request)) => {
             let paths = Paths {
                 config: request.config,
@@ -174,6 +215,7 @@ fn execute<R: Files + Input + Print + Eprint + AllocGlobal + Threads + Wait + Sy
             };
             ended(rt, &paths, smp(rt, &request))
         }
+        Ok(Request::List(name)) => ended(rt, &NO_PATHS, list(rt, name)),
         Err(error) => refused(rt, &error),
     }
 }

@@ -1,5 +1,6 @@
 //! What the words of the command line ask for.
 use crate::cli::{self, Request};
+use fmp_trace::Shown;
 use fmpsim_run::Status;
 use std::alloc::{AllocError, Global};
 use std::process::Abort;
@@ -33,6 +34,25 @@ fn both_commands(rt: HostRuntime) -> Result<(), Fail> {
     Ok(())
 }
 
+/// The options stand anywhere behind the command.
+#[test]
+fn reports(rt: HostRuntime) -> Result<(), Fail> {
+    for (line, asked) in [
+        ("fmpsim check --show machine.cfg trace.txt", Shown::First),
+        ("fmpsim check machine.cfg --all trace.txt", Shown::Each),
+        ("fmpsim check machine.cfg trace.txt --all", Shown::Each),
+    ] {
+        let words = words_of(rt.alloc(), line)?;
+        let Request::Report(paths, shown) = cli::parse(rt.alloc(), words.as_slice())? else {
+            return Err("a report is asked for")?;
+        };
+        assert_eq!(rt; paths.config, "machine.cfg");
+        assert_eq!(rt; paths.text, "trace.txt");
+        assert_eq!(rt; shown, asked);
+    }
+    Ok(())
+}
+
 /// Two paths and two numbers, and a seed where one is given.
 #[test]
 fn smp_command(rt: HostRuntime) -> Result<(), Fail> {
@@ -52,6 +72,22 @@ fn smp_command(rt: HostRuntime) -> Result<(), Fail> {
         assert_eq!(rt; request.limits.ticks, 0);
         assert_eq!(rt; request.limits.turns, 1_000_000);
         assert_eq!(rt; request.seed, seed);
+    }
+    Ok(())
+}
+
+/// A list has a name or none.
+#[test]
+fn list_command(rt: HostRuntime) -> Result<(), Fail> {
+    for (line, name) in [
+        ("fmpsim list", None),
+        ("fmpsim list act_tsk", Some("act_tsk")),
+    ] {
+        let words = words_of(rt.alloc(), line)?;
+        let Request::List(found) = cli::parse(rt.alloc(), words.as_slice())? else {
+            return Err("a list is asked for")?;
+        };
+        assert_eq!(rt; found, name);
     }
     Ok(())
 }
@@ -78,6 +114,11 @@ fn refused_lines(rt: HostRuntime) -> Result<(), Fail> {
         "fmpsim calls --fast machine.cfg events.txt",
         "fmpsim check machine.cfg",
         "fmpsim check machine.cfg trace.txt more",
+        "fmpsim list act_tsk sig_sem",
+        "fmpsim check --show --all machine.cfg trace.txt",
+        "fmpsim check --all --all machine.cfg trace.txt",
+        "fmpsim check --show=yes machine.cfg trace.txt",
+        "fmpsim calls --show machine.cfg events.txt",
         "fmpsim smp machine.cfg scripts.txt",
         "fmpsim smp machine.cfg scripts.txt --ticks 0",
         "fmpsim smp machine.cfg scripts.txt --turns 1",
@@ -99,6 +140,7 @@ fn help(rt: HostRuntime) -> Result<(), Fail> {
         "fmpsim calls --help",
         "fmpsim check --help",
         "fmpsim smp --help",
+        "fmpsim list --help",
         "fmpsim --version",
     ] {
         is_refused(&rt, rt.alloc(), line, Status::Done)?;

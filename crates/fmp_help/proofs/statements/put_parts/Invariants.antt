@@ -1,0 +1,6 @@
+use Rattle.std.proofs.Common.{◌≡◌, ◌++◌, drop}
+use Rattle.fmp_help.specs.Statements.{parts_of}
+use Rattle.fmp_help.proofs.statements.put_parts.Given as goal
+
+abbrev pub invariant-loop-part : goal.invariant-loop-part
+invariant-loop-part l = l.out.items ++ parts_of (drop l.part-index l.parts) ≡ l.fn.out.items ++ parts_of l.fn.parts
