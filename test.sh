@@ -52,6 +52,31 @@ run() {
     count "$well" "${@:4}"
 }
 
+# unread WORD..: the program cannot read one of the files that these words name.
+unread() {
+    run 3 /dev/null <(echo fmpsim: read failed) "$@"
+}
+
+# starved TEXT WORD..: in each of the $rooms the run of these words writes this text, or whole lines of its beginning and that
+# memory ran out. It does so in the first room, and the whole in the last.
+starved() {
+    local memory ended well=yes all=()
+    for memory in "${rooms[@]}"; do
+        : > output
+        play "${@:2}"
+        ended=$?
+        all+=("$ended")
+        if [ "$ended" = 0 ]; then
+            cmp "$1" output && [ ! -s errors ] || well=no
+        else
+            [ "$ended" = 4 ] && [ "$(grep -c '^fmpsim: .*want of memory$' errors)" = "$(wc -l < errors)" ] || well=no
+            head -n "$(wc -l < output)" "$1" | cmp - output || well=no
+        fi
+    done
+    [ "${all[0]} ${all[-1]}" = '4 0' ] || well=no
+    count "$well" "${@:2}"
+}
+
 # value GIVEN OPTION WHY: how clap refuses the value of an option.
 value() {
     printf "error: invalid value '%s' for '--%s <N>': %s\n\nFor more information, try '--help'.\n" "$@"
@@ -91,6 +116,30 @@ texts_at_fault() {
     run 1 /dev/null <(echo fmpsim: number.cfg: line 1: F7 value out of range) check number.cfg "$late/trace.txt"
 }
 
+# Where a trace differs. What patch makes of a trace with such a diff is the machine's.
+reports() {
+    local patched=no
+    sed -e '1s/ ipi=2//' -e '2s/idle/E_OK:2/' -e '10s/ run=T2//' "$late/trace.txt" > wrong.txt
+    printf '%s\n' 'no 1' '- 1 P1 T1 act_tsk(T2) E_OK' '+ 1 P1 T1 act_tsk(T2) E_OK ipi=2' > first.txt
+    printf '%s\n' '--- trace' '+++ machine' '@@ -1,1 +1,1 @@' '-1 P1 T1 act_tsk(T2) E_OK' '+1 P1 T1 act_tsk(T2) E_OK ipi=2' \
+        '@@ -2,1 +2,1 @@' '-2 P2 - get_pid() E_OK:2' '+2 P2 - get_pid() idle' \
+        '@@ -10,1 +10,1 @@' '-10 P2 T3 ext_tsk() gone' '+10 P2 T3 ext_tsk() gone run=T2' > each.txt
+    run 5 first.txt /dev/null check --show "$late/machine.cfg" wrong.txt
+    run 5 each.txt /dev/null check --all "$late/machine.cfg" wrong.txt
+    if command -v patch > patch_is_here; then
+        patch -s wrong.txt output && diff wrong.txt "$late/trace.txt" && patch -s wrong.txt /dev/null && patched=yes
+        count "$patched" check --all "$late/machine.cfg" wrong.txt '|' patch wrong.txt
+    fi
+    run 0 <(echo yes) /dev/null check --show "$late/machine.cfg" "$late/trace.txt"
+    run 0 /dev/null /dev/null check "$late/machine.cfg" "$late/trace.txt" --all
+    # a fault behind a line that differs
+    (sed '1s/ ipi=2//' "$late/trace.txt" && printf '11 P1 T1 tick taken') > cut.txt
+    run 1 /dev/null <(echo fmpsim: cut.txt: line 11: E6 cut short) check --all "$late/machine.cfg" cut.txt
+    run 1 /dev/null <(echo fmpsim: cut.txt: line 11: E6 cut short) check --show "$late/machine.cfg" cut.txt
+    run 3 /dev/null <(echo fmpsim: read failed) check --all "$late/machine.cfg" missing
+    to=/dev/full run 3 /dev/null <(echo fmpsim: write failed) check --show "$late/machine.cfg" "$late/trace.txt"
+}
+
 # Processors that follow scripts, in threads: what holds in every order.
 scripts() {
     local folder=$top/examples/scripted-spin-lock ended=no numbers=(--ticks 1 --turns 100)
@@ -112,7 +161,7 @@ scripts() {
     run 1 /dev/null <(echo fmpsim: tick.txt: line 3: E2 bad word) smp again.cfg tick.txt --ticks 0 --turns 1
     run 1 /dev/null <(echo fmpsim: open.txt: line 1: E6 cut short) smp again.cfg open.txt --ticks 0 --turns 1 --seed 1
     run 1 /dev/null <(echo fmpsim: tick.txt: line 1: F3 unsupported API script) smp tick.txt again.txt --ticks 0 --turns 1
-    run 3 /dev/null <(echo fmpsim: read failed) smp again.cfg missing --ticks 0 --turns 1
+    unread smp again.cfg missing --ticks 0 --turns 1
     to=/dev/full run 3 /dev/null <(echo fmpsim: write failed) smp again.cfg again.txt --ticks 0 --turns 1 --seed 0
     # a million records of over a kilobyte each
     memory=100000 run 4 /dev/null <(echo fmpsim: want of memory) smp again.cfg again.txt --ticks 0 --turns 1000000 --seed 0
@@ -133,16 +182,88 @@ pipes() {
 
 devices_that_fail() {
     yes '#' | head -c 50000000 > long.txt
-    run 3 /dev/null <(echo fmpsim: read failed) calls missing "$late/events.txt"
-    run 3 /dev/null <(echo fmpsim: read failed) calls "$late/machine.cfg" missing
-    run 3 /dev/null <(echo fmpsim: read failed) check missing "$late/trace.txt"
-    run 3 /dev/null <(echo fmpsim: read failed) check "$late/machine.cfg" missing
+    unread calls missing "$late/events.txt"
+    unread calls "$late/machine.cfg" missing
+    unread check missing "$late/trace.txt"
+    unread check "$late/machine.cfg" missing
     to=/dev/full run 3 /dev/null <(echo fmpsim: write failed) calls "$late/machine.cfg" "$late/events.txt"
     to=/dev/full run 3 /dev/null <(echo fmpsim: write failed) check "$late/machine.cfg" "$late/trace.txt"
     head -c 50000000 /dev/zero | tr '\0' '#' > line.txt
     memory=40000 run 0 /dev/null /dev/null calls "$late/machine.cfg" long.txt
     memory=40000 run 4 /dev/null <(echo fmpsim: line.txt: line 0: E8 want of memory) calls "$late/machine.cfg" line.txt
     memory=40000 run 4 /dev/null <(echo fmpsim: want of memory) check "$late/machine.cfg" long.txt
+}
+
+# Paths of folders, of nothing, and of one file twice. `-` is standard input in the place of events and scripts alone, and no
+# file has this name.
+paths() {
+    local machine=$late/machine.cfg events=$late/events.txt numbers=(--ticks 0 --turns 1)
+    unread calls "$top" "$events"
+    unread calls "$machine" "$top"
+    unread check "$top" "$late/trace.txt"
+    unread check "$machine" "$top"
+    unread smp "$top" again.txt "${numbers[@]}"
+    unread smp again.cfg "$top" "${numbers[@]}"
+    unread calls "" "$events"
+    from=$machine unread calls - "$events"
+    from=$machine unread calls - -
+    from=$late/trace.txt unread check "$machine" -
+    from=again.cfg unread smp - again.txt "${numbers[@]}"
+    run 1 /dev/null <(echo "fmpsim: $machine: line 1: E1 bad byte") calls "$machine" "$machine"
+    run 1 /dev/null <(echo "fmpsim: $events: line 1: F3 unsupported API P1") calls "$events" "$events"
+    run 1 /dev/null <(echo "fmpsim: $machine: line 1: E2 bad word") check "$machine" "$machine"
+    run 1 /dev/null <(echo fmpsim: again.cfg: line 1: E1 bad byte) smp again.cfg again.cfg "${numbers[@]}"
+}
+
+# With the optimized program, each kind of run in more and more room for memory, from the least in which the program starts to one
+# in which it does all. The last events end with a line that is longer than most of these rooms.
+little_memory() {
+    local spin=$top/examples/scripted-spin-lock least=2000 rooms
+    # what the system's loader has no room for ends with 127 or by a signal
+    until { memory=$least play --help; } 2> /dev/null || [ $? = 4 ]; do
+        least=$((least + 25))
+    done
+    mapfile -t rooms < <(seq "$least" 25 $((least + 1000)) && echo 100000)
+    echo yes > verdict.txt
+    { cat "$late/events.txt" && head -c 2000000 /dev/zero | tr '\0' '#'; } > line.txt
+    starved "$late/trace.txt" calls "$late/machine.cfg" "$late/events.txt"
+    starved verdict.txt check "$late/machine.cfg" "$late/trace.txt"
+    starved "$spin/trace.txt" smp "$spin/machine.cfg" "$spin/scripts.txt" --ticks 1 --turns 100 --seed 11
+    starved "$late/trace.txt" calls "$late/machine.cfg" line.txt
+}
+
+# Texts at the limits of numbers and lengths.
+greatest_texts() {
+    yes 'P1 tick' | head -n 1000001 > long.txt
+    run 1 <(seq 1000000 | sed 's/$/ P1 T1 tick taken/') <(echo fmpsim: long.txt: line 1000001: E7 too many) \
+        calls "$late/machine.cfg" long.txt
+    run 1 /dev/null <(echo fmpsim: /dev/zero: line 0: F9 too many) calls /dev/zero "$late/events.txt"
+    head -n 2 "$late/trace.txt" > front.txt
+    run 0 <(echo yes) /dev/null check "$late/machine.cfg" front.txt
+    head -c -1 "$late/trace.txt" > front.txt
+    run 1 /dev/null <(echo fmpsim: front.txt: line 10: E6 cut short) check "$late/machine.cfg" front.txt
+}
+
+# What may be written in the texts.
+lists() {
+    local each=no call
+    run 0 <(printf '%s\n' 'chg_pri(task, priority)' '  task: its name, TSK_SELF for 0, or a number of 32 bits with a sign' \
+        '  priority: a number of 32 bits with a sign, TPRI_SELF for 0, or TPRI_INI for 0') /dev/null list chg_pri
+    run 0 <(echo ret_hdr) /dev/null list ret_hdr
+    run 0 <(printf '%s\n' 'CRE_SEM(name, {attribute | .., number, number});' '  attribute: TA_NULL TA_TFIFO TA_TPRI' \
+        '  second number: within 1 to 65535') /dev/null list CRE_SEM
+    run 0 <(printf '%s\n' 'F10 no PROCESSORS line' '  Begin with `PROCESSORS(n);`.') /dev/null list F10
+    run 0 <(echo ini_sem is left out) /dev/null list ini_sem
+    run 2 /dev/null <(echo fmpsim: nothing is called jump: see fmpsim list) list jump
+    to=/dev/full run 3 /dev/null <(echo fmpsim: write failed) list
+    # each call, statement and fault has one line, and each call of the document has one
+    play list
+    [ "$(grep -cE '^[a-z]+_[a-z]+(\(.*\))?$' output)" = 78 ] && [ "$(grep -cE '^[A-Z_]+\(' output)" = 14 ] \
+        && [ "$(grep -cE '^[EF][0-9]+ ' output)" = 21 ] && each=yes
+    for call in $(sed -n '/^### Calls/,/^### Arguments/p' "$top/docs/FORMATS.md" | grep -oE '`[a-z]+_[a-z]+`' | tr -d '`'); do
+        grep -qE "^$call(\(|$)" output || each=no
+    done
+    count "$each" list
 }
 
 command_lines() {
@@ -152,6 +273,9 @@ command_lines() {
     usage 2 errors output calls "$late/machine.cfg"
     usage 2 errors output calls "$late/machine.cfg" "$late/events.txt" more
     usage 2 errors output check "$late/machine.cfg" "$late/trace.txt" more
+    usage 2 errors output check --show --all "$late/machine.cfg" "$late/trace.txt"
+    usage 2 errors output calls --all "$late/machine.cfg" "$late/events.txt"
+    usage 2 errors output list act_tsk sig_sem
     usage 2 errors output smp again.cfg again.txt --ticks 0
     usage 2 errors output smp again.cfg again.txt --turns 1
     run 2 /dev/null <(value 0 turns '0 is not in 1..=1000000') smp again.cfg again.txt --ticks 0 --turns 0
@@ -161,6 +285,7 @@ command_lines() {
     usage 0 output errors calls --help
     usage 0 output errors check --help
     usage 0 output errors smp --help
+    usage 0 output errors list --help
 }
 
 [ "${1-}" = --runs ] || prove
@@ -168,9 +293,14 @@ for program in "$top"/crates/fmpsim/out/fmpsim{,.by-rattle}; do
     if [ -x "$program" ]; then
         examples
         texts_at_fault
+        reports
         scripts
         pipes
         devices_that_fail
+        paths
+        greatest_texts
+        [[ $program = *.by-rattle ]] || little_memory
+        lists
         command_lines
     else
         count no is not built

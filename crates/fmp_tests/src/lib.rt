@@ -10,6 +10,8 @@ mod machines;
 #[cfg(test)]
 mod plain;
 #[cfg(test)]
+mod report;
+#[cfg(test)]
 mod run;
 #[cfg(test)]
 mod scenarios;

@@ -1,40 +1,61 @@
 //! What is answered to the text of a configuration, as the tables of the tests have it.
-use fmp_config::read_config;
+use fmp_config::{ConfigFault, read_config};
 use std::alloc::{AllocError, Global};
 use std::process::Abort;
 
-/// What stands before the text of a row, and behind it.
-pub type Frame = (&'static [u8], &'static [u8]);
+/// What stands around the text of a row, in its first line.
+#[derive(Clone, Copy)]
+pub enum Frame {
+    /// Nothing.
+    Whole,
+    /// Before it the classes of a machine of two processors.
+    Behind,
+    /// A class of such a machine.
+    Inside,
+    /// The class of both processors, where the first one's ticks count for all.
+    Timed,
+    /// These two texts.
+    Around(&'static [u8], &'static [u8]),
+}
+
+impl Frame {
+    /// What stands before the text, and behind it.
+    pub fn texts(self) -> (&'static [u8], &'static [u8]) {
+        match self {
+            Frame::Whole => (b"", b""),
+            Frame::Behind => (BEHIND, b""),
+            Frame::Inside => (INSIDE, b" }"),
+            Frame::Timed => (TIMED, b" }"),
+            Frame::Around(front, end) => (front, end),
+        }
+    }
+}
 
 /// A text, and its answer.
 pub type Row = (&'static [u8], &'static str);
 
-pub const WHOLE: Frame = (b"", b"");
+/// The classes of a machine of two processors.
+pub const BEHIND: &[u8] = b"PROCESSORS(2); DEF_CLASS(C1, 1, {1, 2}); DEF_CLASS(FIX1, 1, {1}); ";
 
-/// Behind the classes of a machine of two processors, still in the first line.
-pub const BEHIND: Frame = (
-    b"PROCESSORS(2); DEF_CLASS(C1, 1, {1, 2}); DEF_CLASS(FIX1, 1, {1}); ",
-    b"",
-);
+/// The same, and the beginning of a class.
+pub const INSIDE: &[u8] =
+    b"PROCESSORS(2); DEF_CLASS(C1, 1, {1, 2}); DEF_CLASS(FIX1, 1, {1}); CLASS(C1) { ";
 
-/// In a class of such a machine, still in the first line.
-pub const INSIDE: Frame = (
-    b"PROCESSORS(2); DEF_CLASS(C1, 1, {1, 2}); DEF_CLASS(FIX1, 1, {1}); CLASS(C1) { ",
-    b" }",
-);
+const TIMED: &[u8] = b"PROCESSORS(2); TIMER(GLOBAL, 1); DEF_CLASS(C1, 1, {1, 2}); \
+      DEF_CLASS(ONE, 1, {1, 1}); DEF_CLASS(TWO, 2, {2}); CLASS(C1) { ";
 
-/// In the class of both processors, where the first one's ticks count for all, still in the first line.
-pub const TIMED: Frame = (
-    b"PROCESSORS(2); TIMER(GLOBAL, 1); DEF_CLASS(C1, 1, {1, 2}); DEF_CLASS(ONE, 1, {1, 1}); \
-      DEF_CLASS(TWO, 2, {2}); CLASS(C1) { ",
-    b" }",
-);
+/// The first fault of a text, if it has one.
+fn fault(alloc: Global, text: &[u8]) -> Option<ConfigFault> {
+    match read_config(alloc, text) {
+        Ok(_config) => None,
+        Err(fault) => Some(fault),
+    }
+}
 
 /// `ok`, or the line, the number and the word of the first fault: `2 F3 CRE_MTX`.
 pub fn answer(alloc: Global, text: &[u8]) -> Result<String, AllocError> {
-    let fault = match read_config(alloc, text) {
-        Ok(_) => return format!(in alloc; "ok"),
-        Err(fault) => fault,
+    let Some(fault) = fault(alloc, text) else {
+        return "ok".to_string(alloc);
     };
     let (line, code, word) = (fault.line, fault.kind.code(), fault.word.as_str());
     if word.is_empty() {
@@ -59,7 +80,8 @@ pub fn between(
 
 /// A text in a frame.
 pub fn framed(alloc: Global, frame: Frame, text: &[u8]) -> Result<Vec<u8>, AllocError> {
-    between(alloc, frame.0, text, frame.1)
+    let (front, end) = frame.texts();
+    between(alloc, front, text, end)
 }
 
 /// Asserts the answer to a text.
@@ -77,6 +99,18 @@ pub fn answers(
     Ok(())
 }
 
+/// Asserts the answer to a text in a frame.
+pub fn answers_in(
+    rt: &impl Abort,
+    alloc: Global,
+    frame: Frame,
+    text: &[u8],
+    expected: &str,
+) -> Result<(), AllocError> {
+    let whole = framed(alloc, frame, text)?;
+    answers(rt, alloc, whole.as_slice(), expected)
+}
+
 /// Asserts the answers to the texts of rows in a frame.
 pub fn all_answer(
     rt: &impl Abort,
@@ -85,8 +119,7 @@ pub fn all_answer(
     rows: &[Row],
 ) -> Result<(), AllocError> {
     for (text, expected) in rows {
-        let text = framed(alloc, frame, *text)?;
-        answers(rt, alloc, text.as_slice(), *expected)?;
+        answers_in(rt, alloc, frame, *text, *expected)?;
     }
     Ok(())
 }
@@ -99,8 +132,7 @@ pub fn all_are_accepted(
     texts: &[&'static [u8]],
 ) -> Result<(), AllocError> {
     for text in texts {
-        let text = framed(alloc, frame, *text)?;
-        answers(rt, alloc, text.as_slice(), "ok")?;
+        answers_in(rt, alloc, frame, *text, "ok")?;
     }
     Ok(())
 }

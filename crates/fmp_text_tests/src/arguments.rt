@@ -1,8 +1,10 @@
-use crate::text::machine;
+use crate::answers::between;
+use crate::text::{Read, are_read, with_machine};
 use fmp_codes::{BufferCall, Call, Mode, SyncCall, TaskCall, TimeCall};
 use fmp_text::TextKind::*;
 use fmp_text::{Names, TextKind, read_call};
 use std::alloc::{AllocError, Global};
+use std::process::Abort;
 use std::test::Fail;
 
 /// A place in a call where an argument of a kind stands: the text before it and behind it.
@@ -72,6 +74,14 @@ const WORDS: [(&[u8], Place); 16] = [
     (b"TWF_ORW", MODE),
 ];
 
+/// What is wrong with the text of a call, if anything is.
+fn fault_of(text: &[u8], names: &Names) -> Option<TextKind> {
+    match read_call(text, names) {
+        Ok(_) => None,
+        Err(kind) => Some(kind),
+    }
+}
+
 /// What is wrong with a call with this argument, if anything is.
 fn judged(
     alloc: Global,
@@ -79,13 +89,20 @@ fn judged(
     place: Place,
     token: &[u8],
 ) -> Result<Option<TextKind>, AllocError> {
-    let mut text = Vec::from_slice(alloc, place.0)?;
-    text.extend_from_slice(token)?;
-    text.extend_from_slice(place.1)?;
-    Ok(read_call(text.as_slice(), names).err())
+    let text = between(alloc, place.0, token, place.1)?;
+    Ok(fault_of(text.as_slice(), names))
 }
 
-/// Numbers at an end of a range, one beyond, and a spelling that no kind has.
+/// The ends of the range of 32 signed bits, one beyond each, and a spelling that no kind has.
+const ENDS: [(&[u8], Option<TextKind>); 5] = [
+    (b"-2147483648", None),
+    (b"-2147483649", Some(NumberOutOfRange)),
+    (b"2147483647", None),
+    (b"2147483648", Some(NumberOutOfRange)),
+    (b"00", Some(NumberOutOfRange)),
+];
+
+/// The same of other kinds.
 const NUMBERS: [(Place, &[u8], Option<TextKind>); 14] = [
     (PATTERN, b"0", None),
     (PATTERN, b"-0", None),
@@ -103,45 +120,93 @@ const NUMBERS: [(Place, &[u8], Option<TextKind>); 14] = [
     (MODE, b"99999999999999999999", Some(WrongArguments)),
 ];
 
+fn have_ends(
+    rt: &impl Abort,
+    alloc: Global,
+    names: &Names,
+    place: Place,
+    rows: &[(&'static [u8], Option<TextKind>)],
+) -> Result<(), AllocError> {
+    for (token, kind) in rows {
+        assert!(rt; judged(alloc, names, place, *token)? == *kind);
+    }
+    Ok(())
+}
+
+/// Asserts the ends of the range of 32 signed bits in each place.
+fn are_signed(
+    rt: &impl Abort,
+    alloc: Global,
+    names: &Names,
+    places: &[Place],
+) -> Result<(), AllocError> {
+    for place in places {
+        have_ends(rt, alloc, names, *place, &ENDS)?;
+    }
+    Ok(())
+}
+
+fn are_judged(
+    rt: &impl Abort,
+    alloc: Global,
+    names: &Names,
+    rows: &[(Place, &'static [u8], Option<TextKind>)],
+) -> Result<(), AllocError> {
+    for (place, token, kind) in rows {
+        assert!(rt; judged(alloc, names, *place, *token)? == *kind);
+    }
+    Ok(())
+}
+
 #[test]
 fn ends_of_ranges(rt: HostRuntime) -> Result<(), Fail> {
-    let (alloc, names) = (rt.alloc(), machine(&rt)?);
-    for place in &SIGNED {
-        for (token, kind) in [
-            (b"-2147483648".as_slice(), None),
-            (b"-2147483649".as_slice(), Some(NumberOutOfRange)),
-            (b"2147483647".as_slice(), None),
-            (b"2147483648".as_slice(), Some(NumberOutOfRange)),
-            (b"00".as_slice(), Some(NumberOutOfRange)),
-        ] {
-            assert!(rt; judged(alloc, &names, *place, token)? == kind);
-        }
+    with_machine(rt.alloc(), |names| {
+        are_signed(&rt, rt.alloc(), names, &SIGNED)?;
+        are_judged(&rt, rt.alloc(), names, &NUMBERS)?;
+        Ok(())
+    })
+}
+
+/// Asserts of a place that a word may stand there if it is its own, and that no other may.
+fn takes_its_own(
+    rt: &impl Abort,
+    alloc: Global,
+    names: &Names,
+    place: Place,
+    words: &[(&'static [u8], Place)],
+) -> Result<(), AllocError> {
+    for (word, own) in words {
+        let kind = judged(alloc, names, place, *word)?;
+        let is_own = own.0 == place.0;
+        assert!(rt; is_own == kind.is_none());
+        assert!(rt; is_own || kind == Some(WrongArguments));
     }
-    for (place, token, kind) in &NUMBERS {
-        assert!(rt; judged(alloc, &names, *place, *token)? == *kind);
+    Ok(())
+}
+
+/// Asserts of each place that its own words may stand there alone, and no function.
+fn take_their_own(
+    rt: &impl Abort,
+    alloc: Global,
+    names: &Names,
+    places: &[Place],
+) -> Result<(), AllocError> {
+    for place in places {
+        takes_its_own(rt, alloc, names, *place, &WORDS)?;
+        assert!(rt; judged(alloc, names, *place, b"main_task")? == Some(UnknownName));
     }
     Ok(())
 }
 
 #[test]
 fn words_of_each_kind(rt: HostRuntime) -> Result<(), Fail> {
-    let (alloc, names) = (rt.alloc(), machine(&rt)?);
-    for place in &PLACES {
-        for (word, own) in &WORDS {
-            let kind = if *place == *own {
-                None
-            } else {
-                Some(WrongArguments)
-            };
-            assert!(rt; judged(alloc, &names, *place, *word)? == kind);
-        }
-        assert!(rt; judged(alloc, &names, *place, b"main_task")? == Some(UnknownName));
-    }
-    Ok(())
+    with_machine(rt.alloc(), |names| {
+        Ok(take_their_own(&rt, rt.alloc(), names, &PLACES)?)
+    })
 }
 
 /// Calls with arguments of several kinds, and without parentheses.
-const CALLS: [(&[u8], Result<Call, TextKind>); 14] = [
+const CALLS: [Read; 14] = [
     (
         b"twai_flg( F ,0xF0,\tTWF_ORW , TMO_FEVR )",
         Ok(Call::Sync(SyncCall::TwaiFlg(1, 240, Mode::Orw, -1))),
@@ -172,11 +237,10 @@ const CALLS: [(&[u8], Result<Call, TextKind>); 14] = [
 
 #[test]
 fn calls_of_several_kinds(rt: HostRuntime) -> Result<(), Fail> {
-    let names = machine(&rt)?;
-    for (text, call) in &CALLS {
-        assert!(rt; read_call(*text, &names) == *call);
-    }
-    Ok(())
+    with_machine(rt.alloc(), |names| {
+        are_read(&rt, names, &CALLS);
+        Ok(())
+    })
 }
 
 /// Each call, with arguments that tell the kinds apart, but for times and blocks.
@@ -261,11 +325,16 @@ const EACH: [&[u8]; 78] = [
     b"ret_hdr",
 ];
 
+fn are_calls(rt: &impl Abort, names: &Names, texts: &[&'static [u8]]) {
+    for text in texts {
+        assert!(rt; fault_of(*text, names).is_none());
+    }
+}
+
 #[test]
 fn each_call(rt: HostRuntime) -> Result<(), Fail> {
-    let names = machine(&rt)?;
-    for text in &EACH {
-        assert!(rt; read_call(*text, &names).is_ok());
-    }
-    Ok(())
+    with_machine(rt.alloc(), |names| {
+        are_calls(&rt, names, &EACH);
+        Ok(())
+    })
 }

@@ -1,5 +1,5 @@
 //! What the text of a configuration says: its numbers, classes, objects and names.
-use crate::answers::{INSIDE, TIMED, WHOLE, all_are_accepted, between, framed};
+use crate::answers::{Frame, all_are_accepted, between, framed};
 use fmp_calls::{NameKind, ObjectKind};
 use fmp_codes::{Pri, Proc};
 use fmp_config::{Config, read_config};
@@ -7,10 +7,13 @@ use fmp_machine::{
     AlarmSetup, Class, CyclicSetup, DataQueueSetup, EventflagSetup, Limits, NamedClass, Order,
     PoolSetup, SemaphoreSetup, TaskSetup, Timer,
 };
+use fmp_text::Names;
 use std::alloc::{AllocError, Global};
+use std::process::Abort;
 use std::test::Fail;
 
-const MACHINE: &[u8] = b"PROCESSORS(2);
+/// A machine behind its first statement.
+const MACHINE: &[u8] = b"
 DEF_CLASS(C1, 1, {1, 2});
 DEF_CLASS(C2, 2, {1, 2});
 DEF_CLASS(FIX1, 1, {1});
@@ -55,15 +58,18 @@ CLASS(ALL) {}
 CLASS(THIRD) { CRE_TSK(T3, {TA_NULL|TA_ACT, 0, main, 16, 0, 0}); }
 ";
 
-fn read(alloc: Global, text: &[u8]) -> Result<Config, Fail> {
+/// Does this with the configuration that a text says.
+fn with_config<F: FnOnce(&Config) -> Result<(), Fail>>(
+    alloc: Global,
+    text: &[u8],
+    test: F,
+) -> Result<(), Fail>
+    requires { F.IsAlwaysCallable test }
+{
     match read_config(alloc, text) {
-        Ok(config) => Ok(config),
+        Ok(config) => test(&config),
         Err(fault) => Err(format!(in alloc; "{fault}")?)?,
     }
-}
-
-fn everything(alloc: Global) -> Result<Config, Fail> {
-    read(alloc, EVERYTHING)
 }
 
 /// A class of up to three processors.
@@ -91,27 +97,32 @@ fn is_class(named: &NamedClass, name: &[u8], class: Class) -> bool {
     named.name.as_slice() == name && named.class == class
 }
 
+fn limits(wakeups: u16, priorities: u8) -> Limits {
+    Limits {
+        wakeups,
+        priorities,
+    }
+}
+
+fn has_its_classes(config: &Config) -> bool {
+    let [first, other, last] = config.classes() else {
+        return false;
+    };
+    is_class(first, b"ALL", all())
+        && is_class(other, b"SECOND", second())
+        && is_class(last, b"THIRD", third())
+}
+
 #[test]
 fn the_head_is_what_the_text_says(rt: HostRuntime) -> Result<(), Fail> {
-    let config = everything(rt.alloc())?;
-    assert_eq!(rt; config.processors(), 3);
-    assert_eq!(rt; config.names().processors(), 3);
-    assert!(rt; config.timer() == Timer::Global(Proc::new(2)));
-    let (wakeups, priorities) = (255, 32);
-    assert!(rt;
-        config.limits()
-            == Limits {
-                wakeups,
-                priorities
-            }
-    );
-    let [first, other, last] = config.classes() else {
-        return Err("there are three classes".into());
-    };
-    assert!(rt; is_class(first, b"ALL", all()));
-    assert!(rt; is_class(other, b"SECOND", second()));
-    assert!(rt; is_class(last, b"THIRD", third()));
-    Ok(())
+    with_config(rt.alloc(), EVERYTHING, |config| {
+        assert!(rt; config.processors() == 3);
+        assert!(rt; config.names().processors() == 3);
+        assert!(rt; config.timer() == Timer::Global(Proc::new(2)));
+        assert!(rt; config.limits() == limits(255, 32));
+        assert!(rt; has_its_classes(config));
+        Ok(())
+    })
 }
 
 fn task(class: Class, main: u8, priority: Pri, starts: bool) -> TaskSetup {
@@ -123,16 +134,21 @@ fn task(class: Class, main: u8, priority: Pri, starts: bool) -> TaskSetup {
     }
 }
 
+fn has_its_tasks(config: &Config) -> bool {
+    let [first, other, last] = config.tasks() else {
+        return false;
+    };
+    *first == task(second(), 1, Pri::new(32), false)
+        && *other == task(all(), 4, Pri::new(1), true)
+        && *last == task(third(), 1, Pri::new(16), true)
+}
+
 #[test]
 fn the_tasks_are_what_the_text_says(rt: HostRuntime) -> Result<(), Fail> {
-    let config = everything(rt.alloc())?;
-    let [first, other, last] = config.tasks() else {
-        return Err("there are three tasks".into());
-    };
-    assert!(rt; *first == task(second(), 1, Pri::new(32), false));
-    assert!(rt; *other == task(all(), 4, Pri::new(1), true));
-    assert!(rt; *last == task(third(), 1, Pri::new(16), true));
-    Ok(())
+    with_config(rt.alloc(), EVERYTHING, |config| {
+        assert!(rt; has_its_tasks(config));
+        Ok(())
+    })
 }
 
 fn semaphore(order: Order, initial: u16, most: u16) -> SemaphoreSetup {
@@ -160,32 +176,34 @@ fn pool(order: Order, blocks: u8) -> PoolSetup {
     PoolSetup { order, blocks }
 }
 
+fn has_its_counters(config: &Config) -> bool {
+    let ([first, second], [one, other]) = (config.semaphores(), config.eventflags()) else {
+        return false;
+    };
+    *first == semaphore(Order::First, 0, 1)
+        && *second == semaphore(Order::Priority, 65_535, 65_535)
+        && *one == eventflag(Order::Priority, true, true, 4_294_967_295)
+        && *other == eventflag(Order::First, false, false, 0)
+}
+
+fn has_its_buffers(config: &Config) -> bool {
+    let ([first, second], [one, other]) = (config.data_queues(), config.pools()) else {
+        return false;
+    };
+    *first == data_queue(Order::Priority, 1024)
+        && *second == data_queue(Order::First, 0)
+        && *one == pool(Order::First, 1)
+        && *other == pool(Order::Priority, 64)
+}
+
 #[test]
 fn the_objects_are_what_the_text_says(rt: HostRuntime) -> Result<(), Fail> {
-    let config = everything(rt.alloc())?;
-    let (
-        [first_semaphore, second_semaphore],
-        [first_flag, second_flag],
-        [first_queue, second_queue],
-        [first_pool, second_pool],
-    ) = (
-        config.semaphores(),
-        config.eventflags(),
-        config.data_queues(),
-        config.pools(),
-    ) else {
-        return Err("there are two objects of each of these kinds".into());
-    };
-    assert!(rt; *first_semaphore == semaphore(Order::First, 0, 1));
-    assert!(rt; *second_semaphore == semaphore(Order::Priority, 65_535, 65_535));
-    assert!(rt; *first_flag == eventflag(Order::Priority, true, true, 4_294_967_295));
-    assert!(rt; *second_flag == eventflag(Order::First, false, false, 0));
-    assert!(rt; *first_queue == data_queue(Order::Priority, 1024));
-    assert!(rt; *second_queue == data_queue(Order::First, 0));
-    assert!(rt; *first_pool == pool(Order::First, 1));
-    assert!(rt; *second_pool == pool(Order::Priority, 64));
-    assert_eq!(rt; config.spin_locks(), 3);
-    Ok(())
+    with_config(rt.alloc(), EVERYTHING, |config| {
+        assert!(rt; has_its_counters(config));
+        assert!(rt; has_its_buffers(config));
+        assert!(rt; config.spin_locks() == 3);
+        Ok(())
+    })
 }
 
 fn cyclic(handler: u8, period: u32, phase: u32, starts: bool) -> CyclicSetup {
@@ -204,17 +222,22 @@ fn alarm(handler: u8) -> AlarmSetup {
     AlarmSetup { class, handler }
 }
 
+fn has_its_handlers(config: &Config) -> bool {
+    let ([first, last], [one, other]) = (config.cyclics(), config.alarms()) else {
+        return false;
+    };
+    *first == cyclic(1, 100, 0, true)
+        && *last == cyclic(2, 2_147_483_647, 2_147_483_647, false)
+        && *one == alarm(3)
+        && *other == alarm(2)
+}
+
 #[test]
 fn the_handlers_are_what_the_text_says(rt: HostRuntime) -> Result<(), Fail> {
-    let config = everything(rt.alloc())?;
-    let ([first, last], [one, other]) = (config.cyclics(), config.alarms()) else {
-        return Err("there are two handlers of each kind".into());
-    };
-    assert!(rt; *first == cyclic(1, 100, 0, true));
-    assert!(rt; *last == cyclic(2, 2_147_483_647, 2_147_483_647, false));
-    assert!(rt; *one == alarm(3));
-    assert!(rt; *other == alarm(2));
-    Ok(())
+    with_config(rt.alloc(), EVERYTHING, |config| {
+        assert!(rt; has_its_handlers(config));
+        Ok(())
+    })
 }
 
 /// A name of a kind, and its number.
@@ -245,38 +268,51 @@ const NUMBERED: [Numbered; 22] = [
     (NameKind::Function, b"other", 4),
 ];
 
+/// Names of other kinds.
+const ELSEWHERE: [(NameKind, &[u8]); 5] = [
+    (NameKind::Object(ObjectKind::Task), b"S1"),
+    (NameKind::Object(ObjectKind::Task), b"ALL"),
+    (NameKind::Object(ObjectKind::Task), b"PERIOD"),
+    (NameKind::Function, b"T1"),
+    (NameKind::Function, b"STACK_SIZE"),
+];
+
+fn are_numbered(rt: &impl Abort, names: &Names, rows: &[Numbered]) {
+    for (kind, name, number) in rows {
+        assert!(rt; names.number(*kind, *name) == Some(*number));
+        assert!(rt; names.name(*kind, *number) == Some(*name));
+    }
+}
+
+fn are_elsewhere(rt: &impl Abort, names: &Names, rows: &[(NameKind, &'static [u8])]) {
+    for (kind, name) in rows {
+        assert!(rt; names.number(*kind, *name).is_none());
+    }
+}
+
 #[test]
 fn names_count_in_the_order_of_the_text(rt: HostRuntime) -> Result<(), Fail> {
-    let config = everything(rt.alloc())?;
-    let names = config.names();
-    for (kind, name, number) in NUMBERED {
-        assert!(rt; names.number(kind, name) == Some(number));
-        assert!(rt; names.name(kind, number) == Some(name));
-    }
-    for (kind, name) in [
-        (NameKind::Object(ObjectKind::Task), b"S1".as_slice()),
-        (NameKind::Object(ObjectKind::Task), b"ALL".as_slice()),
-        (NameKind::Object(ObjectKind::Task), b"PERIOD".as_slice()),
-        (NameKind::Function, b"T1".as_slice()),
-        (NameKind::Function, b"STACK_SIZE".as_slice()),
-    ] {
-        assert!(rt; names.number(kind, name).is_none());
-    }
-    assert!(rt; names.defined(b"PERIOD") == Some(100));
-    assert!(rt; names.defined(b"MOST") == Some(65_535));
-    assert!(rt; names.defined(b"T1").is_none() && names.defined(b"NULL").is_none());
-    Ok(())
+    with_config(rt.alloc(), EVERYTHING, |config| {
+        are_numbered(&rt, config.names(), &NUMBERED);
+        are_elsewhere(&rt, config.names(), &ELSEWHERE);
+        Ok(())
+    })
+}
+
+#[test]
+fn defined_names(rt: HostRuntime) -> Result<(), Fail> {
+    with_config(rt.alloc(), EVERYTHING, |config| {
+        assert!(rt; config.names().defined(b"PERIOD") == Some(100));
+        assert!(rt; config.names().defined(b"MOST") == Some(65_535));
+        assert!(rt; config.names().defined(b"T1").is_none());
+        assert!(rt; config.names().defined(b"NULL").is_none());
+        Ok(())
+    })
 }
 
 /// What is so where no statement says otherwise.
 fn is_plain(config: &Config) -> bool {
-    let (wakeups, priorities) = (1, 16);
-    config.timer() == Timer::Local
-        && config.limits()
-            == Limits {
-                wakeups,
-                priorities,
-            }
+    config.timer() == Timer::Local && config.limits() == limits(1, 16)
 }
 
 /// Whether a configuration is that of the machine.
@@ -308,85 +344,107 @@ const FRONTS: [&[u8]; 10] = [
     b"#include a // b \\\nPROCESSORS(1);\n",
 ];
 
-#[test]
-fn fronts_say_nothing(rt: HostRuntime) -> Result<(), Fail> {
-    let alloc = rt.alloc();
-    for front in FRONTS {
-        let text = between(alloc, front, MACHINE, b"")?;
-        let config = read(alloc, text.as_slice())?;
-        assert!(rt; is_machine(&config));
-    }
-    Ok(())
-}
-
-/// The machine with a statement behind its first one, and a task at the end.
-fn changed(alloc: Global, statement: &[u8], task: &[u8]) -> Result<Vec<u8>, AllocError> {
-    let (first, rest) = MACHINE.split_at(14);
-    let mut text = between(alloc, first, statement, rest)?;
+/// The machine behind a front, with a statement behind its first one, and a task at the end.
+fn changed(
+    alloc: Global,
+    front: &[u8],
+    statement: &[u8],
+    task: &[u8],
+) -> Result<Vec<u8>, AllocError> {
+    let mut text = between(alloc, front, b"PROCESSORS(2);", statement)?;
+    text.extend_from_slice(MACHINE)?;
     text.extend_from_slice(task)?;
     Ok(text)
 }
 
+fn say_nothing(rt: &impl Abort, alloc: Global, fronts: &[&'static [u8]]) -> Result<(), Fail> {
+    for front in fronts {
+        let text = changed(alloc, *front, b"", b"")?;
+        with_config(alloc, text.as_slice(), |config| {
+            assert!(rt; is_machine(config));
+            Ok(())
+        })?;
+    }
+    Ok(())
+}
+
+#[test]
+fn fronts_say_nothing(rt: HostRuntime) -> Result<(), Fail> {
+    say_nothing(&rt, rt.alloc(), &FRONTS)
+}
+
+/// A second task.
+const WORKER: &[u8] = b"CLASS(C2) { CRE_TSK(T2, {TA_ACT, 0, main2, 10, 4096, NULL}); }";
+
+fn has_timer(rt: &impl Abort, alloc: Global, statement: &[u8], timer: Timer) -> Result<(), Fail> {
+    let text = changed(alloc, b"", statement, WORKER)?;
+    with_config(alloc, text.as_slice(), |config| {
+        assert!(rt; config.timer() == timer);
+        assert!(rt; config.tasks().len() == 2);
+        Ok(())
+    })
+}
+
 #[test]
 fn the_timer_is_what_the_text_says(rt: HostRuntime) -> Result<(), Fail> {
-    let second: &[u8] = b"CLASS(C2) { CRE_TSK(T2, {TA_ACT, 0, main2, 10, 4096, NULL}); }";
-    for (statement, timer) in [
-        (b"\n".as_slice(), Timer::Local),
-        (b"\nTIMER(LOCAL);".as_slice(), Timer::Local),
-        (
-            b"\nTIMER(GLOBAL, 1);".as_slice(),
-            Timer::Global(Proc::new(1)),
-        ),
-        (
-            b"\nTIMER(GLOBAL, 0x2);".as_slice(),
-            Timer::Global(Proc::new(2)),
-        ),
-        (
-            b"\n#define N 2\nTIMER(GLOBAL, N);".as_slice(),
-            Timer::Global(Proc::new(2)),
-        ),
-    ] {
-        let text = changed(rt.alloc(), statement, second)?;
-        let config = read(rt.alloc(), text.as_slice())?;
-        assert!(rt; config.timer() == timer);
-        assert_eq!(rt; config.tasks().len(), 2);
+    let (alloc, second) = (rt.alloc(), Timer::Global(Proc::new(2)));
+    has_timer(&rt, alloc, b"\n", Timer::Local)?;
+    has_timer(&rt, alloc, b"\nTIMER(LOCAL);", Timer::Local)?;
+    has_timer(
+        &rt,
+        alloc,
+        b"\nTIMER(GLOBAL, 1);",
+        Timer::Global(Proc::new(1)),
+    )?;
+    has_timer(&rt, alloc, b"\nTIMER(GLOBAL, 0x2);", second)?;
+    has_timer(&rt, alloc, b"\n#define N 2\nTIMER(GLOBAL, N);", second)
+}
+
+/// A statement, and the limits of wakeups and of priorities.
+type Limited = (&'static [u8], u16, u8);
+
+const LIMITS: [Limited; 6] = [
+    (b"\n", 1, 16),
+    (b"\nLIMITS(1, 16);", 1, 16),
+    (b"\nLIMITS(3, 32);", 3, 32),
+    (b"\nLIMITS(0xFf, 0x10);", 255, 16),
+    (b"\nLIMITS(2, 17); TIMER(LOCAL);", 2, 17),
+    (b"\nTIMER(GLOBAL, 1); LIMITS(2, 17);", 2, 17),
+];
+
+fn have_limits(rt: &impl Abort, alloc: Global, rows: &[Limited]) -> Result<(), Fail> {
+    for (statement, wakeups, priorities) in rows {
+        let text = changed(alloc, b"", *statement, b"")?;
+        with_config(alloc, text.as_slice(), |config| {
+            assert!(rt; config.limits() == limits(*wakeups, *priorities));
+            Ok(())
+        })?;
     }
     Ok(())
 }
 
 #[test]
 fn the_limits_are_what_the_text_says(rt: HostRuntime) -> Result<(), Fail> {
-    for (statement, wakeups, priorities) in [
-        (b"\n".as_slice(), 1, 16),
-        (b"\nLIMITS(1, 16);".as_slice(), 1, 16),
-        (b"\nLIMITS(3, 32);".as_slice(), 3, 32),
-        (b"\nLIMITS(0xFf, 0x10);".as_slice(), 255, 16),
-        (b"\nLIMITS(2, 17); TIMER(LOCAL);".as_slice(), 2, 17),
-        (b"\nTIMER(GLOBAL, 1); LIMITS(2, 17);".as_slice(), 2, 17),
-    ] {
-        let text = changed(rt.alloc(), statement, b"")?;
-        let config = read(rt.alloc(), text.as_slice())?;
-        assert!(rt;
-            config.limits()
-                == Limits {
-                    wakeups,
-                    priorities
-                }
-        );
-    }
-    Ok(())
+    have_limits(&rt, rt.alloc(), &LIMITS)
 }
 
 #[test]
 fn the_least_priority_is_that_of_the_limits(rt: HostRuntime) -> Result<(), Fail> {
     let least = b"CLASS(C1) { CRE_TSK(T2, {TA_NULL, 0, main2, 32, 4096, NULL}); }";
-    let text = changed(rt.alloc(), b"\nLIMITS(3, 32);", least)?;
-    let config = read(rt.alloc(), text.as_slice())?;
-    let [_, task] = config.tasks() else {
-        return Err("there are two tasks".into());
+    let text = changed(rt.alloc(), b"", b"\nLIMITS(3, 32);", least)?;
+    with_config(rt.alloc(), text.as_slice(), |config| {
+        assert!(rt; matches!(config.tasks(), [_, task] if task.priority == Pri::new(32)));
+        Ok(())
+    })
+}
+
+fn has_added_attributes(config: &Config) -> bool {
+    let ([first, second], [only]) = (config.eventflags(), config.cyclics()) else {
+        return false;
     };
-    assert!(rt; task.priority == Pri::new(32));
-    Ok(())
+    *first == eventflag(Order::Priority, true, false, 0)
+        && *second == eventflag(Order::First, false, true, 0)
+        && only.starts
 }
 
 /// What adds something wins over what adds nothing.
@@ -394,15 +452,11 @@ fn the_least_priority_is_that_of_the_limits(rt: HostRuntime) -> Result<(), Fail>
 fn attributes_add_up(rt: HostRuntime) -> Result<(), Fail> {
     let text = b"CRE_FLG(F, {TA_WMUL|TA_WSGL|TA_TPRI|TA_TFIFO|TA_NULL, 0});
         CRE_FLG(G, {TA_CLR|TA_CLR, 0}); CRE_CYC(Y, {TA_STA|TA_NULL, 0, h, 1, 0});";
-    let text = framed(rt.alloc(), INSIDE, text)?;
-    let config = read(rt.alloc(), text.as_slice())?;
-    let ([first, second], [only]) = (config.eventflags(), config.cyclics()) else {
-        return Err("there are two eventflags and a cyclic handler".into());
-    };
-    assert!(rt; *first == eventflag(Order::Priority, true, false, 0));
-    assert!(rt; *second == eventflag(Order::First, false, true, 0));
-    assert!(rt; only.starts);
-    Ok(())
+    let text = framed(rt.alloc(), Frame::Inside, text)?;
+    with_config(rt.alloc(), text.as_slice(), |config| {
+        assert!(rt; has_added_attributes(config));
+        Ok(())
+    })
 }
 
 /// Bytes, blanks, names and blocks at the edges of what is allowed.
@@ -442,8 +496,8 @@ const ON_ONE_TIMER: [&[u8]; 4] = [
 
 #[test]
 fn edges_are_accepted(rt: HostRuntime) -> Result<(), Fail> {
-    all_are_accepted(&rt, rt.alloc(), WHOLE, &ACCEPTED)?;
-    all_are_accepted(&rt, rt.alloc(), INSIDE, &OBJECTS)?;
-    all_are_accepted(&rt, rt.alloc(), TIMED, &ON_ONE_TIMER)?;
+    all_are_accepted(&rt, rt.alloc(), Frame::Whole, &ACCEPTED)?;
+    all_are_accepted(&rt, rt.alloc(), Frame::Inside, &OBJECTS)?;
+    all_are_accepted(&rt, rt.alloc(), Frame::Timed, &ON_ONE_TIMER)?;
     Ok(())
 }

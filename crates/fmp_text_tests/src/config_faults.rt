@@ -1,5 +1,5 @@
 //! The first faults of configuration texts: their lines, numbers and words.
-use crate::answers::{BEHIND, Frame, INSIDE, Row, TIMED, WHOLE, all_answer};
+use crate::answers::{Frame, Row, all_answer};
 use std::test::Fail;
 
 const FIRST_STATEMENTS: [Row; 18] = [
@@ -45,8 +45,8 @@ const PLACES: [Row; 17] = [
 
 #[test]
 fn first_words(rt: HostRuntime) -> Result<(), Fail> {
-    all_answer(&rt, rt.alloc(), WHOLE, &FIRST_STATEMENTS)?;
-    all_answer(&rt, rt.alloc(), BEHIND, &PLACES)?;
+    all_answer(&rt, rt.alloc(), Frame::Whole, &FIRST_STATEMENTS)?;
+    all_answer(&rt, rt.alloc(), Frame::Behind, &PLACES)?;
     Ok(())
 }
 
@@ -101,8 +101,8 @@ const BYTES: [Row; 24] = [
 
 #[test]
 fn bytes_comments_and_strings(rt: HostRuntime) -> Result<(), Fail> {
-    all_answer(&rt, rt.alloc(), BEHIND, &CUT_SHORT)?;
-    all_answer(&rt, rt.alloc(), BEHIND, &BYTES)?;
+    all_answer(&rt, rt.alloc(), Frame::Behind, &CUT_SHORT)?;
+    all_answer(&rt, rt.alloc(), Frame::Behind, &BYTES)?;
     Ok(())
 }
 
@@ -171,8 +171,8 @@ const DEFINES: [Row; 24] = [
 
 #[test]
 fn directives(rt: HostRuntime) -> Result<(), Fail> {
-    all_answer(&rt, rt.alloc(), BEHIND, &DIRECTIVES)?;
-    all_answer(&rt, rt.alloc(), BEHIND, &DEFINES)?;
+    all_answer(&rt, rt.alloc(), Frame::Behind, &DIRECTIVES)?;
+    all_answer(&rt, rt.alloc(), Frame::Behind, &DEFINES)?;
     Ok(())
 }
 
@@ -228,8 +228,8 @@ const SKIPPED: [Row; 30] = [
 #[test]
 fn what_a_define_gives(rt: HostRuntime) -> Result<(), Fail> {
     let end = b"\nPROCESSORS(X);";
-    all_answer(&rt, rt.alloc(), (b"", end), &GIVING)?;
-    all_answer(&rt, rt.alloc(), (b"", end), &SKIPPED)?;
+    all_answer(&rt, rt.alloc(), Frame::Around(b"", end), &GIVING)?;
+    all_answer(&rt, rt.alloc(), Frame::Around(b"", end), &SKIPPED)?;
     Ok(())
 }
 
@@ -261,7 +261,7 @@ const CLASSES: [Row; 24] = [
 ];
 
 /// A class whose statement begins in the fifth line, behind three defined names.
-const NAMED_NUMBERS: Frame = (
+const NAMED_NUMBERS: Frame = Frame::Around(
     b"PROCESSORS(2);\n#define NONE 0\n#define TWO 2\n#define MORE 3\nDEF_CLASS(X,\n",
     b");",
 );
@@ -311,7 +311,7 @@ const TIMERS: [Row; 29] = [
 ];
 
 /// The priority of a task where the limits say that 17 is the greatest.
-const LIMITED: Frame = (
+const LIMITED: Frame = Frame::Around(
     b"PROCESSORS(1); LIMITS(1, 17); DEF_CLASS(C, 1, {1}); CLASS(C) { CRE_TSK(T, {TA_NULL, 0, m,",
     b", 0, 0}); }",
 );
@@ -320,15 +320,15 @@ const PRIORITIES: [Row; 4] = [(b"0", "1 F7"), (b"1", "ok"), (b"17", "ok"), (b"18
 
 #[test]
 fn classes_timers_and_limits(rt: HostRuntime) -> Result<(), Fail> {
-    all_answer(&rt, rt.alloc(), BEHIND, &CLASSES)?;
+    all_answer(&rt, rt.alloc(), Frame::Behind, &CLASSES)?;
     all_answer(&rt, rt.alloc(), NAMED_NUMBERS, &BAD_CLASSES)?;
-    all_answer(&rt, rt.alloc(), BEHIND, &TIMERS)?;
+    all_answer(&rt, rt.alloc(), Frame::Behind, &TIMERS)?;
     all_answer(&rt, rt.alloc(), LIMITED, &PRIORITIES)?;
     Ok(())
 }
 
 /// The numbers of a semaphore, which begin in the third line.
-const SEMAPHORE: Frame = (
+const SEMAPHORE: Frame = Frame::Around(
     b"PROCESSORS(1); DEF_CLASS(C, 1, {1}); CLASS(C) {\n#define N 2\nCRE_SEM(S, {TA_TPRI, ",
     b"}); }",
 );
@@ -394,8 +394,8 @@ const HANDLERS: [Row; 8] = [
 #[test]
 fn fields(rt: HostRuntime) -> Result<(), Fail> {
     all_answer(&rt, rt.alloc(), SEMAPHORE, &SEMAPHORES)?;
-    all_answer(&rt, rt.alloc(), INSIDE, &FIELDS)?;
-    all_answer(&rt, rt.alloc(), TIMED, &HANDLERS)?;
+    all_answer(&rt, rt.alloc(), Frame::Inside, &FIELDS)?;
+    all_answer(&rt, rt.alloc(), Frame::Timed, &HANDLERS)?;
     Ok(())
 }
 
@@ -411,7 +411,7 @@ const MACHINES: [Row; 7] = [
 ];
 
 /// A machine whose fourth line follows.
-const OPEN: Frame = (
+const OPEN: Frame = Frame::Around(
     b"PROCESSORS(1);\nDEF_CLASS(C1, 1, {1});\nCLASS(C1) {\n",
     b"",
 );
@@ -423,7 +423,7 @@ const FOURTH_LINES: [Row; 2] = [
 
 #[test]
 fn machines(rt: HostRuntime) -> Result<(), Fail> {
-    all_answer(&rt, rt.alloc(), WHOLE, &MACHINES)?;
+    all_answer(&rt, rt.alloc(), Frame::Whole, &MACHINES)?;
     all_answer(&rt, rt.alloc(), OPEN, &FOURTH_LINES)?;
     Ok(())
 }

@@ -1,23 +1,27 @@
 //! Script texts: what they say, their faults and their limits.
 use crate::answers::between;
-use crate::text::{add, machine};
+use crate::text::{Refused, add, with_machine};
 use fmp_calls::NameKind;
 use fmp_codes::{Call, SystemCall, TaskCall};
-use fmp_scripts::{MOST_STEPS, Scripts, read_scripts};
+use fmp_scripts::{Scripts, read_scripts};
 use fmp_text::TextKind::*;
-use fmp_text::{Names, TextKind};
-use std::alloc::Global;
+use fmp_text::{Names, TextFault, TextKind};
+use std::alloc::{AllocError, Global};
+use std::process::Abort;
 use std::test::Fail;
 
-/// A machine with two tasks and the functions `main_task` and `handler`.
-fn functions(rt: &HostRuntime) -> Result<Names, Fail> {
-    let mut names = machine(rt)?;
-    add(&mut names, NameKind::Function, b"handler")?;
-    Ok(names)
+/// Does this with the names of a machine with two tasks and the functions `main_task` and `handler`.
+fn with_functions<F: FnOnce(&Names) -> Result<(), Fail>>(alloc: Global, test: F) -> Result<(), Fail>
+    requires { F.IsAlwaysCallable test }
+{
+    with_machine(alloc, |names| {
+        add(names, NameKind::Function, b"handler")?;
+        test(names)
+    })
 }
 
 /// Texts with faults, and the kind and the line of the first one.
-const REFUSED: [(&[u8], TextKind, u32); 32] = [
+const REFUSED: [Refused; 32] = [
     (b"get_pid()\n", BadWord, 1),
     (b"end\n", BadWord, 1),
     (b"script main_task\nscript handler\n", BadWord, 2),
@@ -65,20 +69,25 @@ const ONE: &[u8] = b"# all\nscript main_task\n act_tsk(T2) \r\n\nslp_tsk()\nend\
 /// A second script.
 const SECOND: &[u8] = b"\tscript \thandler \r\niget_tid()\n# none\nend\t\n #";
 
-/// The line of the fault of so many bytes of the text with a script: that of the line that is cut, or of the open script.
-fn cut_line(length: usize) -> Option<u32> {
-    match length {
-        0..=6 | 53 => None,
-        25..=37 => Some(3),
-        40..=48 => Some(5),
-        50..=52 => Some(6),
-        _ => Some(2),
-    }
+/// The fault of so many bytes of the text with a script, at the line that is cut, or that opens the script.
+fn cut_fault(length: usize) -> Option<TextFault> {
+    let line = match length {
+        0..=6 | 53 => return None,
+        25..=37 => 3,
+        40..=48 => 5,
+        50..=52 => 6,
+        _ => 2,
+    };
+    let kind = CutShort;
+    Some(TextFault { kind, line })
 }
 
-fn fault(alloc: Global, names: &Names, text: &[u8]) -> Option<(TextKind, u32)> {
-    let fault = read_scripts(alloc, text, names).err()?;
-    Some((fault.kind, fault.line))
+/// The first fault of a text, if it has one.
+fn fault(alloc: Global, names: &Names, text: &[u8]) -> Option<TextFault> {
+    match read_scripts(alloc, text, names) {
+        Ok(_) => None,
+        Err(fault) => Some(fault),
+    }
 }
 
 fn read(alloc: Global, names: &Names, text: &[u8]) -> Result<Scripts, Fail> {
@@ -88,94 +97,162 @@ fn read(alloc: Global, names: &Names, text: &[u8]) -> Result<Scripts, Fail> {
     }
 }
 
-#[test]
-fn refused_scripts(rt: HostRuntime) -> Result<(), Fail> {
-    let names = functions(&rt)?;
-    for (text, kind, line) in &REFUSED {
-        assert!(rt; fault(rt.alloc(), &names, *text) == Some((*kind, *line)));
+fn are_refused(rt: &impl Abort, alloc: Global, names: &Names, rows: &[Refused]) {
+    for (text, kind, line) in rows {
+        let (kind, line) = (*kind, *line);
+        assert!(rt; fault(alloc, names, *text) == Some(TextFault { kind, line }));
     }
-    Ok(())
 }
 
 #[test]
-fn texts_without_scripts(rt: HostRuntime) -> Result<(), Fail> {
-    let names = functions(&rt)?;
-    for text in &EMPTY {
-        let scripts = read(rt.alloc(), &names, *text)?;
+fn refused_scripts(rt: HostRuntime) -> Result<(), Fail> {
+    with_functions(rt.alloc(), |names| {
+        are_refused(&rt, rt.alloc(), names, &REFUSED);
+        Ok(())
+    })
+}
+
+fn are_empty(
+    rt: &impl Abort,
+    alloc: Global,
+    names: &Names,
+    texts: &[&'static [u8]],
+) -> Result<(), Fail> {
+    for text in texts {
+        let scripts = read(alloc, names, *text)?;
         assert!(rt; scripts.step(Some(1), 0).is_none() && scripts.step(None, 0).is_none());
     }
     Ok(())
 }
 
 #[test]
+fn texts_without_scripts(rt: HostRuntime) -> Result<(), Fail> {
+    with_functions(rt.alloc(), |names| {
+        are_empty(&rt, rt.alloc(), names, &EMPTY)
+    })
+}
+
+/// A function and a position in its script, and the step there.
+type Step = (u8, u32, Option<Call>);
+
+const STEPS: [Step; 6] = [
+    (1, 0, Some(Call::Task(TaskCall::ActTsk(2)))),
+    (1, 1, Some(Call::Task(TaskCall::SlpTsk))),
+    (1, 2, None),
+    (2, 0, Some(Call::System(SystemCall::IgetTid))),
+    (2, 1, None),
+    (3, 0, None),
+];
+
+fn have_steps(rt: &impl Abort, scripts: &Scripts, rows: &[Step]) {
+    for (function, position, step) in rows {
+        assert!(rt; scripts.step(Some(*function), *position) == *step);
+    }
+}
+
+#[test]
 fn scripts_are_what_the_text_says(rt: HostRuntime) -> Result<(), Fail> {
-    let names = functions(&rt)?;
-    let text = between(rt.alloc(), ONE, SECOND, b"")?;
-    let scripts = read(rt.alloc(), &names, text.as_slice())?;
-    for (function, position, step) in [
-        (1, 0, Some(Call::Task(TaskCall::ActTsk(2)))),
-        (1, 1, Some(Call::Task(TaskCall::SlpTsk))),
-        (1, 2, None),
-        (2, 0, Some(Call::System(SystemCall::IgetTid))),
-        (2, 1, None),
-        (3, 0, None),
-    ] {
-        assert!(rt; scripts.step(Some(function), position) == step);
+    with_functions(rt.alloc(), |names| {
+        let text = between(rt.alloc(), ONE, SECOND, b"")?;
+        let scripts = read(rt.alloc(), names, text.as_slice())?;
+        have_steps(&rt, &scripts, &STEPS);
+        Ok(())
+    })
+}
+
+/// Whether two texts say the same scripts, asked either way.
+fn say_the_same(
+    alloc: Global,
+    names: &Names,
+    one: &[u8],
+    other: &[u8],
+) -> Result<(bool, bool), Fail> {
+    let (one, other) = (read(alloc, names, one)?, read(alloc, names, other)?);
+    Ok((one.is_same(&other), other.is_same(&one)))
+}
+
+/// What stands before the text with a script and behind it, and whether it says the same as with the second script behind it.
+const OTHERS: [(&[u8], &[u8], bool); 4] = [
+    (b"#\n", SECOND, true),
+    (b"", b"", false),
+    (b"\tscript \thandler \r\niget_tid()\nend\n", b"", false),
+    (b"", b"script handler\nend\n", false),
+];
+
+fn are_the_same_as_said(
+    rt: &impl Abort,
+    alloc: Global,
+    names: &Names,
+    rows: &[(&'static [u8], &'static [u8], bool)],
+) -> Result<(), Fail> {
+    let both = between(alloc, ONE, SECOND, b"")?;
+    for (before, behind, same) in rows {
+        let other = between(alloc, *before, ONE, *behind)?;
+        let found = say_the_same(alloc, names, both.as_slice(), other.as_slice())?;
+        assert!(rt; found == (*same, *same));
     }
     Ok(())
 }
 
 #[test]
 fn equal_scripts_are_the_same(rt: HostRuntime) -> Result<(), Fail> {
-    let names = functions(&rt)?;
-    let (alloc, both) = (rt.alloc(), between(rt.alloc(), ONE, SECOND, b"")?);
-    let scripts = read(alloc, &names, both.as_slice())?;
-    let commented = read(
-        alloc,
-        &names,
-        between(alloc, b"#\n", both.as_slice(), b"")?.as_slice(),
-    )?;
-    assert!(rt; scripts.is_same(&commented) && commented.is_same(&scripts));
-    for other in [
-        read(alloc, &names, ONE)?,
-        read(
-            alloc,
-            &names,
-            between(alloc, SECOND, b"\n", ONE)?.as_slice(),
-        )?,
-        read(
-            alloc,
-            &names,
-            between(alloc, SECOND, b"\n", b"script main_task\nend\n")?.as_slice(),
-        )?,
-    ] {
-        assert!(rt; !scripts.is_same(&other) && !other.is_same(&scripts));
+    with_functions(rt.alloc(), |names| {
+        are_the_same_as_said(&rt, rt.alloc(), names, &OTHERS)
+    })
+}
+
+fn are_cut(rt: &impl Abort, alloc: Global, names: &Names, text: &[u8]) {
+    for length in 0..=text.len() {
+        let (front, _) = text.split_at(length);
+        assert!(rt; fault(alloc, names, front) == cut_fault(length));
     }
-    Ok(())
 }
 
 #[test]
 fn scripts_that_are_cut(rt: HostRuntime) -> Result<(), Fail> {
-    let names = functions(&rt)?;
-    for length in 0..=ONE.len() {
-        let expected = cut_line(length).map(|line| (CutShort, line));
-        assert!(rt; fault(rt.alloc(), &names, &ONE[..length]) == expected);
+    with_functions(rt.alloc(), |names| {
+        are_cut(&rt, rt.alloc(), names, ONE);
+        Ok(())
+    })
+}
+
+/// A script of the most steps, and this behind them.
+fn full(alloc: Global, end: &[u8]) -> Result<Vec<u8>, AllocError> {
+    let mut text = Vec::from_slice(alloc, b"script main_task\n")?;
+    for _ in 0..256 {
+        text.extend_from_slice(b"get_pid()\n")?;
+    }
+    text.extend_from_slice(end)?;
+    Ok(text)
+}
+
+/// What stands behind the most steps, and the kind of the fault of that line.
+const ENDS: [(&[u8], Option<TextKind>); 3] = [
+    (b"end\n# done", None),
+    (b"get_pid()\n", Some(TooMany)),
+    (b"get_pid(1)\n", Some(WrongArguments)),
+];
+
+fn have_ends(
+    rt: &impl Abort,
+    alloc: Global,
+    names: &Names,
+    rows: &[(&'static [u8], Option<TextKind>)],
+) -> Result<(), AllocError> {
+    for (end, kind) in rows {
+        let text = full(alloc, *end)?;
+        let wanted = match *kind {
+            Some(kind) => Some(TextFault { kind, line: 258 }),
+            None => None,
+        };
+        assert!(rt; fault(alloc, names, text.as_slice()) == wanted);
     }
     Ok(())
 }
 
 #[test]
 fn the_greatest_number_of_steps(rt: HostRuntime) -> Result<(), Fail> {
-    let (alloc, names) = (rt.alloc(), functions(&rt)?);
-    let mut text = Vec::from_slice(alloc, b"script main_task\n")?;
-    for _ in 0..MOST_STEPS {
-        text.extend_from_slice(b"get_pid()\n")?;
-    }
-    let whole = between(alloc, text.as_slice(), b"end\n", b"# done")?;
-    assert!(rt; fault(alloc, &names, whole.as_slice()).is_none());
-    let past = between(alloc, text.as_slice(), b"get_pid()\n", b"")?;
-    assert!(rt; fault(alloc, &names, past.as_slice()) == Some((TooMany, 258)));
-    let wrong = between(alloc, text.as_slice(), b"get_pid(1)\n", b"")?;
-    assert!(rt; fault(alloc, &names, wrong.as_slice()) == Some((WrongArguments, 258)));
-    Ok(())
+    with_functions(rt.alloc(), |names| {
+        Ok(have_ends(&rt, rt.alloc(), names, &ENDS)?)
+    })
 }

@@ -4,8 +4,9 @@ ghost use Rattle.fmp_names.specs.Names as spec;
 use fmp_calls::{NameKind, ObjectKind};
 use fmp_codes::{Call, Event, TaskCall};
 use fmp_text::TextKind::*;
-use fmp_text::{Names, TextKind, is_name, is_reserved, read_call, read_events};
-use std::alloc::Global;
+use fmp_text::{Names, TextFault, TextKind, is_name, is_reserved, read_call, read_events};
+use std::alloc::{AllocError, Global};
+use std::process::Abort;
 use std::test::Fail;
 
 /// Whether no other name of this kind's name space is the same, and none is reserved.
@@ -61,16 +62,30 @@ const NAMES: [(NameKind, &[u8]); 10] = [
 ];
 
 /// A machine with two processors.
-pub fn machine(rt: &HostRuntime) -> Result<Names, Fail> {
-    let mut names = Names::new(rt.alloc(), 2);
+fn machine(alloc: Global) -> Result<Names, Fail> {
+    let mut names = Names::new(alloc, 2);
     for (kind, name) in &NAMES {
         add(&mut names, *kind, *name)?;
     }
     Ok(names)
 }
 
+/// Does this with the names of the machine.
+pub fn with_machine<F: FnOnce(&mut Names) -> Result<(), Fail>>(
+    alloc: Global,
+    test: F,
+) -> Result<(), Fail>
+    requires { F.IsAlwaysCallable test }
+{
+    let mut names = machine(alloc)?;
+    test(&mut names)
+}
+
+/// A text, and the kind and the line of its first fault.
+pub type Refused = (&'static [u8], TextKind, u32);
+
 /// Texts with faults, and the kind and the line of the first one.
-pub const REFUSED: [(&[u8], TextKind, u32); 30] = [
+pub const REFUSED: [Refused; 30] = [
     (b"P3 tick\n", NumberOutOfRange, 1),
     (b"P1 act_tsk(T9)\n", UnknownName, 1),
     (b"P1 act_tsk()\n", WrongArguments, 1),
@@ -132,114 +147,194 @@ const ACTIVATIONS: [(&[u8], Result<i32, TextKind>); 15] = [
 ];
 
 /// Texts of one call, and what they are read as.
-const CALLS: [(&[u8], Result<Call, TextKind>); 4] = [
+const CALLS: [Read; 4] = [
     (b" ext_tsk( )\t", Ok(Call::Task(TaskCall::ExtTsk))),
     (b"P1 ext_tsk()", Err(BadWord)),
     (b"", Err(BadWord)),
     (b"ext_tsk()\n", Err(BadByte)),
 ];
 
-fn fault(alloc: Global, names: &Names, text: &[u8]) -> Option<(TextKind, u32)> {
-    let fault = read_events(alloc, text, names).err()?;
-    Some((fault.kind, fault.line))
+/// The first fault of a text, if it has one.
+fn fault(alloc: Global, names: &Names, text: &[u8]) -> Option<TextFault> {
+    match read_events(alloc, text, names) {
+        Ok(_) => None,
+        Err(fault) => Some(fault),
+    }
+}
+
+fn are_refused(rt: &impl Abort, alloc: Global, names: &Names, rows: &[Refused]) {
+    for (text, kind, line) in rows {
+        let (kind, line) = (*kind, *line);
+        assert!(rt; fault(alloc, names, *text) == Some(TextFault { kind, line }));
+    }
 }
 
 #[test]
 fn refused_texts(rt: HostRuntime) -> Result<(), Fail> {
-    let names = machine(&rt)?;
-    for (text, kind, line) in &REFUSED {
-        assert!(rt; fault(rt.alloc(), &names, *text) == Some((*kind, *line)));
+    with_machine(rt.alloc(), |names| {
+        are_refused(&rt, rt.alloc(), names, &REFUSED);
+        Ok(())
+    })
+}
+
+fn are_accepted(rt: &impl Abort, alloc: Global, names: &Names, texts: &[&'static [u8]]) {
+    for text in texts {
+        assert!(rt; fault(alloc, names, *text).is_none());
     }
-    Ok(())
+}
+
+/// Whether these are the activation of the second task, an interrupt on the second processor and a return on the first.
+pub fn are_three(events: &[Event]) -> bool {
+    let [first, second, third] = events else {
+        return false;
+    };
+    matches!(first, Event::Call(_, Call::Task(TaskCall::ActTsk(2))))
+        && matches!(second, Event::Ipi(processor) if processor.number == 2)
+        && matches!(third, Event::Call(processor, Call::RetHdr) if processor.number == 1)
+}
+
+fn has_three(alloc: Global, names: &Names, text: &[u8]) -> bool {
+    match read_events(alloc, text, names) {
+        Ok(events) => are_three(events.as_slice()),
+        Err(_) => false,
+    }
 }
 
 #[test]
 fn accepted_texts(rt: HostRuntime) -> Result<(), Fail> {
-    let names = machine(&rt)?;
-    for text in &ACCEPTED {
-        assert!(rt; fault(rt.alloc(), &names, *text).is_none());
+    with_machine(rt.alloc(), |names| {
+        are_accepted(&rt, rt.alloc(), names, &ACCEPTED);
+        let text = b"# three\nP1 act_tsk(T2)\n\nP2 ipi\n P1\tret_hdr \r\n";
+        assert!(rt; has_three(rt.alloc(), names, text));
+        Ok(())
+    })
+}
+
+fn are_activations(
+    rt: &impl Abort,
+    names: &Names,
+    rows: &[(&'static [u8], Result<i32, TextKind>)],
+) {
+    for (text, task) in rows {
+        let call = match task {
+            Ok(id) => Ok(Call::Task(TaskCall::ActTsk(*id))),
+            Err(kind) => Err(*kind),
+        };
+        assert!(rt; read_call(*text, names) == call);
     }
-    let text = b"# three\nP1 act_tsk(T2)\n\nP2 ipi\n P1\tret_hdr \r\n";
-    let events = read_events(rt.alloc(), text, &names)
-        .ok()
-        .ok_or("it is right")?;
-    let [first, second, third] = events.as_slice() else {
-        return Err("there are three events")?;
-    };
-    assert!(rt; matches!(first, Event::Call(_, Call::Task(TaskCall::ActTsk(2)))));
-    assert!(rt; matches!(second, Event::Ipi(processor) if processor.number == 2));
-    assert!(rt; matches!(third, Event::Call(processor, Call::RetHdr) if processor.number == 1));
-    Ok(())
+}
+
+/// A text of one call, and what it is read as.
+pub type Read = (&'static [u8], Result<Call, TextKind>);
+
+/// Asserts what the texts are read as.
+pub fn are_read(rt: &impl Abort, names: &Names, rows: &[Read]) {
+    for (text, call) in rows {
+        assert!(rt; read_call(*text, names) == *call);
+    }
 }
 
 #[test]
 fn calls(rt: HostRuntime) -> Result<(), Fail> {
-    let names = machine(&rt)?;
-    for (text, task) in &ACTIVATIONS {
-        let call = task.map(|id| Call::Task(TaskCall::ActTsk(id)));
-        assert!(rt; read_call(*text, &names) == call);
-    }
-    for (text, call) in &CALLS {
-        assert!(rt; read_call(*text, &names) == *call);
+    with_machine(rt.alloc(), |names| {
+        are_activations(&rt, names, &ACTIVATIONS);
+        are_read(&rt, names, &CALLS);
+        Ok(())
+    })
+}
+
+/// Names, and whether they may be added.
+const ADDED: [(NameKind, &[u8], bool); 7] = [
+    (SEMAPHORE, b"T1", false),
+    (SEMAPHORE, b"P10", false),
+    (SEMAPHORE, b"idle", false),
+    (SEMAPHORE, b"P", true),
+    (FUNCTION, b"main_task", false),
+    (FUNCTION, b"P10", true),
+    (FUNCTION, b"T1", true),
+];
+
+fn are_added(
+    rt: &impl Abort,
+    names: &mut Names,
+    rows: &[(NameKind, &'static [u8], bool)],
+) -> Result<(), Fail> {
+    for (kind, name, added) in rows {
+        let is_added = add(names, *kind, *name)?;
+        assert!(rt; is_added == *added);
     }
     Ok(())
 }
 
 #[test]
 fn kinds_of_names(rt: HostRuntime) -> Result<(), Fail> {
-    let mut names = machine(&rt)?;
-    assert!(rt;
-        names.number(SEMAPHORE, b"S") == Some(1) && names.number(SEMAPHORE, b"T1").is_none()
-    );
-    assert!(rt; names.name(TASK, 2) == Some(b"T2".as_slice()) && names.name(TASK, 0).is_none());
-    for (kind, name, added) in [
-        (SEMAPHORE, b"T1".as_slice(), false),
-        (SEMAPHORE, b"P10".as_slice(), false),
-        (SEMAPHORE, b"idle".as_slice(), false),
-        (SEMAPHORE, b"P".as_slice(), true),
-        (FUNCTION, b"main_task".as_slice(), false),
-        (FUNCTION, b"P10".as_slice(), true),
-        (FUNCTION, b"T1".as_slice(), true),
-    ] {
-        assert!(rt; add(&mut names, kind, name)? == added);
+    with_machine(rt.alloc(), |names| {
+        assert!(rt; names.number(SEMAPHORE, b"S") == Some(1));
+        assert!(rt; names.number(SEMAPHORE, b"T1").is_none());
+        assert!(rt; names.name(TASK, 2) == Some(b"T2".as_slice()));
+        assert!(rt; names.name(TASK, 0).is_none());
+        are_added(&rt, names, &ADDED)?;
+        assert!(rt; names.number(FUNCTION, b"T1") == Some(3));
+        assert!(rt; names.processors() == 2);
+        Ok(())
+    })
+}
+
+/// Names with their numbers, and whether they may be defined so.
+const DEFINED: [(&[u8], u32, bool); 5] = [
+    (b"MAX", 4_294_967_295, true),
+    (b"MAX", 1, false),
+    (b"T1", 1, false),
+    (b"P1", 1, false),
+    (b"main_task", 7, true),
+];
+
+fn are_defined(
+    rt: &impl Abort,
+    names: &mut Names,
+    rows: &[(&'static [u8], u32, bool)],
+) -> Result<(), Fail> {
+    for (name, number, defined) in rows {
+        let is_defined = define(names, *name, *number)?;
+        assert!(rt; is_defined == *defined);
     }
-    assert!(rt; names.number(FUNCTION, b"T1") == Some(3) && names.processors() == 2);
     Ok(())
 }
 
 #[test]
 fn defined_names(rt: HostRuntime) -> Result<(), Fail> {
-    let mut names = machine(&rt)?;
-    for (name, number, defined) in [
-        (b"MAX".as_slice(), 4_294_967_295, true),
-        (b"MAX".as_slice(), 1, false),
-        (b"T1".as_slice(), 1, false),
-        (b"P1".as_slice(), 1, false),
-        (b"main_task".as_slice(), 7, true),
-    ] {
-        assert!(rt; define(&mut names, name, number)? == defined);
+    with_machine(rt.alloc(), |names| {
+        are_defined(&rt, names, &DEFINED)?;
+        assert!(rt; names.defined(b"MAX") == Some(4_294_967_295));
+        assert!(rt; names.defined(b"T1").is_none());
+        are_added(&rt, names, &[(SEMAPHORE, b"MAX", false)])
+    })
+}
+
+/// So many times an event.
+fn ticks(alloc: Global, count: usize) -> Result<Vec<u8>, AllocError> {
+    let mut text = Vec::new(alloc);
+    for _ in 0..count {
+        text.extend_from_slice(b"P1 tick\n")?;
     }
-    assert!(rt; names.defined(b"MAX") == Some(4_294_967_295) && names.defined(b"T1").is_none());
-    assert!(rt; !add(&mut names, SEMAPHORE, b"MAX")?);
-    Ok(())
+    Ok(text)
 }
 
 #[test]
 fn a_million_and_one(rt: HostRuntime) -> Result<(), Fail> {
-    let names = machine(&rt)?;
-    let mut text = Vec::new(rt.alloc());
-    for _ in 0..1_000_000 {
+    with_machine(rt.alloc(), |names| {
+        let mut text = ticks(rt.alloc(), 1_000_000)?;
+        assert!(rt; fault(rt.alloc(), names, text.as_slice()).is_none());
         text.extend_from_slice(b"P1 tick\n")?;
-    }
-    assert!(rt; fault(rt.alloc(), &names, text.as_slice()).is_none());
-    text.extend_from_slice(b"P1 tick\n")?;
-    assert!(rt; fault(rt.alloc(), &names, text.as_slice()) == Some((TooMany, 1_000_001)));
-    Ok(())
+        let (kind, line) = (TooMany, 1_000_001);
+        assert!(rt; fault(rt.alloc(), names, text.as_slice()) == Some(TextFault { kind, line }));
+        Ok(())
+    })
 }
 
 #[test]
 fn words_of_faults(rt: HostRuntime) -> Result<(), Fail> {
-    assert_eq!(rt; TextKind::BadByte.code(), "E1");
-    assert_eq!(rt; TextKind::Memory.words(), "want of memory");
+    assert!(rt; TextKind::BadByte.code() == "E1");
+    assert!(rt; TextKind::Memory.words() == "want of memory");
     Ok(())
 }

@@ -1,5 +1,6 @@
 use fmp_tokens::{End, Lexer, Token, TokenKind};
 use std::alloc::{AllocError, Global};
+use std::process::Abort;
 use std::test::Fail;
 
 /// A text, and its tokens with their lines and their end.
@@ -50,8 +51,12 @@ fn read(alloc: Global, text: &[u8]) -> Result<String, AllocError> {
     Ok(shown)
 }
 
-fn is_shown(alloc: Global, (text, shown): Row) -> Result<bool, AllocError> {
-    Ok(read(alloc, text)?.as_str() == shown)
+/// Asserts the tokens of each text.
+fn are_shown(rt: &impl Abort, alloc: Global, rows: &[Row]) -> Result<(), Fail> {
+    for (text, shown) in rows {
+        assert_eq!(rt; read(alloc, *text)?.as_str(), *shown);
+    }
+    Ok(())
 }
 
 const CODE: [Row; 11] = [
@@ -82,10 +87,7 @@ const CODE: [Row; 11] = [
 
 #[test]
 fn tokens_of_code(rt: HostRuntime) -> Result<(), Fail> {
-    for row in CODE {
-        assert!(rt; is_shown(rt.alloc(), row)?, "{}", row.1);
-    }
-    Ok(())
+    are_shown(&rt, rt.alloc(), &CODE)
 }
 
 const COMMENTS: [Row; 12] = [
@@ -112,10 +114,7 @@ const COMMENTS: [Row; 12] = [
 
 #[test]
 fn comments(rt: HostRuntime) -> Result<(), Fail> {
-    for row in COMMENTS {
-        assert!(rt; is_shown(rt.alloc(), row)?, "{}", row.1);
-    }
-    Ok(())
+    are_shown(&rt, rt.alloc(), &COMMENTS)
 }
 
 const STRINGS: [Row; 11] = [
@@ -138,10 +137,7 @@ const STRINGS: [Row; 11] = [
 
 #[test]
 fn strings(rt: HostRuntime) -> Result<(), Fail> {
-    for row in STRINGS {
-        assert!(rt; is_shown(rt.alloc(), row)?, "{}", row.1);
-    }
-    Ok(())
+    are_shown(&rt, rt.alloc(), &STRINGS)
 }
 
 const BEGINNINGS: [Row; 8] = [
@@ -179,10 +175,7 @@ const BEGINNINGS: [Row; 8] = [
 
 #[test]
 fn where_directives_begin(rt: HostRuntime) -> Result<(), Fail> {
-    for row in BEGINNINGS {
-        assert!(rt; is_shown(rt.alloc(), row)?, "{}", row.1);
-    }
-    Ok(())
+    are_shown(&rt, rt.alloc(), &BEGINNINGS)
 }
 
 const ENDS: [Row; 11] = [
@@ -226,10 +219,7 @@ const ENDS: [Row; 11] = [
 
 #[test]
 fn where_directives_end(rt: HostRuntime) -> Result<(), Fail> {
-    for row in ENDS {
-        assert!(rt; is_shown(rt.alloc(), row)?, "{}", row.1);
-    }
-    Ok(())
+    are_shown(&rt, rt.alloc(), &ENDS)
 }
 
 const BYTES: [Row; 5] = [
@@ -251,8 +241,5 @@ const BYTES: [Row; 5] = [
 
 #[test]
 fn bytes_of_directives(rt: HostRuntime) -> Result<(), Fail> {
-    for row in BYTES {
-        assert!(rt; is_shown(rt.alloc(), row)?, "{}", row.1);
-    }
-    Ok(())
+    are_shown(&rt, rt.alloc(), &BYTES)
 }
