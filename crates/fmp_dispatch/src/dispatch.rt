@@ -86,6 +86,16 @@ impl Dispatch {
         due.head()
     }
 
+    /// The handlers that are due on a processor, the running one first.
+    pub fn due(&self, p: Proc) -> ArrayVec<Runner, 64>
+        ensures { result.items ≡ due_on self.now p }
+    {
+        match self.due.as_slice().get(p.index()) {
+            Some(due) => due.list(),
+            None => ArrayVec::new(),
+        }
+    }
+
     /// Lets a handler become the last that is due on a processor, on which fewer than 64 are.
     pub fn add_due(&mut self, p: Proc, handler: Runner)
         requires { length (due_on self.old p) < 64 }

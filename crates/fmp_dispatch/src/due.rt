@@ -38,6 +38,18 @@ impl Due {
         }
     }
 
+    /// All handlers that are due, the oldest first.
+    pub(crate) fn list(&self) -> ArrayVec<Runner, 64>
+        ensures { result.items ≡ self.now }
+    {
+        let mut list = ArrayVec::new();
+        let (newest, oldest) = self.slots.split_at(self.oldest);
+        list.try_extend_from_slice(oldest).unwrap();
+        list.try_extend_from_slice(newest).unwrap();
+        list.truncate(self.len);
+        list
+    }
+
     /// Adds a handler behind the others.
     pub(crate) fn add(&mut self, handler: Runner)
         requires { length self.old < 64 }

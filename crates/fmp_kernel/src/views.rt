@@ -1,8 +1,8 @@
 //! What the kernel shows of its state: what it reads in its lists, which is what each state of the model tells for which it
 //! stands.
-ghost use Rattle.std.specs.Prelude.{◌≡◌, ◌≤◌, length};
+ghost use Rattle.std.specs.Prelude.{◌≡◌, ◌≤◌, [], None, length};
 ghost use Rattle.fmp_machine.specs.Due.{IsNextDue};
-ghost use Rattle.fmp_machine.specs.World.{task, processor, handler, is_held};
+ghost use Rattle.fmp_machine.specs.World.{item, task, processor, handler, is_held};
 ghost use Rattle.fmp_machine.specs.Keeping.{top, queue};
 ghost use Rattle.fmp_machine.specs.Numbers.{State, numbered};
 ghost use Rattle.fmp_queues.specs.Queues.{listed};
@@ -11,7 +11,7 @@ ghost use Rattle.fmp_lists.specs.Stands.{Stands};
 use crate::kernel::Kernel;
 use arrayvec::ArrayVec;
 use fmp_codes::{Object, Pri, Proc, Runner, Task};
-use fmp_machine::{QueueKind, TaskRecord};
+use fmp_machine::{Processor, QueueKind, TaskRecord};
 use fmp_words::{Objects, Words, is_held};
 
 impl Kernel {
@@ -41,6 +41,14 @@ impl Kernel {
         self.machine.processor_count()
     }
 
+    /// The record of a processor: what it runs, its flags and its latch.
+    pub fn processor(&self, p: Proc) -> Processor
+        ensures lists { result ≡ processor self.now p }
+        ensures model { (m : State) → Stands self.now m → result ≡ processor m p }
+    {
+        self.machine.processor(p)
+    }
+
     /// The task that a processor runs.
     pub fn running(&self, p: Proc) -> Option<Task>
         ensures lists { result ≡ (processor self.now p).running }
@@ -63,6 +71,14 @@ impl Kernel {
         ensures model { (m : State) → Stands self.now m → result ≡ handler m p }
     {
         self.machine.handler(p)
+    }
+
+    /// The handlers that are due on a processor, the running one first.
+    pub fn due(&self, p: Proc) -> ArrayVec<Runner, 64>
+        ensures lists { result.items ≡ item [] self.now.due p.number }
+        ensures model { (m : State) → Stands self.now m → result.items ≡ item [] m.due p.number }
+    {
+        self.machine.due(p)
     }
 
     /// Whether dispatching on a processor is held.
@@ -95,6 +111,14 @@ impl Kernel {
         ensures model { (m : State) → Stands self.now m → result.items ≡ queue numbered m kind o }
     {
         self.machine.waiters(kind, o)
+    }
+
+    /// The ticks left of a task's wait, where it is timed.
+    pub fn wait_left(&self, t: Task) -> Option<u64>
+        ensures lists { result ≡ item None self.now.waits_left t.number }
+        ensures model { (m : State) → Stands self.now m → result ≡ item None m.waits_left t.number }
+    {
+        self.machine.wait_left(t)
     }
 
     /// The least ticks left for which a tick on a processor counts: of timed waits, and of cyclic handlers and alarms that are

@@ -83,6 +83,17 @@ impl Assigned {
         self.tasks.get(t)
     }
 
+    /// The ticks left of a task's wait, where it is timed.
+    pub fn wait_left(&self, t: Task) -> Option<u64>
+        ensures { result ≡ item None self.now.waits_left t.number }
+    {
+        if t.index() < self.tasks.len() {
+            self.timers.left(Item::Wait(t))
+        } else {
+            None
+        }
+    }
+
     /// How many tasks there are.
     pub fn task_count(&self) -> usize
         ensures value { result ≡ length self.now.tasks }

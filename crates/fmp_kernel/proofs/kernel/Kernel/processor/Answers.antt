@@ -1,0 +1,7 @@
+use Rattle.std.proofs.Common.{ap, ◌∙◌}
+use Rattle.fmp_machine.specs.World.{World, processor}
+use Rattle.fmp_queues.specs.Queues.{Queues}
+use Rattle.fmp_kernel.proofs.kernel.Kernel.processor.Goals as goal
+
+pub returns-clause-model : goal.returns-clause-model
+returns-clause-model c = λ m stands. c.processor.ensures ∙ ap (λ (w : World Queues). processor w c.args.p) (c.self.view_is ∙ stands.same)
