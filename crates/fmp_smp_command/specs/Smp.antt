@@ -24,7 +24,7 @@ pub record IsNumber (a : Arg) (id : List ℕ) (low high : ℕ) : Type 0 where
   pub required : IsRequired a id
   pub range : a.value_parser ≡ Some (parser.Signed (pos low) (pos high))
 
--- the command line: two paths, two numbers, and one that may be left out
+-- the command line: two paths, two numbers, and two that may be left out
 pub record IsSmp (c : Command) : Type 0 where
   pub start : Command
   pub config : Arg
@@ -32,7 +32,8 @@ pub record IsSmp (c : Command) : Type 0 where
   pub ticks : Arg
   pub turns : Arg
   pub seed : Arg
-  pub chain : AddsInTurn AddsArg start (config ∷ scripts ∷ ticks ∷ turns ∷ seed ∷ []) c
+  pub context : Arg
+  pub chain : AddsInTurn AddsArg start (config ∷ scripts ∷ ticks ∷ turns ∷ seed ∷ context ∷ []) c
   pub no_arguments : args_of start ≡ []
   pub no_groups : groups_of start ≡ []
   pub no_globals : (fields_of start).has_globals ≡ false
@@ -42,6 +43,7 @@ pub record IsSmp (c : Command) : Type 0 where
   pub is_ticks : IsNumber ticks (codes "ticks") 0 1000000
   pub is_turns : IsNumber turns (codes "turns") 1 1000000
   pub is_seed : IsOptional seed (codes "seed")
+  pub is_context : IsOptional context (codes "context")
 
 -- the value of this id is a number from low to high
 abbrev pub Gives : ArgMatches → List ℕ → ℕ → ℕ → Type 0

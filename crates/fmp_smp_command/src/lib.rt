@@ -60,6 +60,8 @@ pub struct SmpRequest<'a> {
     pub limits: Limits,
     /// What determines the order of a run without threads.
     pub seed: Option<u64>,
+    /// Whether what stands beside a fault is to be shown.
+    pub context: bool,
 }
 
 /// The path of a text, which has to be given.
@@ -107,6 +109,15 @@ fn seed<'a>(alloc: Global) -> Arg<'a>
         .help("Runs without threads, in an order that this number determines")
 }
 
+fn context<'a>(alloc: Global) -> Arg<'a>
+    ensures { IsOptional result (codes "context") }
+{
+    Arg::new(alloc, "context")
+        .long("context")
+        .action(ArgAction::SetTrue)
+        .help("Shows below a fault its line, its place and what is wanted there")
+}
+
 /// The command, for its help and for what is wrong in it.
 pub fn smp_command<'a>(alloc: Global) -> Result<Command<'a>, AllocError>
     ensures { IfOk result IsSmp }
@@ -120,6 +131,7 @@ pub fn smp_command<'a>(alloc: Global) -> Result<Command<'a>, AllocError>
     let ticks = ticks(alloc);
     let turns = turns(alloc);
     let seed = seed(alloc);
+    let context = context(alloc);
     let start = Command::new(alloc, "smp")
         .about(ABOUT)
         .after_help(HELP)
@@ -129,7 +141,8 @@ pub fn smp_command<'a>(alloc: Global) -> Result<Command<'a>, AllocError>
     let three = two.arg(ticks)?;
     let four = three.arg(turns)?;
     let five = four.arg(seed)?;
-    Ok(five)
+    let six = five.arg(context)?;
+    Ok(six)
 }
 
 fn limits_of<'a>(matches: &ArgMatches<'a>) -> Limits
@@ -149,5 +162,6 @@ pub fn parse_smp<'a>(alloc: Global, words: &'a [String]) -> Result<SmpRequest<'a
         scripts: matches.get_str("SCRIPTS").unwrap_or(""),
         limits: limits_of(&matches),
         seed: matches.get_one::<u64>("seed"),
+        context: matches.get_flag("context"),
     })
 }

@@ -50,6 +50,7 @@ pub fn judge(alloc: Global, text: &[u8], names: &Names) -> Result<(), TextFault>
     }
 }
 
+/// The record that line n prints, if it prints any, its number left aside.
 pub fn guessed(names: &Names, n: u32, line: &[u8]) -> Result<Record, TextFault>
     ensures { result ≡ ok_or (guess_of names.now line.now) (record { kind = TextKind.BadWord; line = n }) }
 {

@@ -29,13 +29,19 @@ fn processor_of(event: Event) -> Proc
     }
 }
 
-fn put_task(out: &mut Vec<u8>, names: &Names, task: Task) -> Result<(), AllocError>
+/// Adds the name of a task, or its number where no task has it.
+pub fn put_task(out: &mut Vec<u8>, names: &Names, task: Task) -> Result<(), AllocError>
     ensures { OnOk result (out.new.items ≡ out.old.items ++ spec.task_text names.now task) }
 {
     put_named(out, names, ObjectKind::Task, usize::from(task.number))
 }
 
-fn put_runner(out: &mut Vec<u8>, names: &Names, runner: Option<Runner>) -> Result<(), AllocError>
+/// Adds the name of a task or a handler, or `-` where there is none.
+pub fn put_runner(
+    out: &mut Vec<u8>,
+    names: &Names,
+    runner: Option<Runner>,
+) -> Result<(), AllocError>
     ensures { OnOk result (out.new.items ≡ out.old.items ++ spec.runner_text names.now runner) }
 {
     match runner {

@@ -11,14 +11,17 @@ use Rattle.fmp_text.proofs.SpelledTexts.{text_is_spelled}
 use Rattle.fmp_text.specs.Events.{reading_by_line}
 use Rattle.fmpsim_run.proofs.ByLine.{whole_by_line}
 use Rattle.fmpsim_run.specs.declared.fault.RunFault.{RunFault}
+use Rattle.fmpsim_run.specs.declared.stream.Detail.{Detail}
+use Rattle.fmpsim_run.specs.declared.stream.Detail.TheVariants as detail
 use Rattle.fmpsim_run.specs.declared.fault.RunFault.TheVariants as run
 use Rattle.fmpsim_run.specs.Faults.{is_config, is_text, is_write}
-use Rattle.fmpsim_run.specs.Runs.{FirstEventFault, FirstTextFault, IsAnswered, LeavesOut, SaysConfig, trace_of}
+use Rattle.fmpsim_run.specs.Runs.{FirstEventFault, FirstTextFault, IsAnswered, LeavesWritten, SaysConfig, Writing, trace_of}
+use Rattle.fmpsim_run.specs.Details.{AreStatesTold, detail_of, states_of}
 use Rattle.fmpsim_run.specs.Streams.{IsAllOut, Leaves}
 
 -- without a fault all events are answered, and the text spells them
 pub answered : (config_text event_text old new : List ℕ) (c : Setup) → SaysConfig config_text c → IsValid c
-    → IsAllOut c (reading_by_line c.names event_text) old new → IsAnswered config_text event_text old new
+    → IsAllOut detail.Line c (reading_by_line c.names event_text) old new → IsAnswered config_text event_text old new
 unfolding trace_of
 answered config_text event_text old new c says valid all =
     let is = whole_by_line c.names event_text all.given all.reading in
@@ -37,16 +40,37 @@ answered config_text event_text old new c says valid all =
       all.text,
     )
 
+-- the same of a run that tells the states
+pub states_told : (config_text event_text old new : List ℕ) (c : Setup) → SaysConfig config_text c → IsValid c
+    → IsAllOut detail.State c (reading_by_line c.names event_text) old new → AreStatesTold config_text event_text old new
+unfolding states_of
+states_told config_text event_text old new c says valid all =
+    let is = whole_by_line c.names event_text all.given all.reading in
+    let on : AreOn c.processors all.given = rw (← valid.same_processors) (reading_on c.names event_text all.given is) in
+    let safe = runs_safe c all.given valid on in (
+      states_of c all.given,
+      record {
+        config = c;
+        events = all.given;
+        says = says;
+        lists = text_is_spelled c.names event_text all.given is;
+        prints = refl;
+        safe = safe;
+        balanced = balanced_throughout c all.given valid.few safe;
+      },
+      all.text,
+    )
+
 module _ (config_text event_text old : List ℕ) where
   -- a fault of the configuration, or before there is one
-  pub nothing_out : (fault : RunFault) → is_text fault ≡ false → is_write fault ≡ false → LeavesOut config_text event_text old old fault
-  nothing_out (run.Config fault) text write = refl
-  nothing_out (run.Text fault) text write = absurd (false≢true (sym text))
-  nothing_out run.Read text write = inl refl
-  nothing_out run.Write text write = absurd (false≢true (sym write))
-  nothing_out run.Memory text write = inl refl
-  nothing_out run.Start text write = inl refl
-  nothing_out run.Disagree text write = inl refl
+  pub nothing_out : (writing : Writing) (fault : RunFault) → is_text fault ≡ false → is_write fault ≡ false → LeavesWritten writing config_text event_text old old fault
+  nothing_out writing (run.Config fault) text write = refl
+  nothing_out writing (run.Text fault) text write = absurd (false≢true (sym text))
+  nothing_out writing run.Read text write = inl refl
+  nothing_out writing run.Write text write = absurd (false≢true (sym write))
+  nothing_out writing run.Memory text write = inl refl
+  nothing_out writing run.Start text write = inl refl
+  nothing_out writing run.Disagree text write = inl refl
 
   pub no_text : (fault : RunFault) → is_text fault ≡ false → FirstTextFault config_text event_text fault
   no_text (run.Config fault) text = tt
@@ -59,15 +83,15 @@ module _ (config_text event_text old : List ℕ) where
 
   -- a fault behind a right configuration
   module _ (c : Setup) (says : SaysConfig config_text c) where
-    pub leaves_out : (new : List ℕ) (fault : RunFault) → is_config fault ≡ false → Leaves c (reading_by_line c.names event_text) old new fault
-        → LeavesOut config_text event_text old new fault
-    leaves_out new (run.Config fault) config left = absurd (false≢true (sym config))
-    leaves_out new (run.Text fault) config left = (c, says, left)
-    leaves_out new run.Read config left = inr (c, says, left)
-    leaves_out new run.Write config left = (trace_of c (reading_by_line c.names event_text).events, record { config = c; says = says; prints = refl }, left)
-    leaves_out new run.Memory config left = inr (c, says, left)
-    leaves_out new run.Start config left = inr (c, says, left)
-    leaves_out new run.Disagree config left = inr (c, says, left)
+    pub leaves_out : (d : Detail) (new : List ℕ) (fault : RunFault) → is_config fault ≡ false → Leaves d c (reading_by_line c.names event_text) old new fault
+        → LeavesWritten (detail_of d) config_text event_text old new fault
+    leaves_out d new (run.Config fault) config left = absurd (false≢true (sym config))
+    leaves_out d new (run.Text fault) config left = (c, says, left)
+    leaves_out d new run.Read config left = inr (c, says, left)
+    leaves_out d new run.Write config left = (detail_of d c (reading_by_line c.names event_text).events, record { config = c; says = says; prints = refl }, left)
+    leaves_out d new run.Memory config left = inr (c, says, left)
+    leaves_out d new run.Start config left = inr (c, says, left)
+    leaves_out d new run.Disagree config left = inr (c, says, left)
 
     pub first_out : (fault : RunFault) → FirstEventFault (reading_by_line c.names event_text) fault → FirstTextFault config_text event_text fault
     first_out (run.Config fault) first = tt
@@ -79,16 +103,21 @@ module _ (config_text event_text old : List ℕ) where
     first_out run.Disagree first = tt
 
     -- the same of a result
-    pub leaves_result : {T : Type 0} (new : List ℕ) (r : Result T RunFault) → IfErr r (λ fault. is_config fault ≡ false)
-        → IfErr r (Leaves c (reading_by_line c.names event_text) old new) → IfErr r (LeavesOut config_text event_text old new)
-    leaves_result new (Ok done) config left = tt
-    leaves_result new (Err fault) config left = leaves_out new fault config left
+    pub leaves_result : {T : Type 0} (d : Detail) (new : List ℕ) (r : Result T RunFault) → IfErr r (λ fault. is_config fault ≡ false)
+        → IfErr r (Leaves d c (reading_by_line c.names event_text) old new) → IfErr r (LeavesWritten (detail_of d) config_text event_text old new)
+    leaves_result d new (Ok done) config left = tt
+    leaves_result d new (Err fault) config left = leaves_out d new fault config left
 
     pub first_result : {T : Type 0} (r : Result T RunFault) → IfErr r (FirstEventFault (reading_by_line c.names event_text)) → IfErr r (FirstTextFault config_text event_text)
     first_result (Ok done) first = tt
     first_result (Err fault) first = first_out fault first
 
     pub answered_result : {T : Type 0} (new : List ℕ) (r : Result T RunFault) → OnOk r (IsValid c)
-        → OnOk r (IsAllOut c (reading_by_line c.names event_text) old new) → OnOk r (IsAnswered config_text event_text old new)
+        → OnOk r (IsAllOut detail.Line c (reading_by_line c.names event_text) old new) → OnOk r (IsAnswered config_text event_text old new)
     answered_result new (Ok done) valid all = answered config_text event_text old new c says valid all
     answered_result new (Err fault) valid all = tt
+
+    pub states_result : {T : Type 0} (new : List ℕ) (r : Result T RunFault) → OnOk r (IsValid c)
+        → OnOk r (IsAllOut detail.State c (reading_by_line c.names event_text) old new) → OnOk r (AreStatesTold config_text event_text old new)
+    states_result new (Ok done) valid all = states_told config_text event_text old new c says valid all
+    states_result new (Err fault) valid all = tt

@@ -5,14 +5,17 @@ use Rattle.std.proofs.Math.Seq.{take-append-add, take-length}
 use Rattle.fmp_codes.specs.declared.records.Event.{Event}
 use Rattle.fmp_machine.specs.Boot.{booted}
 use Rattle.fmp_machine.specs.Keeping.{Keeping}
-use Rattle.fmp_machine.specs.Numbers.{numbered}
+use Rattle.fmp_machine.specs.Numbers.{State, numbered}
 use Rattle.fmp_machine.specs.Setup.{Setup}
 use Rattle.fmp_machine.specs.Step.{answers, replay, step}
 use Rattle.fmp_machine.specs.World.{World}
 use Rattle.fmp_names.specs.Names.{NameLists}
-use Rattle.fmp_trace.specs.Lines.{line_text, lines_from}
+use Rattle.fmp_trace.specs.Lines.{lines_from}
 use Rattle.fmpsim_run.specs.Devices.{BeginsWith}
+use Rattle.fmpsim_run.specs.declared.stream.Detail.{Detail}
+use Rattle.fmpsim_run.specs.declared.stream.Detail.TheVariants as detail
 use Rattle.fmpsim_run.specs.Runs.{trace_of}
+use Rattle.fmpsim_run.specs.Details.{detail_of, entry_text, states_from, states_of}
 
 module _ {Q : Type 0} (k : Keeping Q) (names : NameLists) where
   pub replay_more : (w : World Q) (es : List Event) (e : Event) → replay k w (es ++ e ∷ []) ≡ (step k (replay k w es) e).0
@@ -37,20 +40,52 @@ trace_append : (c : Setup) (es fs : List Event) → trace_of c (es ++ fs) ≡ tr
 unfolding trace_of
 trace_append c es fs = lines_append numbered c.names 1 (booted c) es fs
 
--- the line of this event, behind these
-abbrev pub line_behind : Setup → List Event → Event → List ℕ
-line_behind c es e = line_text c.names (length es + 1) (step numbered (replay numbered (booted c) es) e).1
+states_append_from : (names : NameLists) (n : ℕ) (m : State) (es fs : List Event)
+    → states_from names n m (es ++ fs) ≡ states_from names n m es ++ states_from names (n + length es) (replay numbered m es) fs
+states_append_from names n m [] fs =
+    let here : n + 0 ≡ n = omega arith in
+    ap (λ i. states_from names i m fs) (sym here)
+states_append_from names n m (e ∷ es) fs =
+    let place : n + 1 + length es ≡ n + length (e ∷ es) = omega arith in
+    let next = (step numbered m e).0 in
+    let entry = entry_text detail.State names n (step numbered m e) in
+    let here = states_from names (n + 1) next es in
+    ap (λ xs. entry ++ xs) (states_append_from names (n + 1) next es fs)
+    ∙ ap (λ i. entry ++ (here ++ states_from names i (replay numbered next es) fs)) place
+    ∙ sym (append_assoc entry here (states_from names (n + length (e ∷ es)) (replay numbered next es) fs))
 
-pub trace_more : (c : Setup) (es : List Event) (e : Event) → trace_of c (es ++ e ∷ []) ≡ trace_of c es ++ line_behind c es e
-trace_more c es e =
+states_append : (c : Setup) (es fs : List Event) → states_of c (es ++ fs) ≡ states_of c es ++ states_from c.names (1 + length es) (replay numbered (booted c) es) fs
+unfolding states_of
+states_append c es fs = states_append_from c.names 1 (booted c) es fs
+
+-- what is written from these events on
+abbrev rest_of : Detail → Setup → List Event → List Event → List ℕ
+rest_of detail.Line c es fs = lines_from c.names (1 + length es) (answers numbered (replay numbered (booted c) es) fs)
+rest_of detail.State c es fs = states_from c.names (1 + length es) (replay numbered (booted c) es) fs
+
+detail_append : (d : Detail) (c : Setup) (es fs : List Event) → detail_of d c (es ++ fs) ≡ detail_of d c es ++ rest_of d c es fs
+detail_append detail.Line c es fs = trace_append c es fs
+detail_append detail.State c es fs = states_append c es fs
+
+-- what is written of this event, behind these
+abbrev pub entry_behind : Detail → Setup → List Event → Event → List ℕ
+entry_behind d c es e = entry_text d c.names (length es + 1) (step numbered (replay numbered (booted c) es) e)
+
+one_more : (d : Detail) (c : Setup) (es : List Event) (e : Event) → rest_of d c es (e ∷ []) ≡ entry_text d c.names (1 + length es) (step numbered (replay numbered (booted c) es) e)
+one_more detail.Line c es e = refl
+one_more detail.State c es e = append-nil (entry_text detail.State c.names (1 + length es) (step numbered (replay numbered (booted c) es) e))
+
+pub detail_more : (d : Detail) (c : Setup) (es : List Event) (e : Event) → detail_of d c (es ++ e ∷ []) ≡ detail_of d c es ++ entry_behind d c es e
+detail_more d c es e =
     let place : 1 + length es ≡ length es + 1 = omega arith in
-    trace_append c es (e ∷ []) ∙ ap (λ xs. trace_of c es ++ xs) (append-nil (line_text c.names (1 + length es) (step numbered (replay numbered (booted c) es) e).1))
-    ∙ ap (λ i. trace_of c es ++ line_text c.names i (step numbered (replay numbered (booted c) es) e).1) place
+    detail_append d c es (e ∷ []) ∙ ap (λ xs. detail_of d c es ++ xs) (one_more d c es e)
+    ∙ ap (λ i. detail_of d c es ++ entry_text d c.names i (step numbered (replay numbered (booted c) es) e)) place
 
--- the trace of no event
-pub trace_none : (c : Setup) → trace_of c [] ≡ []
-unfolding trace_of
-trace_none c = refl
+-- nothing is written of no event
+pub detail_none : (d : Detail) (c : Setup) → detail_of d c [] ≡ []
+unfolding trace_of states_of
+detail_none detail.Line c = refl
+detail_none detail.State c = refl
 
 -- a beginning of some bytes is one of more bytes
 begins_on : (old front line behind new : List ℕ) → BeginsWith (old ++ front) line new → BeginsWith old ((front ++ line) ++ behind) new
@@ -62,15 +97,15 @@ begins_on old front line behind new (n, is) =
     ∙ ap (λ xs. front ++ xs) (take-append-le j line behind within ∙ take_min n line) in
     (length front + j, is ∙ append_assoc old front (take n line) ∙ ap (λ xs. old ++ xs) (sym same))
 
--- behind the trace of a front a beginning of the next line is out: so a beginning of the trace is
-pub begun : (c : Setup) (given more : List Event) (event : Event) (old written new : List ℕ) → written ≡ old ++ trace_of c given
-    → BeginsWith written (line_behind c given event) new → BeginsWith old (trace_of c (given ++ event ∷ more)) new
-begun c given more event old written new text begins =
-    let parts = ap (trace_of c) (sym (append_assoc given (event ∷ []) more)) ∙ trace_append c (given ++ event ∷ []) more
-    ∙ ap (λ xs. xs ++ lines_from c.names (1 + length (given ++ event ∷ [])) (answers numbered (replay numbered (booted c) (given ++ event ∷ [])) more)) (trace_more c given event) in
-    rw (parts) (begins_on old (trace_of c given) (line_behind c given event) _ new (rw text at begins))
+-- behind what is written of a front a beginning of the next entry is out: so a beginning of all is
+pub begun : (d : Detail) (c : Setup) (given more : List Event) (event : Event) (old written new : List ℕ) → written ≡ old ++ detail_of d c given
+    → BeginsWith written (entry_behind d c given event) new → BeginsWith old (detail_of d c (given ++ event ∷ more)) new
+begun d c given more event old written new text begins =
+    let parts = ap (detail_of d c) (sym (append_assoc given (event ∷ []) more)) ∙ detail_append d c (given ++ event ∷ []) more
+    ∙ ap (λ xs. xs ++ rest_of d c (given ++ event ∷ []) more) (detail_more d c given event) in
+    rw (parts) (begins_on old (detail_of d c given) (entry_behind d c given event) _ new (rw text at begins))
 
--- all of the trace is a beginning of it
-pub all_begun : (c : Setup) (events : List Event) (old new : List ℕ) → new ≡ old ++ trace_of c events → BeginsWith old (trace_of c events) new
-all_begun c events old new text =
-    (length (trace_of c events), text ∙ ap (λ xs. old ++ xs) (sym (take-length (trace_of c events))))
+-- all of what is written is a beginning of it
+pub all_begun : (d : Detail) (c : Setup) (events : List Event) (old new : List ℕ) → new ≡ old ++ detail_of d c events → BeginsWith old (detail_of d c events) new
+all_begun d c events old new text =
+    (length (detail_of d c events), text ∙ ap (λ xs. old ++ xs) (sym (take-length (detail_of d c events))))

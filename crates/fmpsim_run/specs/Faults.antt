@@ -36,6 +36,10 @@ abbrev pub is_text : RunFault → Bool
 is_text (run.Text fault) = true
 is_text other = false
 
+abbrev pub is_start : RunFault → Bool
+is_start run.Start = true
+is_start other = false
+
 -- the run ended with a failed read, or with a failed write
 abbrev pub failed_read : {T : Type 0} → Result T RunFault → Bool
 failed_read (Ok value) = false

@@ -2,6 +2,7 @@ pub mod Devices
 pub mod Faults
 pub mod Statuses
 pub mod Runs
+pub mod Details
 pub mod Streams
 pub mod Scripted
 pub mod Checks

@@ -43,41 +43,50 @@ IsAnswered config_text event_text old new = (output : List ℕ) × Answered conf
 unfoldable pub trace_of : Setup → List Event → List ℕ
 trace_of config events = lines_from config.names 1 (answers numbered (booted config) events)
 
--- The trace of the one text's machine over the events of the other, up to its first fault.
-pub record Traced (config_text event_text output : List ℕ) : Type 0 where
+-- a way to write what a machine does at events, as by its trace
+abbrev pub Writing : Type 0
+Writing = Setup → List Event → List ℕ
+
+-- What is written of the one text's machine over the events of the other, up to its first fault.
+pub record Traced (writing : Writing) (config_text event_text output : List ℕ) : Type 0 where
   pub config : Setup
   pub says : SaysConfig config_text config
-  pub prints : output ≡ trace_of config (reading_by_line config.names event_text).events
+  pub prints : output ≡ writing config (reading_by_line config.names event_text).events
 
--- a beginning of that trace was written after old
-abbrev pub IsBegun : List ℕ → List ℕ → List ℕ → List ℕ → Type 0
-IsBegun config_text event_text old new = (output : List ℕ) × Traced config_text event_text output × BeginsWith old output new
+-- a beginning of that was written after old
+abbrev pub IsBegun : Writing → List ℕ → List ℕ → List ℕ → List ℕ → Type 0
+IsBegun writing config_text event_text old new = (output : List ℕ) × Traced writing config_text event_text output × BeginsWith old output new
 
--- the trace of a front of the events was written after old, every line of it whole
-abbrev pub IsFrontOut : Setup → List Event → List ℕ → List ℕ → Type 0
-IsFrontOut config events old new = (n : ℕ) × (new ≡ old ++ trace_of config (take n events))
+-- what is written of a front of the events was written after old, every line of it whole
+abbrev pub IsFrontOut : Writing → Setup → List Event → List ℕ → List ℕ → Type 0
+IsFrontOut writing config events old new = (n : ℕ) × (new ≡ old ++ writing config (take n events))
 
 -- the same of a right configuration. Where there was none yet, nothing was written
-abbrev pub IsFront : List ℕ → List ℕ → List ℕ → List ℕ → Type 0
-IsFront config_text event_text old new =
-    (new ≡ old) ⊎ ((config : Setup) × SaysConfig config_text config × IsFrontOut config (reading_by_line config.names event_text).events old new)
+abbrev pub IsFront : Writing → List ℕ → List ℕ → List ℕ → List ℕ → Type 0
+IsFront writing config_text event_text old new =
+    (new ≡ old) ⊎ ((config : Setup) × SaysConfig config_text config × IsFrontOut writing config (reading_by_line config.names event_text).events old new)
 
--- the trace of the events before this fault, which is the text's first one, was written after old
-pub record IsOutBefore (config : Setup) (reading : Reading) (old new : List ℕ) (fault : TextFault) : Type 0 where
+-- what is written of the events before this fault, which is the text's first one, was written after old
+pub record IsOutBefore (writing : Writing) (config : Setup) (reading : Reading) (old new : List ℕ) (fault : TextFault) : Type 0 where
   pub first : reading.fault ≡ Some fault
-  pub text : new ≡ old ++ trace_of config reading.events
+  pub text : new ≡ old ++ writing config reading.events
 
--- that, or memory ran out, and the trace of a front of the events was
-abbrev pub IsStopped : Setup → Reading → List ℕ → List ℕ → TextFault → Type 0
-IsStopped config reading old new fault = IsOutBefore config reading old new fault ⊎ (IsMemory fault × IsFrontOut config reading.events old new)
+-- that, or memory ran out, and what is written of a front of the events was
+abbrev pub IsStopped : Writing → Setup → Reading → List ℕ → List ℕ → TextFault → Type 0
+IsStopped writing config reading old new fault =
+    IsOutBefore writing config reading old new fault ⊎ (IsMemory fault × IsFrontOut writing config reading.events old new)
 
--- what was written after old, where a run over these texts ends with this fault
+-- what was written after old, where a run over these texts that writes so ends with this fault
+abbrev pub LeavesWritten : Writing → List ℕ → List ℕ → List ℕ → List ℕ → RunFault → Type 0
+LeavesWritten writing config_text event_text old new (run.Config fault) = new ≡ old
+LeavesWritten writing config_text event_text old new (run.Text fault) =
+    (config : Setup) × SaysConfig config_text config × IsStopped writing config (reading_by_line config.names event_text) old new fault
+LeavesWritten writing config_text event_text old new run.Write = IsBegun writing config_text event_text old new
+LeavesWritten writing config_text event_text old new other = IsFront writing config_text event_text old new
+
+-- the same of the trace
 abbrev pub LeavesOut : List ℕ → List ℕ → List ℕ → List ℕ → RunFault → Type 0
-LeavesOut config_text event_text old new (run.Config fault) = new ≡ old
-LeavesOut config_text event_text old new (run.Text fault) =
-    (config : Setup) × SaysConfig config_text config × IsStopped config (reading_by_line config.names event_text) old new fault
-LeavesOut config_text event_text old new run.Write = IsBegun config_text event_text old new
-LeavesOut config_text event_text old new other = IsFront config_text event_text old new
+LeavesOut config_text event_text old new fault = LeavesWritten trace_of config_text event_text old new fault
 
 -- a fault of the configuration is the first one of its text, or want of memory
 abbrev pub FirstConfigFault : List ℕ → RunFault → Type 0

@@ -3,6 +3,7 @@ ghost use Rattle.std.specs.Prelude.{◌≡◌, ◌+◌, ◌-◌, ◌^◌, ◌<�
 ghost use Rattle.fmp_machine.specs.Valid.{IsValid};
 ghost use Rattle.fmp_text.specs.Events.{Reading, reading_by_line};
 ghost use Rattle.fmp_text.specs.Limits.{most_bytes, most_events};
+ghost use Rattle.fmpsim_run.specs.Details.{AreStatesTold, LeavesStates};
 ghost use Rattle.fmpsim_run.specs.Faults.{failed_read, failed_write, is_config};
 ghost use Rattle.fmpsim_run.specs.Runs.{CountsReads, FirstConfigFault, FirstEventFault, FirstTextFault, IsAnswered, LeavesOut};
 ghost use Rattle.fmpsim_run.specs.Streams.{IsAllOut, Leaves, Streams};
@@ -10,7 +11,7 @@ ghost use Rattle.fmpsim_run.specs.Streams.{IsAllOut, Leaves, Streams};
 use crate::fault::RunFault;
 use crate::sink::Sink;
 use crate::source::Source;
-use crate::stream::Answering;
+use crate::stream::{Answering, Detail};
 use crate::texts::config_from;
 use crate::whole::new_piece;
 use fmp_machine::Config;
@@ -33,15 +34,15 @@ fn answer_all<S: Source, W: Sink>(
     requires unended { run.old.feed.ended ≡ false }
     requires processors { length run.old.kernel.processors ≡ config.now.processors }
     requires room { 0 < length piece.old }
-    ensures answered { IsTrue S.tells → IsTrue W.tells → (whole : Reading) (old : List ℕ)
-        → Streams W.tells config.now whole old run.old (W.written trace.old) (S.left events.old)
-        → OnOk result (IsAllOut config.now whole old (W.written trace.new)) }
-    ensures first { IsTrue S.tells → (whole : Reading) (old : List ℕ)
-        → Streams W.tells config.now whole old run.old (W.written trace.old) (S.left events.old)
+    ensures answered { IsTrue S.tells → IsTrue W.tells → (d : Detail) (whole : Reading) (old : List ℕ)
+        → Streams d W.tells config.now whole old run.old (W.written trace.old) (S.left events.old)
+        → OnOk result (IsAllOut d config.now whole old (W.written trace.new)) }
+    ensures first { IsTrue S.tells → (d : Detail) (whole : Reading) (old : List ℕ)
+        → Streams d W.tells config.now whole old run.old (W.written trace.old) (S.left events.old)
         → IfErr result (FirstEventFault whole) }
-    ensures leaves { IsTrue S.tells → IsTrue W.tells → (whole : Reading) (old : List ℕ)
-        → Streams W.tells config.now whole old run.old (W.written trace.old) (S.left events.old)
-        → IfErr result (Leaves config.now whole old (W.written trace.new)) }
+    ensures leaves { IsTrue S.tells → IsTrue W.tells → (d : Detail) (whole : Reading) (old : List ℕ)
+        → Streams d W.tells config.now whole old run.old (W.written trace.old) (S.left events.old)
+        → IfErr result (Leaves d config.now whole old (W.written trace.new)) }
     ensures events_read { IsTrue S.tells → OnOk result (S.left events.new ≡ []) }
     ensures kinds { IfErr result (λ fault. is_config fault ≡ false) }
     ensures reads { S.failures events.new ≡ S.failures events.old + (if failed_read result then 1 else 0) }
@@ -57,6 +58,7 @@ fn answer_all<S: Source, W: Sink>(
 /// Answers the events of a text from boot on, and passes on what the sink holds back.
 fn answer_text<S: Source, W: Sink>(
     alloc: Global,
+    detail: Detail,
     config: &Config,
     events: &mut S,
     trace: &mut W,
@@ -64,19 +66,19 @@ fn answer_text<S: Source, W: Sink>(
     requires event_calls { S.failures events.old < 2 ^ 64 - 1 }
     requires trace_calls { W.failures trace.old < 2 ^ 64 - 1 }
     ensures answered { IsTrue S.tells → IsTrue W.tells
-        → OnOk result (IsAllOut config.now (reading_by_line config.now.names (S.left events.old)) (W.written trace.old) (W.written trace.new)) }
+        → OnOk result (IsAllOut detail config.now (reading_by_line config.now.names (S.left events.old)) (W.written trace.old) (W.written trace.new)) }
     ensures valid { OnOk result (IsValid config.now) }
     ensures passed { OnOk result (W.buffered trace.new ≡ []) }
     ensures first { IsTrue S.tells → IfErr result (FirstEventFault (reading_by_line config.now.names (S.left events.old))) }
     ensures leaves { IsTrue S.tells → IsTrue W.tells
-        → IfErr result (Leaves config.now (reading_by_line config.now.names (S.left events.old)) (W.written trace.old) (W.written trace.new)) }
+        → IfErr result (Leaves detail config.now (reading_by_line config.now.names (S.left events.old)) (W.written trace.old) (W.written trace.new)) }
     ensures events_read { IsTrue S.tells → OnOk result (S.left events.new ≡ []) }
     ensures kinds { IfErr result (λ fault. is_config fault ≡ false) }
     ensures reads { S.failures events.new ≡ S.failures events.old + (if failed_read result then 1 else 0) }
     ensures writes { W.failures trace.new ≡ W.failures trace.old + (if failed_write result then 1 else 0) }
 {
     let mut piece = new_piece(alloc)?;
-    let mut run = Answering::new(alloc, config)?;
+    let mut run = Answering::new(alloc, detail, config)?;
     answer_all(&mut run, config, events, trace, piece.as_mut_slice())?;
     Ok(trace.flush()?)
 }
@@ -116,5 +118,44 @@ pub fn run_calls<R: Source, S: Source, W: Sink>(
     ensures writes { W.failures trace.new ≡ W.failures trace.old + (if failed_write result then 1 else 0) }
 {
     let configuration = config_from(alloc, config)?;
-    answer_text(alloc, &configuration, events, trace)
+    answer_text(alloc, Detail::Line, &configuration, events, trace)
+}
+
+/// Reads a configuration and events, and writes the trace of the machine's answers, and behind each line the state after its event,
+/// each as its event comes. docs/FORMATS.md has the form of the state.
+///
+/// No list of events or of records is kept.
+pub fn run_states<R: Source, S: Source, W: Sink>(
+    alloc: Global,
+    config: &mut R,
+    events: &mut S,
+    trace: &mut W,
+) -> Result<(), RunFault>
+    requires config_calls { R.failures config.old < 2 ^ 64 - 1 }
+    requires event_calls { S.failures events.old < 2 ^ 64 - 1 }
+    requires trace_calls { W.failures trace.old < 2 ^ 64 - 1 }
+
+    // Both texts were read to their ends, and what is written is the trace of the answers to the events with the state after
+    // each. None of it is held back.
+    ensures answered { IsTrue R.tells → IsTrue S.tells → IsTrue W.tells → OnOk result (AreStatesTold (R.left config.old) (S.left events.old) (W.written trace.old) (W.written trace.new)) }
+    ensures passed { OnOk result (W.buffered trace.new ≡ []) }
+    ensures config_read { IsTrue R.tells → OnOk result (R.left config.new ≡ []) }
+    ensures events_read { IsTrue S.tells → OnOk result (S.left events.new ≡ []) }
+
+    // A fault of a text is its first one.
+    ensures config_fault { IsTrue R.tells → IfErr result (FirstConfigFault (R.left config.old)) }
+    ensures text_fault { IsTrue R.tells → IsTrue S.tells → IfErr result (FirstTextFault (R.left config.old) (S.left events.old)) }
+
+    // After a fault of the configuration nothing is written. After one of the events what is told of those before it is out,
+    // after a failed read or want of memory what is told of some front of them, and after a failed write or flush a beginning
+    // of all.
+    ensures unwritten { IsTrue W.tells → IfErr result (λ fault. is_config fault ≡ true → W.written trace.new ≡ W.written trace.old) }
+    ensures leaves { IsTrue R.tells → IsTrue S.tells → IsTrue W.tells → IfErr result (LeavesStates (R.left config.old) (S.left events.old) (W.written trace.old) (W.written trace.new)) }
+
+    // Which calls of the devices failed.
+    ensures reads { CountsReads result (R.failures config.old) (R.failures config.new) (S.failures events.old) (S.failures events.new) }
+    ensures writes { W.failures trace.new ≡ W.failures trace.old + (if failed_write result then 1 else 0) }
+{
+    let machine = config_from(alloc, config)?;
+    answer_text(alloc, Detail::State, &machine, events, trace)
 }

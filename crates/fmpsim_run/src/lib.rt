@@ -15,7 +15,7 @@ mod texts;
 mod threads;
 mod whole;
 
-pub use calls::run_calls;
+pub use calls::{run_calls, run_states};
 pub use check::run_check;
 pub use fault::{FaultLine, RunFault};
 pub use memory::{MemSink, MemSource};
@@ -24,5 +24,6 @@ pub use sink::{Sink, write_all, write_out};
 pub use source::{Failed, Source};
 pub use status::Status;
 pub use std_io::{ReadSource, WriteSink};
+pub use texts::config_from;
 pub use threads::{run_seeded, run_threads};
 pub use whole::{ReadFault, read_up_to};

@@ -10,7 +10,7 @@ ghost use Rattle.fmp_machine.specs.Step.{step as step_of};
 ghost use Rattle.fmp_machine.specs.Valid.{IsValid};
 ghost use Rattle.fmp_text.specs.Events.{Reading};
 ghost use Rattle.fmp_text.specs.Limits.{most_bytes, most_events};
-ghost use Rattle.fmp_trace.specs.Lines.{line_text};
+ghost use Rattle.fmpsim_run.specs.Details.{behind_line, entry_text};
 ghost use Rattle.fmpsim_run.specs.Devices.{BeginsWith};
 ghost use Rattle.fmpsim_run.specs.Faults.{failed_read, failed_write, is_config, is_read, is_write};
 ghost use Rattle.fmpsim_run.specs.Runs.{FirstEventFault};
@@ -23,13 +23,39 @@ use fmp_codes::{Answer, Event, Proc, Record};
 use fmp_feed::EventFeed;
 use fmp_kernel::Kernel;
 use fmp_machine::Config;
+use fmp_states::put_state;
 use fmp_text::Names;
 use fmp_trace::trace_line;
 use std::alloc::{AllocError, Global};
 
+/// What is written of an event.
+#[derive(Clone, Copy, Debug, PartialEq, Eq)]
+pub(crate) enum Detail {
+    /// Its line of the trace.
+    Line,
+    /// That, and the state behind it.
+    State,
+}
+
+/// Adds what is told behind the line of an event that led to this state.
+fn put_behind(
+    detail: Detail,
+    names: &Names,
+    kernel: &Kernel,
+    line: &mut Vec<u8>,
+) -> Result<(), AllocError>
+    ensures { (m : State) → Stands kernel.now m → OnOk result (line.new.items ≡ line.old.items ++ behind_line detail names.now m) }
+{
+    match detail {
+        Detail::Line => Ok(()),
+        Detail::State => put_state(line, names, kernel),
+    }
+}
+
 /// A run that answers each event as it comes. It keeps the unread rest of one line, the last record, and the line that it writes.
 #[derive(Drop)]
 pub(crate) struct Answering {
+    detail: Detail,
     feed: EventFeed,
     kernel: Kernel,
     count: u32,
@@ -39,7 +65,12 @@ pub(crate) struct Answering {
 
 impl Answering {
     /// The machine at boot, and no byte of the events yet.
-    pub(crate) fn new(alloc: Global, config: &Config) -> Result<Answering, AllocError>
+    pub(crate) fn new(
+        alloc: Global,
+        detail: Detail,
+        config: &Config,
+    ) -> Result<Answering, AllocError>
+        ensures detail { IfOk result (λ a. a.detail ≡ detail) }
         ensures feed { IfOk result (λ a. a.feed ≡ new_feed) }
         ensures stands { IfOk result (λ a. Stands a.kernel (booted config.now)) }
         ensures processors { IfOk result (λ a. length a.kernel.processors ≡ config.now.processors) }
@@ -47,6 +78,7 @@ impl Answering {
         ensures valid { OnOk result (IsValid config.now) }
     {
         Ok(Answering {
+            detail,
             feed: EventFeed::new(alloc)?,
             kernel: Kernel::boot(config)?,
             count: 0,
@@ -62,7 +94,7 @@ impl Answering {
         self.feed.ended()
     }
 
-    /// Answers one event, and writes its line.
+    /// Answers one event, and writes its line with what is told behind it.
     fn answer<W: Sink>(
         &mut self,
         names: &Names,
@@ -72,21 +104,23 @@ impl Answering {
         requires calls { W.failures trace.old < 2 ^ 64 - 1 }
         requires room { self.old.count < 2 ^ 32 - 1 }
         requires on { (processor_of event).number ≤ length self.old.kernel.processors }
+        ensures detail { self.new.detail ≡ self.old.detail }
         ensures feed { self.new.feed ≡ self.old.feed }
         ensures stands { (m : State) → Stands self.old.kernel m → Stands self.new.kernel (step_of numbered m event).0 }
         ensures processors { length self.new.kernel.processors ≡ length self.old.kernel.processors }
         ensures count { self.new.count ≡ self.old.count + 1 }
         ensures ok { IsTrue W.tells → (m : State) → Stands self.old.kernel m
-            → OnOk result (W.written trace.new ≡ W.written trace.old ++ line_text names.now (self.old.count + 1) (step_of numbered m event).1) }
+            → OnOk result (W.written trace.new ≡ W.written trace.old ++ entry_text self.old.detail names.now (self.old.count + 1) (step_of numbered m event)) }
         ensures memory { IsTrue W.tells → result ≡ Err RunFault.Memory → W.written trace.new ≡ W.written trace.old }
         ensures write { IsTrue W.tells → (m : State) → Stands self.old.kernel m → result ≡ Err RunFault.Write
-            → BeginsWith (W.written trace.old) (line_text names.now (self.old.count + 1) (step_of numbered m event).1) (W.written trace.new) }
+            → BeginsWith (W.written trace.old) (entry_text self.old.detail names.now (self.old.count + 1) (step_of numbered m event)) (W.written trace.new) }
         ensures kinds { IfErr result (λ fault. (fault ≡ RunFault.Memory) ⊎ (fault ≡ RunFault.Write)) }
         ensures writes { W.failures trace.new ≡ W.failures trace.old + (if failed_write result then 1 else 0) }
     {
         self.kernel.step_into(event, &mut self.told);
         self.count += 1;
         trace_line(self.count, &self.told, names, &mut self.line)?;
+        put_behind(self.detail, names, &self.kernel, &mut self.line)?;
         Ok(write_all(trace, self.line.as_slice())?)
     }
 
@@ -96,15 +130,15 @@ impl Answering {
         requires counted { self.old.count ≡ self.old.feed.events }
         requires few { self.old.feed.events ≤ most_events }
         requires processors { length self.old.kernel.processors ≡ config.now.processors }
-        ensures streams { (whole : Reading) (old remaining : List ℕ)
-            → Streams W.tells config.now whole old self.old (W.written trace.old) remaining
-            → OnOk result (Streams W.tells config.now whole old self.new (W.written trace.new) remaining) }
-        ensures first { (whole : Reading) (old remaining : List ℕ)
-            → Streams W.tells config.now whole old self.old (W.written trace.old) remaining
+        ensures streams { (d : Detail) (whole : Reading) (old remaining : List ℕ)
+            → Streams d W.tells config.now whole old self.old (W.written trace.old) remaining
+            → OnOk result (Streams d W.tells config.now whole old self.new (W.written trace.new) remaining) }
+        ensures first { (d : Detail) (whole : Reading) (old remaining : List ℕ)
+            → Streams d W.tells config.now whole old self.old (W.written trace.old) remaining
             → IfErr result (FirstEventFault whole) }
-        ensures leaves { IsTrue W.tells → (whole : Reading) (old remaining : List ℕ)
-            → Streams W.tells config.now whole old self.old (W.written trace.old) remaining
-            → IfErr result (Leaves config.now whole old (W.written trace.new)) }
+        ensures leaves { IsTrue W.tells → (d : Detail) (whole : Reading) (old remaining : List ℕ)
+            → Streams d W.tells config.now whole old self.old (W.written trace.old) remaining
+            → IfErr result (Leaves d config.now whole old (W.written trace.new)) }
         ensures counted { OnOk result (self.new.count ≡ self.new.feed.events) }
         ensures moves { IfOk result (λ more. self.new.feed.events ≡ self.old.feed.events + (if more then 1 else 0)) }
         ensures few { OnOk result (self.new.feed.events ≤ most_events) }
@@ -135,15 +169,15 @@ impl Answering {
         requires counted { self.old.count ≡ self.old.feed.events }
         requires few { self.old.feed.events ≤ most_events }
         requires processors { length self.old.kernel.processors ≡ config.now.processors }
-        ensures streams { (whole : Reading) (old remaining : List ℕ)
-            → Streams W.tells config.now whole old self.old (W.written trace.old) remaining
-            → OnOk result (Streams W.tells config.now whole old self.new (W.written trace.new) remaining) }
-        ensures first { (whole : Reading) (old remaining : List ℕ)
-            → Streams W.tells config.now whole old self.old (W.written trace.old) remaining
+        ensures streams { (d : Detail) (whole : Reading) (old remaining : List ℕ)
+            → Streams d W.tells config.now whole old self.old (W.written trace.old) remaining
+            → OnOk result (Streams d W.tells config.now whole old self.new (W.written trace.new) remaining) }
+        ensures first { (d : Detail) (whole : Reading) (old remaining : List ℕ)
+            → Streams d W.tells config.now whole old self.old (W.written trace.old) remaining
             → IfErr result (FirstEventFault whole) }
-        ensures leaves { IsTrue W.tells → (whole : Reading) (old remaining : List ℕ)
-            → Streams W.tells config.now whole old self.old (W.written trace.old) remaining
-            → IfErr result (Leaves config.now whole old (W.written trace.new)) }
+        ensures leaves { IsTrue W.tells → (d : Detail) (whole : Reading) (old remaining : List ℕ)
+            → Streams d W.tells config.now whole old self.old (W.written trace.old) remaining
+            → IfErr result (Leaves d config.now whole old (W.written trace.new)) }
         ensures counted { OnOk result (self.new.count ≡ self.new.feed.events) }
         ensures few { OnOk result (self.new.feed.events ≤ most_events) }
         ensures processors { length self.new.kernel.processors ≡ length self.old.kernel.processors }
@@ -169,15 +203,15 @@ impl Answering {
         requires fits { self.old.feed.taken ≤ most_bytes }
         requires room { 0 < length piece.old }
         ensures feed_fault { OnOk result (self.new.feed.fault ≡ None) }
-        ensures streams { IsTrue S.tells → (tells : Bool) (c : Setup) (whole : Reading) (old written : List ℕ)
-            → Streams tells c whole old self.old written (S.left events.old)
-            → OnOk result (Streams tells c whole old self.new written (S.left events.new)) }
-        ensures leaves { IsTrue S.tells → (c : Setup) (whole : Reading) (old written : List ℕ)
-            → Streams true c whole old self.old written (S.left events.old)
-            → IfErr result (Leaves c whole old written) }
+        ensures streams { IsTrue S.tells → (d : Detail) (tells : Bool) (c : Setup) (whole : Reading) (old written : List ℕ)
+            → Streams d tells c whole old self.old written (S.left events.old)
+            → OnOk result (Streams d tells c whole old self.new written (S.left events.new)) }
+        ensures leaves { IsTrue S.tells → (d : Detail) (c : Setup) (whole : Reading) (old written : List ℕ)
+            → Streams d true c whole old self.old written (S.left events.old)
+            → IfErr result (Leaves d c whole old written) }
         ensures first { (whole : Reading) → IfErr result (FirstEventFault whole) }
         ensures end { IsTrue S.tells → OnOk result (self.new.feed.ended ≡ true → S.left events.new ≡ []) }
-        ensures counts { (self.new.count ≡ self.old.count) × (self.new.feed.events ≡ self.old.feed.events) × (self.new.kernel ≡ self.old.kernel) }
+        ensures counts { (self.new.count ≡ self.old.count) × (self.new.feed.events ≡ self.old.feed.events) × (self.new.kernel ≡ self.old.kernel) × (self.new.detail ≡ self.old.detail) }
         ensures fits { OnOk result (self.new.feed.taken ≤ most_bytes) }
         ensures moves { OnOk result (self.new.feed.ended ≡ false → self.new.feed.dropped ≡ false → (self.old.feed.taken < self.new.feed.taken) × (self.new.feed.taken ≤ most_bytes)) }
         ensures kinds { IfErr result (λ fault. (is_write fault ≡ false) × (is_config fault ≡ false)) }

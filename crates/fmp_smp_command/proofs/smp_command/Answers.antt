@@ -9,7 +9,8 @@ returns c = record {
   ticks = c.ticks-ticks.result;
   turns = c.turns-turns.result;
   seed = c.seed-seed.result;
-  chain = (c.in_ok-one.one, c.in_ok-one.ensures, (c.in_ok-two.two, c.in_ok-two.ensures, (c.in_ok-three.three, c.in_ok-three.ensures, (c.in_ok-four.four, c.in_ok-four.ensures, (c.in_ok-five.five, c.in_ok-five.ensures, refl)))));
+  context = c.context-context.result;
+  chain = (c.in_ok-one.one, c.in_ok-one.ensures, (c.in_ok-two.two, c.in_ok-two.ensures, (c.in_ok-three.three, c.in_ok-three.ensures, (c.in_ok-four.four, c.in_ok-four.ensures, (c.in_ok-five.five, c.in_ok-five.ensures, (c.in_ok-six.six, c.in_ok-six.ensures, refl))))));
   no_arguments = search rules;
   no_groups = search rules;
   no_globals = search rules;
@@ -19,4 +20,5 @@ returns c = record {
   is_ticks = c.ticks-ticks.ensures;
   is_turns = c.turns-turns.ensures;
   is_seed = c.seed-seed.ensures;
+  is_context = c.context-context.ensures;
 }

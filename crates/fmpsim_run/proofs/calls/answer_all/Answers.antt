@@ -26,27 +26,27 @@ loop-run-preserved g c =
       room = search rules;
       done = c.in_ok-drain.ensures.done;
       end = λ tells ended. c.in_ok-take_piece.ensures.end tells (sym same.0 ∙ ended);
-      streams = λ reads whole old before.
-          c.in_ok-drain.ensures.streams whole old _ (c.in_ok-take_piece.ensures.streams reads _ _ whole old _ (c.loop-run.invariant.streams reads whole old before));
+      streams = λ reads d whole old before.
+          c.in_ok-drain.ensures.streams d whole old _ (c.in_ok-take_piece.ensures.streams reads d _ _ whole old _ (c.loop-run.invariant.streams reads d whole old before));
     }
 
 pub returns-in_err-drain-clause-first : goal.returns-in_err-drain-clause-first
-returns-in_err-drain-clause-first g c = λ reads whole old before.
-    let middle = c.in_ok-take_piece.ensures.streams reads _ _ whole old _ (c.loop-run.invariant.streams reads whole old before) in
+returns-in_err-drain-clause-first g c = λ reads d whole old before.
+    let middle = c.in_ok-take_piece.ensures.streams reads d _ _ whole old _ (c.loop-run.invariant.streams reads d whole old before) in
     let p = err_from_is_err_and c.from_residual-in_err-drain.result c.from_residual-in_err-drain.ensures.1 in
-    rw (p.1, p.2) (c.in_err-drain.ensures.first whole old _ middle)
+    rw (p.1, p.2) (c.in_err-drain.ensures.first d whole old _ middle)
 
 pub returns-in_err-drain-clause-leaves : goal.returns-in_err-drain-clause-leaves
-returns-in_err-drain-clause-leaves g c = λ reads writes whole old before.
-    let middle = c.in_ok-take_piece.ensures.streams reads _ _ whole old _ (c.loop-run.invariant.streams reads whole old before) in
+returns-in_err-drain-clause-leaves g c = λ reads writes d whole old before.
+    let middle = c.in_ok-take_piece.ensures.streams reads d _ _ whole old _ (c.loop-run.invariant.streams reads d whole old before) in
     let p = err_from_is_err_and c.from_residual-in_err-drain.result c.from_residual-in_err-drain.ensures.1 in
-    rw (p.1, p.2) (c.in_err-drain.ensures.leaves writes whole old _ middle)
+    rw (p.1, p.2) (c.in_err-drain.ensures.leaves writes d whole old _ middle)
 
 pub returns-clause-answered : goal.returns-clause-answered
-returns-clause-answered g c = λ reads writes whole old before.
-    stream_done _ _ whole old c.loop-run.run _ _ writes (c.loop-run.invariant.streams reads whole old before) (c.loop-run.invariant.done (search rules))
+returns-clause-answered g c = λ reads writes d whole old before.
+    stream_done d _ _ whole old c.loop-run.run _ _ writes (c.loop-run.invariant.streams reads d whole old before) (c.loop-run.invariant.done (search rules))
 
 pub returns-in_err-take_piece-clause-first : goal.returns-in_err-take_piece-clause-first
-returns-in_err-take_piece-clause-first g c = λ reads whole old before.
+returns-in_err-take_piece-clause-first g c = λ reads d whole old before.
     let p = err_from_is_err_and c.from_residual.result c.from_residual.ensures.1 in
     rw (p.1, p.2) (c.in_err-take_piece.ensures.first whole)

@@ -3,6 +3,7 @@ use Rattle.std.specs.Prelude.{None}
 use Rattle.fmp_feed.specs.Feed.{IsDone}
 use Rattle.fmp_text.specs.Events.{Reading}
 use Rattle.fmp_text.specs.Limits.{most_bytes, most_events}
+use Rattle.fmpsim_run.specs.declared.stream.Detail.{Detail}
 use Rattle.fmpsim_run.specs.Streams.{Streams}
 use Rattle.fmpsim_run.proofs.calls.answer_all.Given as goal
 
@@ -18,9 +19,9 @@ invariant-loop-run g l = record {
   room : 0 < length l.piece;
   done : l.run.feed.ended ≡ true → IsDone l.config.names l.run.feed;
   end : IsTrue g.S.Source.tells → l.run.feed.ended ≡ true → g.S.Source.left l.events ≡ [];
-  streams : IsTrue g.S.Source.tells → (whole : Reading) (old : List ℕ)
-      → Streams g.W.Sink.tells l.config whole old l.fn.run (g.W.Sink.written l.fn.trace) (g.S.Source.left l.fn.events)
-      → Streams g.W.Sink.tells l.config whole old l.run (g.W.Sink.written l.trace) (g.S.Source.left l.events);
+  streams : IsTrue g.S.Source.tells → (d : Detail) (whole : Reading) (old : List ℕ)
+      → Streams d g.W.Sink.tells l.config whole old l.fn.run (g.W.Sink.written l.fn.trace) (g.S.Source.left l.fn.events)
+      → Streams d g.W.Sink.tells l.config whole old l.run (g.W.Sink.written l.trace) (g.S.Source.left l.events);
 }
 
 abbrev pub decreases-loop-run : goal.decreases-loop-run

@@ -1,5 +1,6 @@
 use Rattle.std.proofs.Common.{[]}
 use Rattle.std.proofs.lemmas.Result.{err_from_is_err_and}
+use Rattle.fmpsim_run.specs.declared.stream.Detail.TheVariants as detail
 use Rattle.fmpsim_run.proofs.Ended.{answered_result, first_result, leaves_result, no_text, nothing_out}
 use Rattle.fmpsim_run.proofs.calls.run_calls.Goals as goal
 
@@ -11,7 +12,7 @@ returns-in_err-configuration-clause-text_fault g c = λ tells tells_too.
 pub returns-in_err-configuration-clause-leaves : goal.returns-in_err-configuration-clause-leaves
 returns-in_err-configuration-clause-leaves g c = λ configs reads writes.
     let p = err_from_is_err_and c.from_residual.result c.from_residual.ensures.1 in
-    rw (p.1, p.2) (nothing_out _ _ _ c.in_err-configuration.field-0.0 c.in_err-configuration.ensures.kinds.0 c.in_err-configuration.ensures.kinds.1)
+    rw (p.1, p.2) (nothing_out _ _ _ _ c.in_err-configuration.field-0.0 c.in_err-configuration.ensures.kinds.0 c.in_err-configuration.ensures.kinds.1)
 
 pub returns-clause-answered : goal.returns-clause-answered
 returns-clause-answered g c = λ configs reads writes.
@@ -24,5 +25,5 @@ returns-clause-text_fault g c = λ configs reads.
 
 pub returns-clause-leaves : goal.returns-clause-leaves
 returns-clause-leaves g c = λ configs reads writes.
-    leaves_result _ _ _ c.in_ok-configuration.configuration (c.in_ok-configuration.ensures.ok configs) _ c.answer_text.result c.answer_text.ensures.kinds
+    leaves_result _ _ _ c.in_ok-configuration.configuration (c.in_ok-configuration.ensures.ok configs) detail.Line _ c.answer_text.result c.answer_text.ensures.kinds
     (c.answer_text.ensures.leaves reads writes)

@@ -1,6 +1,7 @@
 use Rattle.std.proofs.Common.{◌≡◌, ◌-◌, ◌≤◌, ℕ, List, length}
 use Rattle.fmp_text.specs.Events.{Reading}
 use Rattle.fmp_text.specs.Limits.{most_events}
+use Rattle.fmpsim_run.specs.declared.stream.Detail.{Detail}
 use Rattle.fmpsim_run.specs.Streams.{Streams}
 use Rattle.fmpsim_run.proofs.stream.Answering.drain.Given as goal
 
@@ -11,9 +12,9 @@ invariant-loop g l = record {
   few : l.self.feed.events ≤ most_events;
   processors : length l.self.kernel.processors ≡ length l.fn.self.kernel.processors;
   same : (l.self.feed.ended ≡ l.fn.self.feed.ended) × (l.self.feed.taken ≡ l.fn.self.feed.taken) × (l.self.feed.dropped ≡ l.fn.self.feed.dropped);
-  streams : (whole : Reading) (old remaining : List ℕ)
-      → Streams g.W.Sink.tells l.config whole old l.fn.self (g.W.Sink.written l.fn.trace) remaining
-      → Streams g.W.Sink.tells l.config whole old l.self (g.W.Sink.written l.trace) remaining;
+  streams : (d : Detail) (whole : Reading) (old remaining : List ℕ)
+      → Streams d g.W.Sink.tells l.config whole old l.fn.self (g.W.Sink.written l.fn.trace) remaining
+      → Streams d g.W.Sink.tells l.config whole old l.self (g.W.Sink.written l.trace) remaining;
 }
 
 abbrev pub decreases-loop : goal.decreases-loop

@@ -1,0 +1,109 @@
+//! The lines of the tasks that wait or are suspended.
+ghost use Rattle.std.specs.Prelude.{◌≡◌, ◌++◌, length, OnOk};
+ghost use Rattle.fmp_states.specs.States as spec;
+
+use crate::processors::put_flag;
+use fmp_calls::ObjectKind;
+use fmp_codes::{Object, Task};
+use fmp_kernel::Kernel;
+use fmp_machine::{TaskRecord, Wait};
+use fmp_names::Names;
+use fmp_trace::{put_named, put_number, put_task};
+use std::alloc::AllocError;
+
+#[tactic(auto, unfolding(crate::specs::States::object_wait))]
+fn put_object_wait(
+    out: &mut Vec<u8>,
+    names: &Names,
+    word: &[u8],
+    kind: ObjectKind,
+    object: Object,
+) -> Result<(), AllocError>
+    ensures { OnOk result (out.new.items ≡ out.old.items ++ spec.object_wait names.now word.now kind object) }
+{
+    out.extend_from_slice(b" waits ")?;
+    out.extend_from_slice(word)?;
+    out.push(b' ')?;
+    put_named(out, names, kind, usize::from(object.number))
+}
+
+fn put_wait(out: &mut Vec<u8>, names: &Names, wait: Wait) -> Result<(), AllocError>
+    ensures { OnOk result (out.new.items ≡ out.old.items ++ spec.wait_text names.now wait) }
+{
+    match wait {
+        Wait::Sleep => out.extend_from_slice(b" waits slp"),
+        Wait::Delay => out.extend_from_slice(b" waits dly"),
+        Wait::Semaphore(s) => put_object_wait(out, names, b"sem", ObjectKind::Semaphore, s),
+        Wait::Eventflag(f, _, _) => put_object_wait(out, names, b"flg", ObjectKind::Eventflag, f),
+        Wait::Send(d, _) => put_object_wait(out, names, b"sdtq", ObjectKind::DataQueue, d),
+        Wait::Receive(d) => put_object_wait(out, names, b"rdtq", ObjectKind::DataQueue, d),
+        Wait::Pool(m) => put_object_wait(out, names, b"mpf", ObjectKind::Pool, m),
+    }
+}
+
+/// Adds what a task waits for, if it waits.
+fn put_waiting(out: &mut Vec<u8>, names: &Names, wait: Option<Wait>) -> Result<(), AllocError>
+    ensures { OnOk result (out.new.items ≡ out.old.items ++ spec.waiting_text names.now wait) }
+{
+    match wait {
+        None => Ok(()),
+        Some(wait) => put_wait(out, names, wait),
+    }
+}
+
+/// Adds the ticks left of a wait, where it is timed.
+fn put_left(out: &mut Vec<u8>, left: Option<u64>) -> Result<(), AllocError>
+    ensures { OnOk result (out.new.items ≡ out.old.items ++ spec.left_text left) }
+{
+    if let Some(left) = left {
+        out.extend_from_slice(b" left=")?;
+        put_number(out, left)?;
+    }
+    Ok(())
+}
+
+#[tactic(auto, unfolding(crate::specs::States::blocked_text))]
+fn put_blocked(
+    out: &mut Vec<u8>,
+    names: &Names,
+    t: Task,
+    task: &TaskRecord,
+    left: Option<u64>,
+) -> Result<(), AllocError>
+    ensures { OnOk result (out.new.items ≡ out.old.items ++ spec.blocked_text names.now t task.now left) }
+{
+    out.extend_from_slice(b"  ")?;
+    put_task(out, names, t)?;
+    put_flag(out, task.suspended, b" suspended")?;
+    put_waiting(out, names, task.wait)?;
+    put_left(out, left)?;
+    out.push(b'\n')?;
+    Ok(())
+}
+
+/// Adds the line of a task, if it waits or is suspended.
+fn put_line(
+    out: &mut Vec<u8>,
+    names: &Names,
+    t: Task,
+    task: &TaskRecord,
+    left: Option<u64>,
+) -> Result<(), AllocError>
+    ensures { OnOk result (out.new.items ≡ out.old.items ++ spec.task_line names.now t task.now left) }
+{
+    if task.wait.is_some() || task.suspended {
+        put_blocked(out, names, t, task, left)?;
+    }
+    Ok(())
+}
+
+/// Adds the lines of all tasks that wait or are suspended.
+pub(crate) fn put_tasks(out: &mut Vec<u8>, names: &Names, kernel: &Kernel) -> Result<(), AllocError>
+    ensures { OnOk result (out.new.items ≡ out.old.items ++ spec.tasks_text names.now kernel.now (length kernel.now.tasks)) }
+{
+    for index in 0..kernel.task_count() {
+        let t = Task::from_index(index);
+        put_line(out, names, t, &kernel.task(t), kernel.wait_left(t))?;
+    }
+    Ok(())
+}

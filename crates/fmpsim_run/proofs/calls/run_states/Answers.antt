@@ -1,0 +1,29 @@
+use Rattle.std.proofs.Common.{[]}
+use Rattle.std.proofs.lemmas.Result.{err_from_is_err_and}
+use Rattle.fmpsim_run.specs.declared.stream.Detail.TheVariants as detail
+use Rattle.fmpsim_run.proofs.Ended.{states_result, first_result, leaves_result, no_text, nothing_out}
+use Rattle.fmpsim_run.proofs.calls.run_states.Goals as goal
+
+pub returns-in_err-machine-clause-text_fault : goal.returns-in_err-machine-clause-text_fault
+returns-in_err-machine-clause-text_fault g c = λ tells tells_too.
+    let p = err_from_is_err_and c.from_residual.result c.from_residual.ensures.1 in
+    rw (p.1, p.2) (no_text _ _ [] c.in_err-machine.field-0.0 c.in_err-machine.ensures.kinds.0)
+
+pub returns-in_err-machine-clause-leaves : goal.returns-in_err-machine-clause-leaves
+returns-in_err-machine-clause-leaves g c = λ configs reads writes.
+    let p = err_from_is_err_and c.from_residual.result c.from_residual.ensures.1 in
+    rw (p.1, p.2) (nothing_out _ _ _ _ c.in_err-machine.field-0.0 c.in_err-machine.ensures.kinds.0 c.in_err-machine.ensures.kinds.1)
+
+pub returns-clause-answered : goal.returns-clause-answered
+returns-clause-answered g c = λ configs reads writes.
+    states_result _ _ _ c.in_ok-machine.machine (c.in_ok-machine.ensures.ok configs) _ c.answer_text.result c.answer_text.ensures.valid
+    (c.answer_text.ensures.answered reads writes)
+
+pub returns-clause-text_fault : goal.returns-clause-text_fault
+returns-clause-text_fault g c = λ configs reads.
+    first_result _ _ [] c.in_ok-machine.machine (c.in_ok-machine.ensures.ok configs) c.answer_text.result (c.answer_text.ensures.first reads)
+
+pub returns-clause-leaves : goal.returns-clause-leaves
+returns-clause-leaves g c = λ configs reads writes.
+    leaves_result _ _ _ c.in_ok-machine.machine (c.in_ok-machine.ensures.ok configs) detail.State _ c.answer_text.result c.answer_text.ensures.kinds
+    (c.answer_text.ensures.leaves reads writes)

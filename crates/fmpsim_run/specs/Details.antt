@@ -1,0 +1,60 @@
+-- What a run writes that tells the state after each event, too.
+use Rattle.std.specs.Prelude.{◌≡◌, ℕ, ◌+◌, List, [], ◌∷◌, ◌++◌}
+use Rattle.fmp_codes.specs.declared.records.Event.{Event}
+use Rattle.fmp_codes.specs.declared.records.Record.{Record}
+use Rattle.fmp_text.specs.TextGrammar.{SpellsText}
+use Rattle.fmp_names.specs.Names.{NameLists}
+use Rattle.fmp_machine.specs.Setup.{Setup}
+use Rattle.fmp_machine.specs.Boot.{booted}
+use Rattle.fmp_machine.specs.Numbers.{State, numbered}
+use Rattle.fmp_machine.specs.Step.{answers, step}
+use Rattle.fmp_safety.specs.Runs.{IsSafeThroughout}
+use Rattle.fmp_balance.specs.Balance.{IsBalancedThroughout}
+use Rattle.fmp_trace.specs.Lines.{line_text}
+use Rattle.fmp_states.specs.States.{state_text}
+use Rattle.fmpsim_run.specs.declared.stream.Detail.{Detail}
+use Rattle.fmpsim_run.specs.declared.stream.Detail.TheVariants as detail
+use Rattle.fmpsim_run.specs.Runs.{LeavesWritten, SaysConfig, Writing, trace_of}
+use Rattle.fmpsim_run.specs.declared.fault.RunFault.{RunFault}
+
+-- what is written behind the line of an event that led to this state
+abbrev pub behind_line : Detail → NameLists → State → List ℕ
+behind_line detail.Line lists m = []
+behind_line detail.State lists m = state_text lists m
+
+-- what is written of an event in line n, by what was done
+abbrev pub entry_text : Detail → NameLists → ℕ → State × Record → List ℕ
+entry_text d lists n did = line_text lists n did.1 ++ behind_line d lists did.0
+
+-- the lines of the events from line n on, each with the state that its event led to
+abbrev pub states_from : NameLists → ℕ → State → List Event → List ℕ
+states_from lists n m [] = []
+states_from lists n m (e ∷ es) =
+    (line_text lists n (step numbered m e).1 ++ state_text lists (step numbered m e).0) ++ states_from lists (n + 1) (step numbered m e).0 es
+
+-- the trace of what a machine answers to events, with the states that these lead to
+unfoldable pub states_of : Setup → List Event → List ℕ
+states_of config events = states_from config.names 1 (booted config) events
+
+abbrev pub detail_of : Detail → Writing
+detail_of detail.Line = trace_of
+detail_of detail.State = states_of
+
+-- The output is the trace of the one text's machine over the other's events, with the state after each. Every front of these
+-- leads to a safe state, in which what the records so far say came in and went out agrees with what is there.
+pub record ToldStates (config_text event_text output : List ℕ) : Type 0 where
+  pub config : Setup
+  pub events : List Event
+  pub says : SaysConfig config_text config
+  pub lists : SpellsText config.names event_text events
+  pub prints : output ≡ states_from config.names 1 (booted config) events
+  pub safe : IsSafeThroughout (booted config) events
+  pub balanced : IsBalancedThroughout config events (answers numbered (booted config) events)
+
+-- the output was written after old, all of it
+abbrev pub AreStatesTold : List ℕ → List ℕ → List ℕ → List ℕ → Type 0
+AreStatesTold config_text event_text old new = (output : List ℕ) × ToldStates config_text event_text output × (new ≡ old ++ output)
+
+-- what was written after old, where a run that tells the states ends with this fault
+abbrev pub LeavesStates : List ℕ → List ℕ → List ℕ → List ℕ → RunFault → Type 0
+LeavesStates config_text event_text old new fault = LeavesWritten states_of config_text event_text old new fault
