@@ -18,6 +18,9 @@ pub struct ConfigFault {
     pub kind: ConfigKind,
     pub line: u32,
     pub word: ArrayString<MOST_NAME_BYTES>,
+    /// A hint where the token at fault stands, which no contract rests on: how many bytes of the text are left from its first one
+    /// on, and 0 where no token is at fault.
+    pub left: usize,
 }
 
 /// As it is told to a user, with the word where there is one: `line 4: F3 unsupported API CRE_MTX`.
@@ -79,11 +82,13 @@ impl ConfigFault {
                 kind: ConfigKind::Memory,
                 line: 0,
                 word: ArrayString::new(),
+                left: 0,
             },
             ReadError::Fault(fault) => ConfigFault {
                 kind: fault.kind(),
                 line: fault.line(),
                 word: word_of(fault.is_marked(), fault.word()),
+                left: fault.left(),
             },
         }
     }

@@ -71,7 +71,7 @@ fn put_kinds(out: &mut Vec<u8>, kinds: &[ArgumentKind]) -> Result<(), AllocError
 
 /// Adds a call as it is written, with the kinds of its arguments.
 #[tactic(auto, unfolding(crate::specs::Calls::line_of))]
-pub(crate) fn put_call(out: &mut Vec<u8>, call: Call) -> Result<(), AllocError>
+pub fn put_call(out: &mut Vec<u8>, call: Call) -> Result<(), AllocError>
     ensures { OnOk result (out.new.items ≡ out.old.items ++ spec.line_of call) }
 {
     let form = form(call);
@@ -84,8 +84,9 @@ pub(crate) fn put_call(out: &mut Vec<u8>, call: Call) -> Result<(), AllocError>
     out.extend_from_slice(b"\n")
 }
 
+/// Adds what may be written for an argument of a kind.
 #[tactic(auto, unfolding(crate::specs::Calls::argument_of))]
-fn put_argument(out: &mut Vec<u8>, kind: ArgumentKind) -> Result<(), AllocError>
+pub fn put_argument(out: &mut Vec<u8>, kind: ArgumentKind) -> Result<(), AllocError>
     ensures { OnOk result (out.new.items ≡ out.old.items ++ spec.argument_of kind) }
 {
     out.extend_from_slice(b"  ")?;
@@ -217,7 +218,7 @@ fn put_spin_calls(out: &mut Vec<u8>) -> Result<(), AllocError>
 
 /// Adds a line for each call.
 #[tactic(auto, unfolding(crate::specs::Calls::all_calls))]
-pub(crate) fn put_calls(out: &mut Vec<u8>) -> Result<(), AllocError>
+pub fn put_calls(out: &mut Vec<u8>) -> Result<(), AllocError>
     ensures { OnOk result (out.new.items ≡ out.old.items ++ spec.all_calls) }
 {
     put_task_calls(out)?;

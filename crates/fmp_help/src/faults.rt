@@ -120,6 +120,13 @@ fn put_advice(out: &mut Vec<u8>, advice: &[u8]) -> Result<(), AllocError>
     out.extend_from_slice(b"\n")
 }
 
+/// Adds what to do about a fault of a configuration.
+pub fn put_config_advice(out: &mut Vec<u8>, kind: ConfigKind) -> Result<(), AllocError>
+    ensures { OnOk result (out.new.items ≡ out.old.items ++ spec.advice_line (spec.config_advice kind)) }
+{
+    put_advice(out, config_advice(kind))
+}
+
 /// Adds a fault of a configuration, and what to do about it.
 #[tactic(auto, unfolding(crate::specs::Faults::about_config))]
 pub(crate) fn put_about_config(out: &mut Vec<u8>, kind: ConfigKind) -> Result<(), AllocError>
@@ -127,6 +134,13 @@ pub(crate) fn put_about_config(out: &mut Vec<u8>, kind: ConfigKind) -> Result<()
 {
     put_config_line(out, kind)?;
     put_advice(out, config_advice(kind))
+}
+
+/// Adds what to do about a fault of events, scripts or a trace.
+pub fn put_text_advice(out: &mut Vec<u8>, kind: TextKind) -> Result<(), AllocError>
+    ensures { OnOk result (out.new.items ≡ out.old.items ++ spec.advice_line (spec.text_advice kind)) }
+{
+    put_advice(out, text_advice(kind))
 }
 
 /// Adds a fault of events, scripts or a trace, and what to do about it.

@@ -8,4 +8,7 @@ mod left_out;
 mod listing;
 mod statements;
 
+pub use calls::{put_argument, put_call};
+pub use faults::{put_config_advice, put_text_advice};
 pub use listing::{about, everything};
+pub use statements::put_about as put_statement;

@@ -159,7 +159,7 @@ fn put_ranges(out: &mut Vec<u8>, name: StatementName) -> Result<(), AllocError>
 
 /// Adds a statement, the attributes that it allows, and the ranges of its numbers on the greatest machine.
 #[tactic(auto, unfolding(crate::specs::Statements::about))]
-pub(crate) fn put_about(out: &mut Vec<u8>, name: StatementName) -> Result<(), AllocError>
+pub fn put_about(out: &mut Vec<u8>, name: StatementName) -> Result<(), AllocError>
     ensures { OnOk result (out.new.items ≡ out.old.items ++ spec.about name) }
 {
     put_statement(out, name)?;

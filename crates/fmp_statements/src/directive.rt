@@ -54,7 +54,7 @@ fn named<'a>(line: u32, token: &Token<'a>) -> Result<Directive<'a>, Fault<'a>>
     } else if token.text() == b"define".as_slice() {
         Ok(Directive::Naming(line))
     } else {
-        Err(Fault::of_directive(line, token.text()))
+        Err(Fault::of_directive(line, &Word::of(token)))
     }
 }
 

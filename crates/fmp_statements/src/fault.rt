@@ -93,6 +93,7 @@ pub struct Fault<'a> {
     /// The token is the name of a directive.
     marked: bool,
     text: &'a [u8],
+    left: usize,
 }
 
 impl<'a> Model for Fault<'a> {
@@ -120,11 +121,13 @@ impl<'a> Fault<'a> {
     {
         let marked = false;
         let text = word.text();
+        let left = word.left();
         Fault {
             kind,
             line,
             marked,
             text,
+            left,
         }
     }
 
@@ -134,26 +137,30 @@ impl<'a> Fault<'a> {
     {
         let marked = false;
         let text: &[u8] = &[];
+        let left = 0;
         Fault {
             kind,
             line,
             marked,
             text,
+            left,
         }
     }
 
     /// A directive of another name than those that are read.
-    pub fn of_directive(line: u32, name: &'a [u8]) -> Self
-        ensures { result ≡ spec.unknown_directive line name.now }
+    pub fn of_directive(line: u32, name: &Word<'a>) -> Self
+        ensures { result ≡ spec.unknown_directive line name.now.text }
     {
         let kind = ConfigKind::Unsupported;
         let marked = true;
-        let text = name;
+        let text = name.text();
+        let left = name.left();
         Fault {
             kind,
             line,
             marked,
             text,
+            left,
         }
     }
 
@@ -183,6 +190,12 @@ impl<'a> Fault<'a> {
         ensures { result.now ≡ self.now.word }
     {
         self.text
+    }
+
+    /// A hint where the token at fault stands, which no contract rests on: how many bytes of the text are left from its first one on,
+    /// and 0 where no token is at fault.
+    pub fn left(&self) -> usize {
+        self.left
     }
 }
 

@@ -10,6 +10,7 @@ use std::marker::Model;
 pub struct Word<'a> {
     text: &'a [u8],
     line: u32,
+    left: usize,
 }
 
 impl<'a> Model for Word<'a> {
@@ -28,7 +29,11 @@ impl<'a> Word<'a> {
     pub fn none() -> Self
         ensures { result ≡ spec.no_word }
     {
-        Word { text: &[], line: 0 }
+        Word {
+            text: &[],
+            line: 0,
+            left: 0,
+        }
     }
 
     /// The word of a token.
@@ -38,6 +43,7 @@ impl<'a> Word<'a> {
         Word {
             text: token.text(),
             line: token.line(),
+            left: token.left(),
         }
     }
 
@@ -53,6 +59,12 @@ impl<'a> Word<'a> {
         ensures { result ≡ self.now.line }
     {
         self.line
+    }
+
+    /// A hint where the token stands, which no contract rests on: how many bytes of the text are left from its first one on, and 0
+    /// where there is no token.
+    pub fn left(&self) -> usize {
+        self.left
     }
 }
 

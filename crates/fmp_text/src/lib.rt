@@ -9,6 +9,7 @@ mod laws;
 mod line;
 mod scan;
 
+pub use argument::{is_argument, value_at};
 pub use call::read_call;
 pub use events::{MOST_BYTES, MOST_EVENTS, read_events};
 pub use fault::{TextFault, TextKind};
@@ -20,5 +21,5 @@ pub use laws::{
     spelled_calls_are_read, spelled_texts_are_read, spelled_values_are_read,
     texts_are_read_line_by_line, texts_spell_one_list,
 };
-pub use line::{is_skipped, line_event, processor_numbered, without_return};
+pub use line::{is_skipped, line_event, processor_in, processor_numbered, without_return};
 pub use scan::{Scan, first_said};

@@ -40,9 +40,9 @@ fn digits_of(word: &[u8]) -> Option<&[u8]>
     }
 }
 
-/// The processor that `P` and a number name.
+/// The processor that `P` and a number name. Another word is a bad one, and another number out of range.
 #[tactic(auto, unfolding(crate::specs::Lines::processor_in))]
-fn processor_in(names: &Names, word: &[u8]) -> Result<Proc, TextKind>
+pub fn processor_in(names: &Names, word: &[u8]) -> Result<Proc, TextKind>
     ensures { result ≡ spec.processor_in names.now word.now }
 {
     let digits = digits_of(word).ok_or(TextKind::BadWord)?;

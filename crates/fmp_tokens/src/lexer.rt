@@ -42,6 +42,22 @@ fn token_text(kind: TokenKind, bytes: &[u8]) -> &[u8]
     }
 }
 
+/// How many bytes are left from the last `"` on that began a string.
+fn quote_left(mode: Mode, next: Mode, quoted: usize, left: usize) -> usize {
+    match (mode, next) {
+        (Mode::Gap(_) | Mode::Word(_), Mode::Quoted(_)) => left,
+        _ => quoted,
+    }
+}
+
+/// How many bytes are left from a token on. A string is given at its end.
+fn token_left(kind: TokenKind, quoted: usize, left: usize) -> usize {
+    match kind {
+        TokenKind::Text => quoted,
+        _ => left,
+    }
+}
+
 /// What the end of the text gives in this place and line: the end of a directive, and that no tokens follow.
 #[tactic(auto, unfolding(crate::specs::Lexing::lexed, crate::specs::Lexing::ended_in))]
 fn ended_at<'a>(place: Place, line: u32) -> Result<(Token<'a>, Lexer<'a>), End>
@@ -56,7 +72,7 @@ fn ended_at<'a>(place: Place, line: u32) -> Result<(Token<'a>, Lexer<'a>), End>
                 mode: Mode::Gap(Place::LineStart),
                 line,
             };
-            Ok((Token::new(TokenKind::DirectiveEnd, &[], line), after))
+            Ok((Token::new(TokenKind::DirectiveEnd, &[], line, 0), after))
         }
     }
 }
@@ -103,12 +119,17 @@ impl<'a> Lexer<'a> {
         let mut rest = self.rest;
         let mut mode = self.mode;
         let mut line = self.line;
+        let mut quoted = 0;
         while let Some((byte, after)) = rest.split_first() {
             let next_line = line_after(line, *byte);
             match step_of(mode, line, *byte, after) {
-                Step::Pass(next) => mode = next,
+                Step::Pass(next) => {
+                    quoted = quote_left(mode, next, quoted, rest.len());
+                    mode = next;
+                }
                 Step::Give(kind, at, next) => {
-                    let token = Token::new(kind, token_text(kind, rest), at);
+                    let left = token_left(kind, quoted, rest.len());
+                    let token = Token::new(kind, token_text(kind, rest), at, left);
                     let others = Lexer {
                         rest: after,
                         mode: next,

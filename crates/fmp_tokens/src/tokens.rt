@@ -37,6 +37,7 @@ pub struct Token<'a> {
     kind: TokenKind,
     text: &'a [u8],
     line: u32,
+    left: usize,
 }
 
 impl<'a> Model for Token<'a> {
@@ -48,11 +49,16 @@ impl<'a> Model for Token<'a> {
 }
 
 impl<'a> Token<'a> {
-    /// The token of a kind, these bytes and a line.
-    pub(crate) fn new(kind: TokenKind, text: &'a [u8], line: u32) -> Token<'a>
+    /// The token of a kind, these bytes, a line, and how many bytes are left from it on.
+    pub(crate) fn new(kind: TokenKind, text: &'a [u8], line: u32, left: usize) -> Token<'a>
         ensures { result ≡ record { kind = kind; text = text.now; line = line } }
     {
-        Token { kind, text, line }
+        Token {
+            kind,
+            text,
+            line,
+            left,
+        }
     }
 
     /// The token's kind.
@@ -74,5 +80,10 @@ impl<'a> Token<'a> {
         ensures { result ≡ self.now.line }
     {
         self.line
+    }
+
+    /// A hint where the token stands, which no contract rests on: how many bytes of the text are left from its first one on.
+    pub fn left(&self) -> usize {
+        self.left
     }
 }

@@ -1,6 +1,7 @@
 //! The command line.
 use clap::error::ErrorKind;
 use clap::{Arg, ArgAction, ArgMatches, Command, Error};
+use fmp_context::TextForm;
 use fmp_smp_command::{SmpRequest, parse_smp, path, smp_command};
 use fmp_trace::Shown;
 use fmpsim_run::Status;
@@ -35,12 +36,22 @@ who made the call, the event, the answer, and what it changed:
 Each line is written as its event comes. Where a text has a fault, the trace of the events
 before it is written.
 
+With --state the state of the machine follows each line: what each processor runs, the other
+ready tasks there in their precedence, and the tasks that wait or are suspended:
+
+  1 P1 T1 act_tsk(T2) E_OK run=T2
+    P1 run=T2 ready=T1
+    P2 run=-
+    T3 waits sem S1 left=10
+
 Exit status:
   0  done
   1  a fault in a text, told on standard error with its line
   2  the command line is wrong
   3  a file could not be read, or the output not be written
   4  want of memory";
+
+const STATE: &str = "state";
 
 const CHECK_ABOUT: &str = "Says whether a trace is what the machine answers to its events";
 
@@ -92,11 +103,15 @@ const SHOW: &str = "show";
 
 const ALL: &str = "all";
 
+const CONTEXT: &str = "context";
+
 /// The paths of a configuration and of the other text.
 #[derive(Clone, Copy, Debug)]
 pub struct Paths<'a> {
     pub config: &'a str,
     pub text: &'a str,
+    /// What the other text is, where what stands beside a fault is to be shown.
+    pub context: Option<TextForm>,
 }
 
 /// What the command line asks for.
@@ -104,6 +119,8 @@ pub struct Paths<'a> {
 pub enum Request<'a> {
     /// The trace of a configuration over a list of events.
     Calls(Paths<'a>),
+    /// That, with the state after each event.
+    States(Paths<'a>),
     /// Whether a trace is the machine's.
     Check(Paths<'a>),
     /// Where a trace is not the machine's.
@@ -133,7 +150,9 @@ fn calls_command<'a>(alloc: Global) -> Result<Command<'a>, AllocError> {
             alloc,
             "EVENTS",
             "Path of the list of events, or - for standard input",
-        ))
+        ))?
+        .arg(flag(alloc, STATE, "Also writes the state after each event"))?
+        .arg(context(alloc))
 }
 
 /// An option without a value.
@@ -142,6 +161,14 @@ fn flag<'a>(alloc: Global, id: &'a str, about: &'a str) -> Arg<'a> {
         .long(id)
         .action(ArgAction::SetTrue)
         .help(about)
+}
+
+fn context<'a>(alloc: Global) -> Arg<'a> {
+    flag(
+        alloc,
+        CONTEXT,
+        "Shows below a fault its line, its place and what is wanted there",
+    )
 }
 
 fn check_command<'a>(alloc: Global) -> Result<Command<'a>, AllocError> {
@@ -158,7 +185,8 @@ fn check_command<'a>(alloc: Global) -> Result<Command<'a>, AllocError> {
         .arg(path(alloc, "CFG", "Path of the configuration"))?
         .arg(path(alloc, "TRACE", "Path of the trace"))?
         .arg(show)?
-        .arg(all)
+        .arg(all)?
+        .arg(context(alloc))
 }
 
 fn list_command<'a>(alloc: Global) -> Result<Command<'a>, AllocError> {
@@ -187,21 +215,27 @@ fn whole_command<'a>(alloc: Global) -> Result<Command<'a>, AllocError> {
 }
 
 /// The two paths that the words behind a subcommand name.
-fn named_paths<'a>(matches: &ArgMatches<'a>, text: &str) -> Paths<'a> {
+fn named_paths<'a>(matches: &ArgMatches<'a>, text: &str, form: TextForm) -> Paths<'a> {
     Paths {
         config: matches.get_str("CFG").unwrap_or(""),
         text: matches.get_str(text).unwrap_or(""),
+        context: matches.get_flag(CONTEXT).then_some(form),
     }
 }
 
 fn parse_calls<'a>(alloc: Global, words: &'a [String]) -> Result<Request<'a>, Error> {
     let matches = calls_command(alloc)?.try_get_matches_from(words)?;
-    Ok(Request::Calls(named_paths(&matches, "EVENTS")))
+    let paths = named_paths(&matches, "EVENTS", TextForm::Events);
+    Ok(if matches.get_flag(STATE) {
+        Request::States(paths)
+    } else {
+        Request::Calls(paths)
+    })
 }
 
 fn parse_check<'a>(alloc: Global, words: &'a [String]) -> Result<Request<'a>, Error> {
     let matches = check_command(alloc)?.try_get_matches_from(words)?;
-    let paths = named_paths(&matches, "TRACE");
+    let paths = named_paths(&matches, "TRACE", TextForm::Trace);
     Ok(match (matches.get_flag(SHOW), matches.get_flag(ALL)) {
         (true, _) => Request::Report(paths, Shown::First),
         (false, true) => Request::Report(paths, Shown::Each),

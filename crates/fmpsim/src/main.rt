@@ -1,19 +1,21 @@
 //! fmpsim: reads a configuration and another text from files, or that text from standard input. Writes the trace of the
-//! machine's answers to events or of processors that follow scripts, or whether and where a trace is what the machine answers. Or
-//! it lists what may be written in these texts.
+//! machine's answers to events or of processors that follow scripts, or whether and where a trace is what the machine answers.
+//! Or it lists what may be written in these texts.
 #![tactic(auto)]
 
+mod beside;
 mod cli;
 #[cfg(test)]
 mod tests;
 
 use cli::{Paths, Request};
+use fmp_context::TextForm;
 use fmp_smp::Open;
 use fmp_smp_command::{Limits, SmpRequest};
 use fmp_trace::Shown;
 use fmpsim_run::{
     FaultLine, ReadSource, RunFault, Status, WriteSink, run_calls, run_check, run_report,
-    run_seeded, run_threads,
+    run_seeded, run_states, run_threads,
 };
 use std::io::{Input, Read, Write};
 use std::process::ExitCode;
@@ -26,10 +28,11 @@ use std::{env, fs, io};
 const NO_PATHS: Paths<'static> = Paths {
     config: "",
     text: "",
+    context: None,
 };
 
 /// The path in whose place events or scripts are read from standard input.
-const STANDARD_INPUT: &str = "-";
+pub const STANDARD_INPUT: &str = "-";
 
 /// Writes the trace of the machine's answers, each line as its event comes.
 fn answered<R, C, E>(rt: &R, config: C, events: E) -> Result<Status, RunFault>
@@ -39,6 +42,22 @@ where
     E: Read + Drop,
 {
     run_calls(
+        rt.alloc(),
+        &mut ReadSource::new(config),
+        &mut ReadSource::new(events),
+        &mut WriteSink::new(rt.alloc(), io::writer(rt))?,
+    )?;
+    Ok(Status::Done)
+}
+
+/// Writes the same with the state after each event.
+fn states_told<R, C, E>(rt: &R, config: C, events: E) -> Result<Status, RunFault>
+where
+    R: Print + AllocGlobal,
+    C: Read + Drop,
+    E: Read + Drop,
+{
+    run_states(
         rt.alloc(),
         &mut ReadSource::new(config),
         &mut ReadSource::new(events),
@@ -58,6 +77,19 @@ fn calls<R: Files + Input + Print + AllocGlobal>(
     }
     let events = fs::open(rt, paths.text).map_err(|_| RunFault::Read)?;
     answered(rt, config, events)
+}
+
+/// The same with the state after each event.
+fn states<R: Files + Input + Print + AllocGlobal>(
+    rt: &R,
+    paths: &Paths<'_>,
+) -> Result<Status, RunFault> {
+    let config = fs::open(rt, paths.config).map_err(|_| RunFault::Read)?;
+    if paths.text == STANDARD_INPUT {
+        return states_told(rt, config, rt.reader());
+    }
+    let events = fs::open(rt, paths.text).map_err(|_| RunFault::Read)?;
+    states_told(rt, config, events)
 }
 
 /// Opens both files before it reads either, and writes whether the trace is the machine's.
@@ -177,10 +209,18 @@ fn failed<R: Eprint>(rt: &R, paths: &Paths<'_>, fault: &RunFault) -> Status {
 }
 
 /// How a run ends the program. A fault is told.
-fn ended<R: Eprint>(rt: &R, paths: &Paths<'_>, run: Result<Status, RunFault>) -> Status {
+fn ended<R: Files + Eprint + AllocGlobal>(
+    rt: &R,
+    paths: &Paths<'_>,
+    run: Result<Status, RunFault>,
+) -> Status {
     match run {
         Ok(status) => status,
-        Err(fault) => failed(rt, paths, &fault),
+        Err(fault) => {
+            let status = failed(rt, paths, &fault);
+            beside::tell(rt, paths, &fault);
+            status
+        }
     }
 }
 
@@ -206,12 +246,14 @@ fn execute<R: Files + Input + Print + Eprint + AllocGlobal + Threads + Wait + Sy
 ) -> Status {
     match cli::parse(rt.alloc(), words) {
         Ok(Request::Calls(paths)) => ended(rt, &paths, calls(rt, &paths)),
+        Ok(Request::States(paths)) => ended(rt, &paths, states(rt, &paths)),
         Ok(Request::Check(paths)) => ended(rt, &paths, check(rt, &paths)),
         Ok(Request::Report(paths, shown)) => ended(rt, &paths, report(rt, &paths, shown)),
         Ok(Request::Smp(request)) => {
             let paths = Paths {
                 config: request.config,
                 text: request.scripts,
+                context: request.context.then_some(TextForm::Scripts),
             };
             ended(rt, &paths, smp(rt, &request))
         }

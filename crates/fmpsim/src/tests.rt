@@ -1,5 +1,6 @@
 //! What the words of the command line ask for.
 use crate::cli::{self, Request};
+use fmp_context::TextForm;
 use fmp_trace::Shown;
 use fmpsim_run::Status;
 use std::alloc::{AllocError, Global};
@@ -17,7 +18,7 @@ fn words_of(alloc: Global, line: &str) -> Result<Vec<String>, AllocError> {
 
 /// The configuration comes first, then the other text.
 #[test]
-fn both_commands(rt: HostRuntime) -> Result<(), Fail> {
+fn commands_of_two_texts(rt: HostRuntime) -> Result<(), Fail> {
     let words = words_of(rt.alloc(), "fmpsim calls machine.cfg events.txt")?;
     let Request::Calls(paths) = cli::parse(rt.alloc(), words.as_slice())? else {
         return Err("the trace is asked for")?;
@@ -31,6 +32,23 @@ fn both_commands(rt: HostRuntime) -> Result<(), Fail> {
     };
     assert_eq!(rt; paths.config, "machine.cfg");
     assert_eq!(rt; paths.text, "trace.txt");
+    Ok(())
+}
+
+/// The option stands anywhere behind the command.
+#[test]
+fn states(rt: HostRuntime) -> Result<(), Fail> {
+    for line in [
+        "fmpsim calls --state machine.cfg events.txt",
+        "fmpsim calls machine.cfg events.txt --state",
+    ] {
+        let words = words_of(rt.alloc(), line)?;
+        let Request::States(paths) = cli::parse(rt.alloc(), words.as_slice())? else {
+            return Err("the states are asked for")?;
+        };
+        assert_eq!(rt; paths.config, "machine.cfg");
+        assert_eq!(rt; paths.text, "events.txt");
+    }
     Ok(())
 }
 
@@ -72,7 +90,45 @@ fn smp_command(rt: HostRuntime) -> Result<(), Fail> {
         assert_eq!(rt; request.limits.ticks, 0);
         assert_eq!(rt; request.limits.turns, 1_000_000);
         assert_eq!(rt; request.seed, seed);
+        assert!(rt; !request.context);
     }
+    Ok(())
+}
+
+/// What stands beside a fault is asked for before or behind the paths.
+#[test]
+fn contexts(rt: HostRuntime) -> Result<(), Fail> {
+    for (line, context) in [
+        ("fmpsim calls machine.cfg events.txt", None),
+        (
+            "fmpsim calls --context machine.cfg events.txt",
+            Some(TextForm::Events),
+        ),
+        (
+            "fmpsim calls machine.cfg events.txt --context",
+            Some(TextForm::Events),
+        ),
+        (
+            "fmpsim check machine.cfg --context trace.txt",
+            Some(TextForm::Trace),
+        ),
+    ] {
+        let words = words_of(rt.alloc(), line)?;
+        let (Request::Calls(paths) | Request::Check(paths)) = cli::parse(
+            rt.alloc(),
+            words.as_slice(),
+        )?
+        else {
+            return Err("a run is asked for")?;
+        };
+        assert_eq!(rt; paths.config, "machine.cfg");
+        assert_eq!(rt; paths.context, context);
+    }
+    let words = words_of(rt.alloc(), "fmpsim smp --context a b --ticks 0 --turns 1")?;
+    let Request::Smp(request) = cli::parse(rt.alloc(), words.as_slice())? else {
+        return Err("a run of processors is asked for")?;
+    };
+    assert!(rt; request.context);
     Ok(())
 }
 
@@ -119,6 +175,8 @@ fn refused_lines(rt: HostRuntime) -> Result<(), Fail> {
         "fmpsim check --all --all machine.cfg trace.txt",
         "fmpsim check --show=yes machine.cfg trace.txt",
         "fmpsim calls --show machine.cfg events.txt",
+        "fmpsim calls --state=yes machine.cfg events.txt",
+        "fmpsim check --state machine.cfg trace.txt",
         "fmpsim smp machine.cfg scripts.txt",
         "fmpsim smp machine.cfg scripts.txt --ticks 0",
         "fmpsim smp machine.cfg scripts.txt --turns 1",

@@ -1,0 +1,84 @@
+-- What stands beside a fault line of events, scripts or a trace.
+use Rattle.std.specs.Prelude.{ℕ, ◌-◌, not, ◌&&◌, List, [], ◌++◌, Option, Some, None, ◌==◌, if◌then◌else◌, codes}
+use Rattle.std.specs.List.{list_all}
+use Rattle.std.specs.Option.{option_map_or}
+use Rattle.std.specs.Str.{bytes_eq}
+use Rattle.fmp_bytes.specs.declared.classes.Class.TheVariants.{Blank, Word, Line, Printed}
+use Rattle.fmp_bytes.specs.Bytes.{is_of, is_identifier, front, after}
+use Rattle.fmp_calls.specs.Table.{named}
+use Rattle.fmp_context.specs.declared.text.TextForm.{TextForm}
+use Rattle.fmp_context.specs.declared.text.TextForm.TheVariants as forms
+use Rattle.fmp_context.specs.declared.wanted.Wanted.TheVariants as wants
+use Rattle.fmp_context.specs.Contexts.{column_of, context_at, line_behind}
+use Rattle.fmp_context.specs.Excerpts.{excerpt}
+use Rattle.fmp_context.specs.Places.{Walk, behind_name, ending, event_place, going, stuck}
+use Rattle.fmp_help.specs.Faults.{advice_line, text_advice}
+use Rattle.fmp_names.specs.Names.{NameLists}
+use Rattle.fmp_text.specs.declared.fault.TextFault.{TextFault}
+use Rattle.fmp_text.specs.declared.fault.TextKind.{TextKind}
+use Rattle.fmp_text.specs.declared.fault.TextKind.TheVariants as kinds
+use Rattle.fmp_text.specs.Lines.{without_return}
+
+-- a function's name, or what stands behind it
+unfoldable pub function_place : List ℕ → Walk
+function_place text =
+    if is_identifier (front Word text) && not (list_all (is_of Blank) (after Word text)) then stuck (after Blank (after Word text)) wants.LineEnd
+    else stuck text wants.Function
+
+-- a line of a script by its first word: behind `script` and `end`, in the arguments of a call, or at a word that is no call
+unfoldable pub step_place : NameLists → List ℕ → Walk
+step_place names text =
+    if bytes_eq (front Word text) (codes "script") then function_place (after Blank (after Word text))
+    else (if bytes_eq (front Word text) (codes "end") then ending wants.LineEnd (going (after Word text))
+    else option_map_or (λ call. behind_name names call (after Word text)) (named (front Word text)) (stuck text wants.Step))
+
+-- a line of a script that has such a fault. A bad word is the first one
+abbrev pub script_kind_place : NameLists → List ℕ → TextKind → Walk
+script_kind_place names line kinds.BadByte = stuck (after Line line) wants.LineByte
+script_kind_place names line kinds.UnknownName = step_place names (after Blank line)
+script_kind_place names line kinds.WrongArguments = step_place names (after Blank line)
+script_kind_place names line kinds.NumberOutOfRange = step_place names (after Blank line)
+script_kind_place names line kinds.BadWord = stuck (after Blank line) wants.Step
+script_kind_place names line kind = going (after Blank line)
+
+-- a line of a trace: the first byte that may not stand there, or its beginning
+abbrev pub trace_place : List ℕ → TextKind → Walk
+trace_place line kinds.BadByte = going (after Printed line)
+trace_place line kind = going line
+
+-- a line of events. One event more than there may be is at fault from its beginning on
+abbrev pub event_kind_place : NameLists → List ℕ → TextKind → Walk
+event_kind_place names line kinds.TooMany = going (after Blank line)
+event_kind_place names line kind = event_place names line
+
+-- a whole line of a text that has such a fault
+abbrev pub whole_place : NameLists → TextForm → List ℕ → TextKind → Walk
+whole_place names forms.Events line kind = event_kind_place names line kind
+whole_place names forms.Scripts line kind = script_kind_place names line kind
+whole_place names forms.Trace line kind = trace_place line kind
+
+-- the last line, which has no line feed, is at fault at its end
+abbrev pub place : NameLists → TextForm → List ℕ → Option (List ℕ) → TextKind → Walk
+place names form line None kind = going []
+place names form line (Some rest) kind = whole_place names form line kind
+
+-- the line with a caret, and what to do about such a fault
+unfoldable pub advised : List ℕ → Walk → TextKind → List ℕ
+advised line walk kind = excerpt line (column_of line walk) ++ advice_line (text_advice kind)
+
+-- the line with a caret, and what is wanted there, or else what to do about such a fault
+unfoldable pub told : ℕ → List ℕ → Walk → TextKind → List ℕ
+told processors line walk kind = option_map_or (λ text. text) (context_at processors line walk) (advised line walk kind)
+
+unfoldable pub told_line : NameLists → TextForm → List ℕ → Option (List ℕ) → TextKind → List ℕ
+told_line names form line rest kind = told names.processors (without_return line) (place names form (without_return line) rest kind) kind
+
+-- what stands beside a fault without a line, or in a line that is not there
+abbrev pub advice : TextKind → List ℕ
+advice kind = advice_line (text_advice kind)
+
+-- what stands beside a fault
+unfoldable pub text_context : NameLists → TextForm → List ℕ → TextFault → List ℕ
+text_context names form text fault =
+    if fault.line == 0 then advice fault.kind
+    else option_map_or (λ l. told_line names form l.0 l.1 fault.kind) (line_behind (fault.line - 1) text) (advice fault.kind)

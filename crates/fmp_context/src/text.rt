@@ -1,0 +1,185 @@
+//! What stands beside a fault line of events, scripts or a trace.
+ghost use Rattle.std.specs.Prelude.{◌≡◌, IfOk};
+ghost use Rattle.std.specs.Option.{option_copied};
+ghost use Rattle.fmp_context.specs.Texts as spec;
+
+use crate::event::{context_at, event_place};
+use crate::excerpt::put_excerpt;
+use crate::line::line_behind;
+use crate::walk::{Walk, behind_name, ending};
+use crate::wanted::Wanted;
+use fmp_bytes::{Class, all_of, is_identifier, skip, split_front};
+use fmp_calls::find_call;
+use fmp_help::put_text_advice;
+use fmp_text::{Names, TextFault, TextKind, without_return};
+use std::alloc::{AllocError, Global};
+
+/// The texts that are read beside a configuration.
+#[derive(Clone, Copy, Debug, PartialEq, Eq)]
+pub enum TextForm {
+    Events,
+    Scripts,
+    Trace,
+}
+
+/// A function's name, or what stands behind it.
+#[tactic(auto, unfolding(crate::specs::Texts::function_place))]
+fn function_place<'a>(text: &'a [u8]) -> Walk<'a>
+    ensures { result ≡ spec.function_place text.now }
+{
+    let (name, rest) = split_front(Class::Word, text);
+    if is_identifier(name) && !all_of(Class::Blank, rest) {
+        Walk::stuck(skip(Class::Blank, rest), Wanted::LineEnd)
+    } else {
+        Walk::stuck(text, Wanted::Function)
+    }
+}
+
+/// How far a line of a script fits, by its first word.
+#[tactic(auto, unfolding(crate::specs::Texts::step_place))]
+fn step_place<'a>(names: &Names, text: &'a [u8]) -> Walk<'a>
+    ensures { result ≡ spec.step_place names.now text.now }
+{
+    let (word, rest) = split_front(Class::Word, text);
+    if word == b"script".as_slice() {
+        return function_place(skip(Class::Blank, rest));
+    }
+    if word == b"end".as_slice() {
+        return ending(Wanted::LineEnd, Walk::going(rest));
+    }
+    match find_call(word) {
+        Some(call) => behind_name(names, call, rest),
+        None => Walk::stuck(text, Wanted::Step),
+    }
+}
+
+fn script_place<'a>(names: &Names, line: &'a [u8], kind: TextKind) -> Walk<'a>
+    ensures { result ≡ spec.script_kind_place names.now line.now kind }
+{
+    match kind {
+        TextKind::BadByte => Walk::stuck(skip(Class::Line, line), Wanted::LineByte),
+        TextKind::UnknownName | TextKind::WrongArguments | TextKind::NumberOutOfRange => {
+            step_place(names, skip(Class::Blank, line))
+        }
+        TextKind::BadWord => Walk::stuck(skip(Class::Blank, line), Wanted::Step),
+        TextKind::CutShort | TextKind::TooMany | TextKind::Memory => {
+            Walk::going(skip(Class::Blank, line))
+        }
+    }
+}
+
+fn trace_place<'a>(line: &'a [u8], kind: TextKind) -> Walk<'a>
+    ensures { result ≡ spec.trace_place line.now kind }
+{
+    match kind {
+        TextKind::BadByte => Walk::going(skip(Class::Printed, line)),
+        _ => Walk::going(line),
+    }
+}
+
+fn whole_place<'a>(names: &Names, form: TextForm, line: &'a [u8], kind: TextKind) -> Walk<'a>
+    ensures { result ≡ spec.whole_place names.now form line.now kind }
+{
+    match (form, kind) {
+        (TextForm::Events, TextKind::TooMany) => Walk::going(skip(Class::Blank, line)),
+        (TextForm::Events, _) => event_place(names, line),
+        (TextForm::Scripts, _) => script_place(names, line, kind),
+        (TextForm::Trace, _) => trace_place(line, kind),
+    }
+}
+
+/// Where a line is at fault, with what follows its line feed, if it has one.
+fn place<'a>(
+    names: &Names,
+    form: TextForm,
+    line: &'a [u8],
+    after: Option<&[u8]>,
+    kind: TextKind,
+) -> Walk<'a>
+    ensures { result ≡ spec.place names.now form line.now (option_copied after.entry) kind }
+{
+    match after {
+        None => Walk::going(&[]),
+        Some(_) => whole_place(names, form, line, kind),
+    }
+}
+
+/// The line with a caret, and what to do about such a fault.
+#[tactic(auto, unfolding(crate::specs::Texts::advised))]
+fn advised(
+    alloc: Global,
+    line: &[u8],
+    walk: &Walk<'_>,
+    kind: TextKind,
+) -> Result<Vec<u8>, AllocError>
+    ensures { IfOk result (λ out. out.items ≡ spec.advised line.now walk.now kind) }
+{
+    let mut out = Vec::new(alloc);
+    put_excerpt(&mut out, line, line.len().saturating_sub(walk.rest().len()))?;
+    put_text_advice(&mut out, kind)?;
+    Ok(out)
+}
+
+/// The line with a caret, and what is wanted there, or else what to do about such a fault.
+#[tactic(auto, unfolding(crate::specs::Texts::told))]
+fn told(
+    alloc: Global,
+    processors: u8,
+    line: &[u8],
+    walk: &Walk<'_>,
+    kind: TextKind,
+) -> Result<Vec<u8>, AllocError>
+    ensures { IfOk result (λ out. out.items ≡ spec.told processors line.now walk.now kind) }
+{
+    match context_at(alloc, processors, line, walk)? {
+        Some(text) => Ok(text),
+        None => advised(alloc, line, walk, kind),
+    }
+}
+
+#[tactic(auto, unfolding(crate::specs::Texts::told_line))]
+fn told_line(
+    alloc: Global,
+    names: &Names,
+    form: TextForm,
+    line: &[u8],
+    after: Option<&[u8]>,
+    kind: TextKind,
+) -> Result<Vec<u8>, AllocError>
+    ensures { IfOk result (λ out. out.items ≡ spec.told_line names.now form line.now (option_copied after.entry) kind) }
+{
+    let line = without_return(line);
+    let walk = place(names, form, line, after, kind);
+    told(alloc, names.processors(), line, &walk, kind)
+}
+
+/// What to do about a fault of events, scripts or a trace: what stands beside a fault whose line cannot be shown.
+pub fn text_advice(alloc: Global, kind: TextKind) -> Result<Vec<u8>, AllocError>
+    ensures { IfOk result (λ out. out.items ≡ spec.advice kind) }
+{
+    let mut out = Vec::new(alloc);
+    put_text_advice(&mut out, kind)?;
+    Ok(out)
+}
+
+/// What stands beside a fault of this text: the line, a caret under the first byte at fault, and what is wanted there or what to do
+/// about such a fault. Where the fault has no line in the text, what to do about it alone. That the text has the fault is taken
+/// from the caller.
+#[tactic(auto, unfolding(crate::specs::Texts::text_context))]
+pub fn text_context(
+    alloc: Global,
+    names: &Names,
+    form: TextForm,
+    text: &[u8],
+    fault: TextFault,
+) -> Result<Vec<u8>, AllocError>
+    ensures { IfOk result (λ out. out.items ≡ spec.text_context names.now form text.now fault) }
+{
+    if fault.line == 0 {
+        return text_advice(alloc, fault.kind);
+    }
+    match line_behind(fault.line - 1, text) {
+        Some((line, after)) => told_line(alloc, names, form, line, after, fault.kind),
+        None => text_advice(alloc, fault.kind),
+    }
+}
