@@ -4,6 +4,10 @@
 #[cfg(test)]
 mod contexts;
 #[cfg(test)]
+mod devices;
+#[cfg(test)]
+mod hostile;
+#[cfg(test)]
 mod limits;
 #[cfg(test)]
 mod machines;

@@ -1,31 +1,21 @@
 //! Whole runs over memory. Each trace is worked out by hand from the rules of docs/PROFILE.md.
-ghost use Rattle.std.specs.Prelude.{◌≡◌, false, [], IfOk};
+ghost use Rattle.std.specs.Prelude.{◌≡◌, [], IfOk};
 ghost use Rattle.fmpsim_run.specs.Runs.{IsAnswered};
 
 use crate::machines::{NEIGHBOURS, REMOTE};
+use crate::scenarios::ONE_TASK;
 use fmp_text::MOST_BYTES;
 use fmp_trace::Verdict;
-use fmpsim_run::{Failed, MemSink, MemSource, RunFault, Sink, Source, run_calls, run_check};
+use fmpsim_run::{MemSink, MemSource, RunFault, run_calls, run_check};
 use std::alloc::Global;
 use std::process::Abort;
 use std::test::Fail;
-
-/// Two processors with a task on the first, to which each scenario adds.
-const MACHINE: &[u8] = b"\
-PROCESSORS(2);
-DEF_CLASS(C1, 1, {1, 2});
-DEF_CLASS(C2, 2, {1, 2});
-DEF_CLASS(FIX1, 1, {1});
-CLASS(C1) {
-  CRE_TSK(T1, {TA_ACT, 0, main1, 10, 4096, NULL});
-}
-";
 
 /// No trace of these runs has more bytes.
 const MOST_TRACE: usize = 1 << 22;
 
 /// An interrupt that comes late and then once more, and then a queued activation.
-const EVENTS: &[u8] = b"\
+pub const EVENTS: &[u8] = b"\
 P1 act_tsk(T2)
 P2 get_pid()
 P2 ipi
@@ -36,7 +26,7 @@ P2 ext_tsk()
 P2 ext_tsk()
 ";
 
-const TRACE: &[u8] = b"\
+pub const TRACE: &[u8] = b"\
 1 P1 T1 act_tsk(T2) E_OK ipi=2
 2 P2 - get_pid() idle
 3 P2 - ipi taken run=T2
@@ -48,6 +38,25 @@ const TRACE: &[u8] = b"\
 ";
 
 const TRACE_LINES: u64 = 8;
+
+pub fn line_feeds(text: &[u8]) -> usize {
+    text.iter().filter(|byte| **byte == b'\n').count()
+}
+
+/// The beginning of the trace that has as many lines as the events.
+pub fn trace_of(events: &[u8]) -> &'static [u8] {
+    let mut lines = line_feeds(events);
+    for (index, byte) in TRACE.iter().enumerate() {
+        if lines == 0 {
+            let (front, _) = TRACE.split_at(index);
+            return front;
+        }
+        if *byte == b'\n' {
+            lines = lines.saturating_sub(1);
+        }
+    }
+    TRACE
+}
 
 /// Runs over memory, and tells what is written.
 pub fn run(alloc: Global, config: &[u8], events: &[u8]) -> Result<MemSink, RunFault>
@@ -113,7 +122,7 @@ fn is_refused(
 
 #[test]
 fn no_event(rt: HostRuntime) -> Result<(), Fail> {
-    writes(&rt, rt.alloc(), MACHINE, b"", b"")
+    writes(&rt, rt.alloc(), ONE_TASK.as_bytes(), b"", b"")
 }
 
 #[test]
@@ -191,7 +200,7 @@ P1 sns_dpn()
 7 P1 T1 unl_cpu() E_OK
 8 P1 T1 sns_dpn() E_OK:0
 ";
-    writes(&rt, rt.alloc(), MACHINE, events, trace)
+    writes(&rt, rt.alloc(), ONE_TASK.as_bytes(), events, trace)
 }
 
 #[test]
@@ -245,90 +254,9 @@ fn refused_events(rt: HostRuntime) -> Result<(), Fail> {
         (b"P1 jump(T1)\n".as_slice(), "line 1: E2 bad word"),
         (b"P1 tick".as_slice(), "line 1: E6 cut short"),
     ] {
-        let (config, events) = (MemSource::new(MACHINE), MemSource::new(events));
+        let (config, events) = (MemSource::new(ONE_TASK.as_bytes()), MemSource::new(events));
         is_refused(&rt, rt.alloc(), config, events, fault)?;
     }
-    Ok(())
-}
-
-/// A device that gives or takes one byte at a time.
-#[derive(Drop)]
-struct OneByte<D> {
-    device: D,
-}
-
-impl<S: Source> Source for OneByte<S> {
-    ghost tells = { false };
-
-    ghost left = { λ _. [] };
-
-    ghost failures = { λ s. S.failures s.device };
-
-    fn failures(&self) -> u64 {
-        self.device.failures()
-    }
-
-    fn read(&mut self, buffer: &mut [u8]) -> Result<usize, Failed> {
-        let count = buffer.len().min(1);
-        self.device.read(&mut buffer[..count])
-    }
-}
-
-impl<W: Sink> Sink for OneByte<W> {
-    ghost tells = { false };
-
-    ghost written = { λ _. [] };
-
-    ghost buffered = { λ s. W.buffered s.device };
-
-    ghost failures = { λ s. W.failures s.device };
-
-    fn failures(&self) -> u64 {
-        self.device.failures()
-    }
-
-    fn write(&mut self, piece: &[u8]) -> Result<usize, Failed> {
-        let count = piece.len().min(1);
-        self.device.write(&piece[..count])
-    }
-
-    fn flush(&mut self) -> Result<(), Failed> {
-        self.device.flush()
-    }
-}
-
-#[test]
-fn one_byte_at_a_time(rt: HostRuntime) -> Result<(), Fail> {
-    let mut trace = OneByte {
-        device: MemSink::with_room(rt.alloc(), 1000)?,
-    };
-    let mut config = OneByte {
-        device: MemSource::new(REMOTE),
-    };
-    let mut events = OneByte {
-        device: MemSource::new(EVENTS),
-    };
-    run_calls(rt.alloc(), &mut config, &mut events, &mut trace)?;
-    assert_eq!(rt; trace.device.bytes(), TRACE);
-    Ok(())
-}
-
-/// What was read before a read that fails is answered. The first line comes in as many reads as it has bytes.
-#[test]
-fn failed_read_behind_a_line(rt: HostRuntime) -> Result<(), Fail> {
-    let line = b"P1 act_tsk(T2)\n";
-    let mut trace = MemSink::with_room(rt.alloc(), 1000)?;
-    let mut events = OneByte {
-        device: MemSource::new(EVENTS).failing_after(line.len() as u64),
-    };
-    let run = run_calls(
-        rt.alloc(),
-        &mut MemSource::new(REMOTE),
-        &mut events,
-        &mut trace,
-    );
-    assert!(rt; matches!(&run, Err(RunFault::Read)));
-    assert!(rt; trace.bytes() == b"1 P1 T1 act_tsk(T2) E_OK ipi=2\n".as_slice());
     Ok(())
 }
 
