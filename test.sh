@@ -58,22 +58,24 @@ unread() {
 }
 
 # starved TEXT WORD..: in each of the $rooms the run of these words writes this text, or whole lines of its beginning and that
-# memory ran out. It does so in the first room, and the whole in the last.
+# memory ran out. It does so in the first room, and the whole in the last. Where there is room for all but for the stack to grow,
+# the system ends the run by a signal: that is so in few rooms, next to each other.
 starved() {
     local memory ended well=yes all=()
     for memory in "${rooms[@]}"; do
         : > output
-        play "${@:2}"
+        play "${@:2}" 2> signals
         ended=$?
         all+=("$ended")
-        if [ "$ended" = 0 ]; then
-            cmp "$1" output && [ ! -s errors ] || well=no
-        else
-            [ "$ended" = 4 ] && [ "$(grep -c '^fmpsim: .*want of memory$' errors)" = "$(wc -l < errors)" ] || well=no
-            head -n "$(wc -l < output)" "$1" | cmp - output || well=no
-        fi
+        case $ended in
+            0) cmp "$1" output && [ ! -s errors ] || well=no ;;
+            4) [ "$(grep -c '^fmpsim: .*want of memory$' errors)" = "$(wc -l < errors)" ] || well=no ;;
+            139) [ ! -s errors ] || well=no ;;
+            *) well=no ;;
+        esac
+        head -n "$(wc -l < output)" "$1" | cmp - output || well=no
     done
-    [ "${all[0]} ${all[-1]}" = '4 0' ] || well=no
+    [[ "${all[*]}" =~ ^(4 )+(139 ){0,4}(4 )*0( 0)*$ ]] || well=no
     count "$well" "${@:2}"
 }
 
@@ -140,12 +142,24 @@ reports() {
     to=/dev/full run 3 /dev/null <(echo fmpsim: write failed) check --show "$late/machine.cfg" "$late/trace.txt"
 }
 
-# Processors that follow scripts, in threads: what holds in every order.
+# Processors that follow scripts, in threads: what holds in every order. One that spins may do so for all turns, so the run that has
+# to end quiet has no lock.
 scripts() {
-    local folder=$top/examples/scripted-spin-lock ended=no numbers=(--ticks 1 --turns 100)
+    local folder=$top/examples/scripted-spin-lock ended well=no numbers=(--ticks 1 --turns 100)
+    printf 'script user\nget_tid()\nend\n' > user.txt
+    printf '%s\n' 'P1 SENDER ext_tsk() gone run=idle' 'P1 SENDER get_tid() E_OK:1' 'P1 tick taken' \
+        'P2 RECEIVER ext_tsk() gone run=idle' 'P2 RECEIVER get_tid() E_OK:2' 'P2 tick taken' > lines.txt
+    play smp "$folder/machine.cfg" user.txt "${numbers[@]}"
+    [ $? = 0 ] && [ ! -s errors ] && diff lines.txt <(sed -E 's/^[0-9]+ //; s/ [^ ]+ tick / tick /' output | LC_ALL=C sort) && well=yes
+    count "$well" smp "$folder/machine.cfg" user.txt "${numbers[@]}"
     play smp "$folder/machine.cfg" "$folder/scripts.txt" "${numbers[@]}"
-    [ $? = 0 ] && [ ! -s errors ] && [ "$(grep -c 'tick taken' output)" = 2 ] && [ "$(grep -c ' gone ' output)" = 2 ] && ended=yes
-    count "$ended" smp "$folder/machine.cfg" "$folder/scripts.txt" "${numbers[@]}"
+    ended=$? well=no
+    case $ended in
+        0) [ "$(grep -c 'tick taken' output)" = 2 ] && [ "$(grep -c ' gone ' output)" = 2 ] && well=yes ;;
+        6) [ "$(wc -l < output)" = 100 ] && well=yes ;;
+    esac
+    [ ! -s errors ] || well=no
+    count "$well" smp "$folder/machine.cfg" "$folder/scripts.txt" "${numbers[@]}"
     cp output trace.txt
     run 0 <(echo yes) /dev/null check "$folder/machine.cfg" trace.txt
     from=$folder/scripts.txt run 0 "$folder/trace.txt" /dev/null smp "$folder/machine.cfg" - "${numbers[@]}" --seed 11
@@ -232,16 +246,132 @@ little_memory() {
     starved "$late/trace.txt" calls "$late/machine.cfg" line.txt
 }
 
+# refused TEXT WORD..: with the first request for memory refused, then with the second one, and so on until none is: each run
+# writes this text, or whole lines of its beginning and that memory ran out. The last one writes the text. Where it is `threads`
+# the run may write any trace that `check` says yes to, with the machine of the second word, and else nothing.
+refused() {
+    local n=0 ended told=0 well=yes
+    while n=$((n + 1)) && : > output && rm -f met; do
+        (REFUSE=$n LD_PRELOAD=$room/refuse.so exec "$program" "${@:2}") < /dev/null > output 2> errors
+        ended=$?
+        [ -e met ] || break
+        if [ "$ended" = 4 ]; then
+            told=$((told + 1))
+            grep -qxE 'fmpsim: (.*want of memory|no thread could be started)' errors && [ "$(wc -l < errors)" = 1 ] || well=no
+            [ ! -s output ] || head -n "$(wc -l < output)" "$1" | cmp - output || well=no
+        else
+            is_whole "$@" || well=no
+        fi
+    done
+    is_whole "$@" && [ "$told" -ge 20 ] || well=no
+    count "$well" "${@:2}" '# each request for memory refused in turn'
+}
+
+# is_whole TEXT WORD..: the run of these words that just ended wrote all that it has to.
+is_whole() {
+    [ ! -s errors ] || return 1
+    if [ "$1" = threads ]; then
+        [ "$ended" = 0 ] || [ "$ended" = 6 ] && "$program" check "$3" output | grep -qx yes
+    else
+        [ "$ended" = 0 ] && cmp "$1" output
+    fi
+}
+
+# With the optimized program, where there is a compiler of C: the library's requests for memory are counted, and one is refused.
+refused_growth() {
+    local spin=$top/examples/scripted-spin-lock whole=$top/examples/whole-configuration
+    command -v cc > cc_is_here || return 0
+    cc -shared -fPIC -O1 -o refuse.so -xc - << 'END' || { count no cc && return 0; }
+#define _GNU_SOURCE
+#include <errno.h>
+#include <fcntl.h>
+#include <stdlib.h>
+#include <unistd.h>
+static int refuses(void) {
+    static int asked;
+    const char *turn = getenv("REFUSE");
+    if (turn == NULL || __atomic_add_fetch(&asked, 1, __ATOMIC_SEQ_CST) != atoi(turn)) return 0;
+    close(open("met", O_CREAT | O_WRONLY, 0600));
+    errno = ENOMEM;
+    return 1;
+}
+void *__libc_malloc(size_t), *__libc_calloc(size_t, size_t), *__libc_realloc(void *, size_t), *__libc_memalign(size_t, size_t);
+void *malloc(size_t n) { return refuses() ? NULL : __libc_malloc(n); }
+void *calloc(size_t n, size_t m) { return refuses() ? NULL : __libc_calloc(n, m); }
+void *realloc(void *p, size_t n) { return refuses() ? NULL : __libc_realloc(p, n); }
+void *aligned_alloc(size_t a, size_t n) { return refuses() ? NULL : __libc_memalign(a, n); }
+int posix_memalign(void **p, size_t a, size_t n) { return refuses() || !(*p = __libc_memalign(a, n)) ? ENOMEM : 0; }
+END
+    echo yes > verdict.txt
+    refused "$late/trace.txt" calls "$late/machine.cfg" "$late/events.txt"
+    refused "$whole/trace.txt" calls "$whole/machine.cfg" "$whole/events.txt"
+    refused verdict.txt check "$late/machine.cfg" "$late/trace.txt"
+    refused "$spin/trace.txt" smp "$spin/machine.cfg" "$spin/scripts.txt" --ticks 1 --turns 100 --seed 11
+    refused threads smp "$spin/machine.cfg" "$spin/scripts.txt" --ticks 0 --turns 6
+}
+
+# What stands beside a fault line.
+contexts() {
+    local machine=$late/machine.cfg task='  task: its name, TSK_SELF for 0, or a number of 32 bits with a sign'
+    printf 'P1 tick\nP1 act_tsk(T9)\n' > events.txt
+    run 1 <(echo 1 P1 T1 tick taken) <(printf '%s\n' 'fmpsim: events.txt: line 2: E3 unknown name' '  P1 act_tsk(T9)' \
+        '             ^' '  wanted: act_tsk(task)' "$task") calls --context "$machine" events.txt
+    from=events.txt run 1 <(echo 1 P1 T1 tick taken) <(printf '%s\n' 'fmpsim: -: line 2: E3 unknown name' \
+        '  Use the name of an object of the configuration, or a constant.') calls "$machine" - --context
+    printf 'PROCESSORS(1);\nDEF_CLASS(C, 1, {1});\nCLASS(C) { CRE_SEM(S, {TA_NULL, 0, 0}); }\n' > number.cfg
+    run 1 /dev/null <(printf '%s\n' 'fmpsim: number.cfg: line 3: F7 value out of range' '  CLASS(C) { CRE_SEM(S, {TA_NULL, 0, 0}); }' \
+        '                                     ^' '  wanted: CRE_SEM(name, {attribute | .., number, number});' \
+        '  attribute: TA_NULL TA_TFIFO TA_TPRI' '  second number: within 1 to 65535' \
+        '  Give a number within the range that `fmpsim list` tells, without leading zeros, or a name defined before.') \
+        check number.cfg "$late/trace.txt" --context
+    printf '1 P1 T1 tick taken' > cut.txt
+    run 1 /dev/null <(printf '%s\n' 'fmpsim: cut.txt: line 1: E6 cut short' '  1 P1 T1 tick taken' '                    ^' \
+        '  End the last line with a line feed, and the last script with `end`.') check "$machine" --context cut.txt
+    printf 'script main\nact_tsk(T9)\nend\n' > name.txt
+    run 1 /dev/null <(printf '%s\n' 'fmpsim: name.txt: line 2: E3 unknown name' '  act_tsk(T9)' '          ^' \
+        '  wanted: act_tsk(task)' "$task") smp again.cfg name.txt --ticks 0 --turns 1 --context
+    run 3 /dev/null <(printf '%s\n' 'fmpsim: read failed' '  missing: No such file or directory (os error 2)') \
+        calls --context missing "$late/events.txt"
+    run 3 /dev/null <(printf '%s\n' 'fmpsim: read failed' "  $top: Is a directory (os error 21)") check "$machine" "$top" --context
+    run 1 /dev/null <(printf '%s\n' 'fmpsim: /dev/zero: line 0: F9 too many') calls /dev/zero "$late/events.txt" --context
+    run 0 "$late/trace.txt" /dev/null calls --context "$machine" "$late/events.txt"
+    run 5 <(echo no 3) /dev/null check --context "$machine" changed.txt
+}
+
 # Texts at the limits of numbers and lengths.
 greatest_texts() {
     yes 'P1 tick' | head -n 1000001 > long.txt
     run 1 <(seq 1000000 | sed 's/$/ P1 T1 tick taken/') <(echo fmpsim: long.txt: line 1000001: E7 too many) \
         calls "$late/machine.cfg" long.txt
     run 1 /dev/null <(echo fmpsim: /dev/zero: line 0: F9 too many) calls /dev/zero "$late/events.txt"
+    # line feeds without an end
+    [[ $program = *.by-rattle ]] || from=<(yes '') run 1 /dev/null <(echo fmpsim: -: line 0: E7 too many) calls "$late/machine.cfg" -
     head -n 2 "$late/trace.txt" > front.txt
     run 0 <(echo yes) /dev/null check "$late/machine.cfg" front.txt
     head -c -1 "$late/trace.txt" > front.txt
     run 1 /dev/null <(echo fmpsim: front.txt: line 10: E6 cut short) check "$late/machine.cfg" front.txt
+}
+
+# The state after each event. Without its lines the trace is left.
+states() {
+    local folder same=yes
+    printf 'P1 act_tsk(T2)\nP2 get_pid()\nP2 ipi\n' > events.txt
+    printf '%s\n' '1 P1 T1 act_tsk(T2) E_OK ipi=2' '  P1 run=T1' '  P2 run=- ready=T2 latch' \
+        '2 P2 - get_pid() idle' '  P1 run=T1' '  P2 run=- ready=T2 latch' \
+        '3 P2 - ipi taken run=T2' '  P1 run=T1' '  P2 run=T2' > told.txt
+    run 0 told.txt /dev/null calls --state "$late/machine.cfg" events.txt
+    from=events.txt run 0 told.txt /dev/null calls "$late/machine.cfg" - --state
+    for folder in "$top"/examples/*/; do
+        [ -f "$folder/events.txt" ] || continue
+        play calls --state "$folder/machine.cfg" "$folder/events.txt"
+        grep -q '^  P1 run=' output && grep -v '^ ' output | cmp - "$folder/trace.txt" || same=no
+    done
+    count "$same" calls --state
+    printf 'P1 tick\nP3 tick\n' > events.txt
+    run 1 <(printf '1 P1 T1 tick taken\n  P1 run=T1\n  P2 run=-\n') <(echo fmpsim: events.txt: line 2: E5 number out of range) \
+        calls --state "$late/machine.cfg" events.txt
+    unread calls --state missing events.txt
+    to=/dev/full run 3 /dev/null <(echo fmpsim: write failed) calls --state "$late/machine.cfg" "$late/events.txt"
 }
 
 # What may be written in the texts.
@@ -266,6 +396,38 @@ lists() {
     count "$each" list
 }
 
+# The completions are what the program's help makes, and work in bash. The manual has the options of each command.
+completions() {
+    local command same=yes right=no
+    (mkdir -p made && cd made && "$top/completions/make.sh" "$program") || same=no
+    for command in fmpsim.bash _fmpsim fmpsim.fish; do
+        diff "$top/completions/$command" "made/$command" || same=no
+    done
+    count "$same" --help
+    [ "$(completed calls --)" = "$(long_options calls)" ] && [ "$(completed smp --t)" = $'--ticks\n--turns' ] \
+        && [ "$(completed list twai_s)" = twai_sem ] && [ "$(completed l)" = list ] && [ -z "$(completed calls x)" ] && right=yes
+    count "$right" '<Tab>'
+    for command in $(sed -nE "s/.* words='(.*) help --help --version'.*/\1/p" "$top/completions/fmpsim.bash"); do
+        same=no
+        diff <(long_options "$command" | grep -vx -e --help) \
+            <(sed -n "/^\.SS $command\$/,/^\.S[SH]/p" "$top/man/fmpsim.1" | sed -nE 's/^\.BI? \\-\\-([a-z]+).*/--\1/p') && same=yes
+        count "$same" "$command" --help '# as in the manual'
+    done
+}
+
+# completed WORD..: what the completion of bash makes of the last of these words.
+completed() (
+    source "$top/completions/fmpsim.bash"
+    COMP_WORDS=("$program" "$@") COMP_CWORD=$#
+    _fmpsim
+    printf '%s\n' "${COMPREPLY[@]}"
+)
+
+# long_options COMMAND: the options in the help of a command.
+long_options() {
+    "$program" "$1" --help | sed -nE '/^Options:/,/^$/s/^ +(-[a-z], )?(--[a-z]+) .*/\2/p'
+}
+
 command_lines() {
     run 2 /dev/null <(echo fmpsim: a word of the command line is not UTF-8) calls "$late/machine.cfg" $'\xff'
     usage 2 errors output
@@ -275,6 +437,7 @@ command_lines() {
     usage 2 errors output check "$late/machine.cfg" "$late/trace.txt" more
     usage 2 errors output check --show --all "$late/machine.cfg" "$late/trace.txt"
     usage 2 errors output calls --all "$late/machine.cfg" "$late/events.txt"
+    usage 2 errors output check --state "$late/machine.cfg" "$late/trace.txt"
     usage 2 errors output list act_tsk sig_sem
     usage 2 errors output smp again.cfg again.txt --ticks 0
     usage 2 errors output smp again.cfg again.txt --turns 1
@@ -298,9 +461,12 @@ for program in "$top"/crates/fmpsim/out/fmpsim{,.by-rattle}; do
         pipes
         devices_that_fail
         paths
+        contexts
         greatest_texts
-        [[ $program = *.by-rattle ]] || little_memory
+        [[ $program = *.by-rattle ]] || { little_memory && refused_growth; }
+        states
         lists
+        completions
         command_lines
     else
         count no is not built
