@@ -20,8 +20,8 @@ use Rattle.fmp_machine.specs.Setup.{Setup}
 use Rattle.fmp_machine.specs.Valid.{AreFew}
 use Rattle.fmp_machine.specs.World.{World, no_task, item, task, processors_to}
 use Rattle.fmp_machine.specs.Objects.{blank_semaphore, semaphore, pool, values}
-use Rattle.fmp_machine.specs.Keeping.{Keeping}
-use Rattle.fmp_machine.specs.Numbers.{State, numbered}
+use Rattle.fmp_machine.specs.Ordering.{Ordering}
+use Rattle.fmp_machine.specs.Arrivals.{State, numbered}
 use Rattle.fmp_machine.specs.Tasks.{start}
 use Rattle.fmp_machine.specs.Step.{step, replay, answers}
 use Rattle.fmp_machine.specs.Boot.{resting, blank, all_started, with_top_running, with_tops_running, booted, unnumbered}
@@ -50,7 +50,7 @@ waiters_wait w x o t e = first_waits numbered w (numbered_lists w) x o t e
 
 -- Boot changes no object.
 
-module _ {Q : Type 0} (k : Keeping Q) where
+module _ {Q : Type 0} (k : Ordering Q) where
   leaves_start : (w : World Q) (t : Task) (p : Proc) → Leaves w (start k w t p)
   leaves_start w t p = leaves_task w t _ w.waits_left _ (λ d x e. absurd (none-some (wait.Send d x) e))
 

@@ -20,10 +20,10 @@ use Rattle.fmp_machine.specs.declared.setup.TaskSetup.{TaskSetup}
 use Rattle.fmp_machine.specs.Setup.{Setup, of_tasks}
 use Rattle.fmp_machine.specs.Valid.{IsSemaphore, IsPool, AreInRange, AreFew, IsValid}
 use Rattle.fmp_machine.specs.Objects.{semaphore, values}
-use Rattle.fmp_machine.specs.Numbers.{numbered}
+use Rattle.fmp_machine.specs.Arrivals.{numbered}
 use Rattle.fmp_machine.specs.SyncCalls.{sig_sem, twai_sem}
 use Rattle.fmp_machine.specs.BufferCalls.{tsnd_dtq, fsnd_dtq, trcv_dtq, tget_mpf, pget_mpf, rel_mpf}
-use Rattle.fmp_machine.specs.Step.{replay, answers, front_of, settled, unchanged}
+use Rattle.fmp_machine.specs.Step.{replay, answers, before_event, settled, unchanged}
 use Rattle.fmp_machine.specs.Boot.{booted}
 use Rattle.fmp_machine.proofs.Scenario.{a_task, both, call_on}
 use Rattle.fmp_balance.specs.Semaphores.{brought, granted}
@@ -151,15 +151,15 @@ sending =
     ∷ []
 
 values_in : puts (as_object 1) [] (told sending) ≡ pos 1 ∷ pos 3 ∷ pos 2 ∷ []
-unfolding numbered front_of settled unchanged tsnd_dtq fsnd_dtq trcv_dtq
+unfolding numbered before_event settled unchanged tsnd_dtq fsnd_dtq trcv_dtq
 values_in = refl
 
 values_out : flat_map (out_by (as_object 1)) (told sending) ≡ pos 1 ∷ pos 3 ∷ []
-unfolding numbered front_of settled unchanged tsnd_dtq fsnd_dtq trcv_dtq
+unfolding numbered before_event settled unchanged tsnd_dtq fsnd_dtq trcv_dtq
 values_out = refl
 
 values_left : values (replay numbered (booted objects) sending) (as_object 1) ≡ pos 2 ∷ []
-unfolding numbered front_of settled unchanged tsnd_dtq fsnd_dtq trcv_dtq
+unfolding numbered before_event settled unchanged tsnd_dtq fsnd_dtq trcv_dtq
 values_left = refl
 
 -- both blocks are handed out, a task waits for one, and the second is given to it
@@ -173,11 +173,11 @@ getting =
     ∷ []
 
 block_0 : sum_by (handed_out (as_object 1) 0) (told getting) ∷ sum_by (given_back (as_object 1) 0) (told getting) ∷ [] ≡ 1 ∷ 1 ∷ []
-unfolding numbered front_of settled unchanged tget_mpf pget_mpf rel_mpf
+unfolding numbered before_event settled unchanged tget_mpf pget_mpf rel_mpf
 block_0 = refl
 
 block_1 : sum_by (handed_out (as_object 1) 1) (told getting) ∷ sum_by (given_back (as_object 1) 1) (told getting) ∷ [] ≡ 2 ∷ 1 ∷ []
-unfolding numbered front_of settled unchanged tget_mpf pget_mpf rel_mpf
+unfolding numbered before_event settled unchanged tget_mpf pget_mpf rel_mpf
 block_1 = refl
 
 -- one unit is taken, a second waited for and granted by a signal; a further signal counts
@@ -191,5 +191,5 @@ signalling =
 
 units : sum_by (brought (as_object 1)) (told signalling) ∷ sum_by (granted (as_object 1)) (told signalling) ∷ (semaphore (replay numbered (booted objects) signalling) (as_object 1)).count ∷ []
     ≡ 2 ∷ 2 ∷ 1 ∷ []
-unfolding numbered front_of settled unchanged sig_sem twai_sem
+unfolding numbered before_event settled unchanged sig_sem twai_sem
 units = refl

@@ -5,7 +5,7 @@ use Rattle.fmp_codes.specs.declared.records.Event.{Event}
 use Rattle.fmp_codes.specs.declared.records.Record.{Record}
 use Rattle.fmp_machine.specs.Setup.{Setup}
 use Rattle.fmp_machine.specs.World.{World}
-use Rattle.fmp_machine.specs.Numbers.{numbered}
+use Rattle.fmp_machine.specs.Arrivals.{numbered}
 use Rattle.fmp_machine.specs.Step.{replay}
 use Rattle.fmp_machine.specs.Boot.{booted}
 use Rattle.fmp_balance.specs.Semaphores.{SemaphoreBalance}

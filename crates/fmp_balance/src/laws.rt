@@ -3,7 +3,7 @@ ghost use Rattle.std.specs.Prelude.{List};
 ghost use Rattle.fmp_codes.specs.declared.records.Event.{Event};
 ghost use Rattle.fmp_machine.specs.Setup.{Setup};
 ghost use Rattle.fmp_machine.specs.Valid.{IsValid};
-ghost use Rattle.fmp_machine.specs.Numbers.{numbered};
+ghost use Rattle.fmp_machine.specs.Arrivals.{numbered};
 ghost use Rattle.fmp_machine.specs.Step.{answers};
 ghost use Rattle.fmp_machine.specs.Boot.{booted};
 ghost use Rattle.fmp_safety.specs.Runs.{AreOn};

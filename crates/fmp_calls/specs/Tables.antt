@@ -1,3 +1,4 @@
+-- The rows of the table of calls, family by family.
 pub mod TaskTable
 pub mod SyncTable
 pub mod BufferTable

@@ -1,5 +1,5 @@
-pub mod Elements
-pub mod Phrases
-pub mod Clauses
-pub mod Meaning
-pub mod Grammar
+pub mod Elements  -- Directives, apart from how they are read
+pub mod Phrases  -- The parts of statements, apart from how they are read: which tokens may stand in them.
+pub mod Clauses  -- What a text says, one after the other, apart from how it is read.
+pub mod Meaning  -- What statements say: how a configuration grows by them, and which may follow it.
+pub mod Grammar  -- The grammar of configuration texts, apart from how they are read: which texts say which configuration.

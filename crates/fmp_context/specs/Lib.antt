@@ -1,6 +1,6 @@
-pub mod Wanted
-pub mod Places
-pub mod Excerpts
-pub mod Contexts
-pub mod Configs
-pub mod Texts
+pub mod Wanted  -- How it is told what is wanted at a place.
+pub mod Places  -- The first byte at fault of a line, and what is wanted there.
+pub mod Excerpts  -- A line as it is shown, with a caret under one of its bytes.
+pub mod Contexts  -- What stands beside a fault line.
+pub mod Configs  -- What stands beside a fault line of a configuration.
+pub mod Texts  -- What stands beside a fault line of events, scripts or a trace.

@@ -1,4 +1,4 @@
-pub mod Ahead
-pub mod Cut
-pub mod Fitting
-pub mod Searched
+pub mod Ahead  -- What a line that is taken off a feed says of what is ahead of it.
+pub mod Cut  -- It does not matter how a text is cut into pieces, nor when the feed is asked in between.
+pub mod Fitting  -- What holds of the event of every line holds of every event that a scan finds.
+pub mod Searched  -- A search for a line feed that begins behind bytes that hold none.

@@ -1,1 +1,1 @@
-pub mod Eventflags
+pub mod Eventflags  -- An eventflag with the tasks that wait for it.

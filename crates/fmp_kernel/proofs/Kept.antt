@@ -8,7 +8,7 @@ use Rattle.fmp_codes.specs.declared.records.Event.{Event}
 use Rattle.fmp_codes.specs.declared.records.Record.{Record}
 use Rattle.fmp_links.specs.Tasks.{has_task}
 use Rattle.fmp_machine.specs.World.{World, item}
-use Rattle.fmp_machine.specs.Numbers.{State, numbered}
+use Rattle.fmp_machine.specs.Arrivals.{State, numbered}
 use Rattle.fmp_machine.specs.Step.{step}
 use Rattle.fmp_safety.specs.Runs.{processor_of}
 use Rattle.fmp_safety.specs.Safe.{Safe}

@@ -4,7 +4,7 @@ use Rattle.fmp_codes.specs.declared.records.Event.{Event}
 use Rattle.fmp_codes.specs.declared.records.Event.TheVariants as event
 use Rattle.fmp_codes.specs.declared.records.Record.{Record}
 use Rattle.fmp_machine.specs.World.{World, processor, is_held}
-use Rattle.fmp_machine.specs.Numbers.{State, numbered}
+use Rattle.fmp_machine.specs.Arrivals.{State, numbered}
 use Rattle.fmp_safety.specs.Runs.{processor_of}
 use Rattle.fmp_safety.specs.Laws.{TakesRequest, RunsTop}
 use Rattle.fmp_queues.specs.Queues.{Queues, listed}

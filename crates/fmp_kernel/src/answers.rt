@@ -2,7 +2,7 @@
 ghost use Rattle.std.specs.Prelude.{◌≡◌, length, IfOk};
 ghost use Rattle.fmp_codes.specs.Records.{AreOn};
 ghost use Rattle.fmp_machine.specs.Boot.{booted};
-ghost use Rattle.fmp_machine.specs.Numbers.{numbered};
+ghost use Rattle.fmp_machine.specs.Arrivals.{numbered};
 ghost use Rattle.fmp_machine.specs.Step.{answers};
 ghost use Rattle.fmp_safety.specs.Runs.{IsSafeThroughout};
 ghost use Rattle.fmp_balance.specs.Balance.{IsBalancedThroughout};

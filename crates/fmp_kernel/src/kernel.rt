@@ -2,7 +2,7 @@
 ghost use Rattle.std.specs.Prelude.{◌≡◌, ◌≤◌, length, IfOk};
 ghost use Rattle.fmp_machine.specs.Boot.{booted};
 ghost use Rattle.fmp_machine.specs.Valid.{IsValid};
-ghost use Rattle.fmp_machine.specs.Numbers.{State, numbered};
+ghost use Rattle.fmp_machine.specs.Arrivals.{State, numbered};
 ghost use Rattle.fmp_machine.specs.Step.{step};
 ghost use Rattle.fmp_safety.specs.Safe.{Safe};
 ghost use Rattle.fmp_safety.specs.Runs.{processor_of};

@@ -3,8 +3,8 @@
 ghost use Rattle.std.specs.Prelude.{◌≡◌, ◌≤◌, [], None, length};
 ghost use Rattle.fmp_machine.specs.Due.{IsNextDue};
 ghost use Rattle.fmp_machine.specs.World.{item, task, processor, handler, is_held};
-ghost use Rattle.fmp_machine.specs.Keeping.{top, queue};
-ghost use Rattle.fmp_machine.specs.Numbers.{State, numbered};
+ghost use Rattle.fmp_machine.specs.Ordering.{top, queue};
+ghost use Rattle.fmp_machine.specs.Arrivals.{State, numbered};
 ghost use Rattle.fmp_queues.specs.Queues.{listed};
 ghost use Rattle.fmp_lists.specs.Stands.{Stands};
 

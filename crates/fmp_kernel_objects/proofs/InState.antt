@@ -6,7 +6,7 @@ use Rattle.fmp_machine.specs.declared.machine.Wait.{Wait}
 use Rattle.fmp_machine.specs.declared.machine.Wait.TheVariants as wait
 use Rattle.fmp_machine.specs.World.{World}
 use Rattle.fmp_machine.specs.Objects.{pool}
-use Rattle.fmp_machine.specs.Keeping.{order_of}
+use Rattle.fmp_machine.specs.Ordering.{order_of}
 use Rattle.fmp_machine.specs.BufferCalls.{is_handed}
 use Rattle.fmp_queues.specs.Queues.{Queues}
 use Rattle.fmp_kernel_objects.specs.Kinds.{is_handed_in}

@@ -1,2 +1,2 @@
-pub mod InState
-pub mod KindLists
+pub mod InState  -- The words about all objects against those about the state that they are of.
+pub mod KindLists  -- A look-up in all objects of a kind, and a change of one.

@@ -13,7 +13,7 @@ use Rattle.fmp_machine.specs.declared.machine.QueueKind.{QueueKind}
 use Rattle.fmp_machine.specs.declared.machine.QueueKind.TheVariants as kind
 use Rattle.fmp_machine.specs.Setup.{Setup}
 use Rattle.fmp_machine.specs.World.{World}
-use Rattle.fmp_machine.specs.Keeping.{order_among}
+use Rattle.fmp_machine.specs.Ordering.{order_among}
 use Rattle.fmp_machine.specs.Boot.{blank}
 use Rattle.fmp_queues.specs.Queues.{WaitQueues, Queues, no_queues}
 

@@ -1,7 +1,7 @@
 //! How a task leaves its lists and joins others.
 ghost use Rattle.std.specs.Prelude.{◌≡◌, Some, None};
 ghost use Rattle.fmp_machine.specs.World.{item};
-ghost use Rattle.fmp_machine.specs.Keeping.{is_runnable, depart, arrive, order_of, rejoin};
+ghost use Rattle.fmp_machine.specs.Ordering.{is_runnable, depart, arrive, order_of, rejoin};
 ghost use Rattle.fmp_machine.specs.declared.machine.TaskRecord.{TaskRecord as AnyTaskRecord};
 ghost use Rattle.fmp_queues.specs.Queues.{listed};
 

@@ -9,7 +9,7 @@ use fmp_words::Words;
 impl Words for Machine {
     ghost Order = { Queues };
 
-    ghost keeping = { listed };
+    ghost ordering = { listed };
 
     ghost world = { λ w. w };
 
@@ -66,14 +66,14 @@ impl Words for Machine {
         self.spins.free(p);
     }
 
-    fn note(&mut self, t: Task, changed: TaskRecord) {
-        self.assigned.note(t, changed);
+    fn set_task(&mut self, t: Task, changed: TaskRecord) {
+        self.assigned.set_task(t, changed);
     }
 
     fn place(&mut self, t: Task, changed: TaskRecord) {
         let task = self.assigned.task(t);
         self.depart(t, &task);
-        self.assigned.note(t, changed);
+        self.assigned.set_task(t, changed);
         self.arrive(t, &changed);
     }
 
@@ -89,7 +89,7 @@ impl Words for Machine {
     fn begin_wait(&mut self, t: Task, wait: Wait, left: Option<u64>) {
         let task = self.assigned.task(t);
         self.depart(t, &task);
-        self.assigned.note(
+        self.assigned.set_task(
             t,
             TaskRecord {
                 wait: Some(wait),
@@ -104,7 +104,7 @@ impl Words for Machine {
         match changed.wait {
             None => self.place(t, changed),
             Some(wait) => {
-                self.assigned.note(t, changed);
+                self.assigned.set_task(t, changed);
                 self.rejoin(t, changed.priority, wait);
             }
         }

@@ -1,3 +1,3 @@
-pub mod Assignments
-pub mod Counting
-pub mod Starting
+pub mod Assignments  -- What is assigned to processors, and the ticks that each has left.
+pub mod Counting  -- The timers count on the processors to which things are assigned.
+pub mod Starting  -- The handlers at boot.

@@ -137,7 +137,7 @@ impl Assigned {
     // ---- tasks
 
     /// Changes the record of a task. Where its wait counts, it goes on with the ticks that it has left.
-    pub fn note(&mut self, t: Task, changed: TaskRecord)
+    pub fn set_task(&mut self, t: Task, changed: TaskRecord)
         ensures { self.new ≡ record self.old { tasks = with_item self.old.tasks t.number changed } }
     {
         let from = self.tasks.get(t).assigned;

@@ -14,7 +14,7 @@ use Rattle.fmp_machine.specs.declared.machine.Wait.TheVariants as wait
 use Rattle.fmp_machine.specs.declared.machine.QueueKind.TheVariants as kind
 use Rattle.fmp_machine.specs.World.{World, task, first, rest}
 use Rattle.fmp_machine.specs.Objects.{data_queue, values, free_block}
-use Rattle.fmp_machine.specs.Numbers.{State, numbered}
+use Rattle.fmp_machine.specs.Arrivals.{State, numbered}
 use Rattle.fmp_machine.specs.Tasks.{make_ready}
 use Rattle.fmp_machine.specs.Arguments.{object_named, forever}
 use Rattle.fmp_machine.specs.Rows.{called, done, done_or_wait}

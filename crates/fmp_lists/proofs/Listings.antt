@@ -5,7 +5,7 @@ use Rattle.std.proofs.lemmas.Bool.{cases_eq, cases_lt, cases_Bool, cond_both, bo
 use Rattle.std.proofs.lemmas.Map.Views.{any-filter_same}
 use Rattle.std.proofs.lemmas.List.Folds.{list_any-append}
 use Rattle.fmp_codes.specs.Numbers.{as_task, within}
-use Rattle.fmp_machine.specs.Numbers.{inserted, inserted_if, in_order}
+use Rattle.fmp_machine.specs.Arrivals.{inserted, inserted_if, in_order}
 use Rattle.fmp_safety.specs.First.{IsStrict}
 use Rattle.fmp_codes.specs.declared.numbers.Task.{Task}
 use Rattle.fmp_links.specs.Tasks.{has_task, without}

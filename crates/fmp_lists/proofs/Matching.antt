@@ -14,8 +14,8 @@ use Rattle.fmp_machine.specs.declared.machine.TaskRecord.{TaskRecord}
 use Rattle.fmp_machine.specs.declared.machine.Wait.{Wait}
 use Rattle.fmp_machine.specs.declared.machine.QueueKind.{QueueKind}
 use Rattle.fmp_machine.specs.World.{World, task, item, with_item}
-use Rattle.fmp_machine.specs.Keeping.{is_runnable, waits_in, order_in, order_of, note, place, end_wait, begin_wait, requeue, behind, rejoin}
-use Rattle.fmp_machine.specs.Numbers.{Numbers, State, numbered}
+use Rattle.fmp_machine.specs.Ordering.{is_runnable, waits_in, order_in, order_of, with_task, place, end_wait, begin_wait, requeue, behind, rejoin}
+use Rattle.fmp_machine.specs.Arrivals.{Arrivals, State, numbered}
 use Rattle.fmp_machine.specs.Tasks.{finish, ended, change_priority}
 use Rattle.fmp_machine.specs.Arguments.{caller, is_zero, ticks_of}
 use Rattle.fmp_machine.specs.Rows.{Row, check, called, called_by, wait_for, done_or_wait, release}
@@ -25,7 +25,7 @@ use Rattle.fmp_queues.specs.Queues.{Queues, place_in, listed}
 use Rattle.fmp_lists.specs.Stands.{count_in, with_order, Keeps, IsOrderOf, Matches}
 use Rattle.fmp_lists.proofs.Places.{stands_at, HasPlace}
 use Rattle.fmp_lists.proofs.Waits.{SameRank}
-use Rattle.fmp_lists.proofs.Words.{by_tests, order_note, order_place, order_end, order_begin, order_anew, order_stays, order_at}
+use Rattle.fmp_lists.proofs.Words.{by_tests, order_with_task, order_place, order_end, order_begin, order_anew, order_stays, order_at}
 
 no_wait_ended : (r : TaskRecord) → (ended r).wait ≡ None
 no_wait_ended r = cond_both (nat_lt 0 r.activations) _ _ (λ (x : TaskRecord). x.wait ≡ None) (λ _. refl) (λ _. refl)
@@ -44,8 +44,8 @@ module _ (m : State) (q : Queues) (s : Keeps q m) where
     o = task m u
 
     pub noted : (r : TaskRecord) (e : Effect) → is_runnable r ≡ is_runnable o → r.assigned ≡ o.assigned → r.priority ≡ o.priority → r.wait ≡ o.wait →
-        Matches (note w u r, e) (note m u r, e)
-    noted r e a b c d = matches (note m u r) q (order_note m.tasks (order_in m) (count_in m) m.order u within r m.waits_left q s a b c d) e
+        Matches (with_task w u r, e) (with_task m u r, e)
+    noted r e a b c d = matches (with_task m u r) q (order_with_task m.tasks (order_in m) (count_in m) m.order u within r m.waits_left q s a b c d) e
 
     pub placed : (r : TaskRecord) (e : Effect) → r.wait ≡ o.wait → SameRank (order_in m) o r → Matches (place listed w u r, e) (place numbered m u r, e)
     placed r e a b = matches (place numbered m u r) _ (order_place m.tasks (order_in m) (count_in m) m.order u within r m.waits_left q s a b) e
@@ -76,7 +76,7 @@ module _ (m : State) (q : Queues) (s : Keeps q m) where
     pub requeued : (r : TaskRecord) (e : Effect) → r.wait ≡ o.wait → Matches (requeue listed w u r, e) (requeue numbered m u r, e)
     requeued r e same = matches (requeue numbered m u r) _ (go o.wait refl) e
       where
-        Fits : Queues → Numbers → Type 0
+        Fits : Queues → Arrivals → Type 0
         Fits x n = IsOrderOf (with_item m.tasks u.number r) (order_in m) (count_in m) m.waits_left x n
 
         -- in a queue by arrival the rank stays
@@ -118,7 +118,7 @@ module _ (m : State) (q : Queues) (s : Keeps q m) where
   done_or_waited p within none can a b x timeout did known = by_tests Matches can _ _ _ _ (λ _. did) (λ _. waited (caller m p) within none x timeout known)
 
   -- a call whose checks are the same, and its effect where it is accepted
-  pub called_matches : (p : Proc) (a : Row Queues) (b : Row Numbers) → check w p a ≡ check m p b → (Accepts m p b → Matches a.effect b.effect) →
+  pub called_matches : (p : Proc) (a : Row Queues) (b : Row Arrivals) → check w p a ≡ check m p b → (Accepts m p b → Matches a.effect b.effect) →
       Matches (called w p a) (called m p b)
   called_matches p a b same did = go (check w p a) (check m p b) same refl
     where

@@ -3,7 +3,7 @@ use Rattle.std.proofs.Common.{◌≡◌, ℕ, ◌<◌, ◌≤◌, Bool, true, fa
 use Rattle.std.proofs.lemmas.Bool.{cases_Bool, eqb-true, eqb-false, eq-eqb, or_left, or_right, and_from, lt-ltb, cases_lt, false≢true}
 use Rattle.fmp_codes.specs.declared.numbers.Task.{Task}
 use Rattle.fmp_machine.specs.World.{item, with_item}
-use Rattle.fmp_machine.specs.Numbers.{comes_before}
+use Rattle.fmp_machine.specs.Arrivals.{comes_before}
 use Rattle.fmp_safety.proofs.Items.{item_same, item_other}
 use Rattle.fmp_lists.specs.Listing.{is_task, all_but, IsTotal}
 use Rattle.fmp_lists.specs.Stands.{AreNumbered}

@@ -11,8 +11,8 @@ use Rattle.fmp_machine.specs.declared.machine.QueueKind.{QueueKind}
 use Rattle.fmp_machine.specs.declared.machine.QueueKind.TheVariants as kind
 use Rattle.fmp_machine.specs.World.{item, with_item}
 use Rattle.fmp_machine.specs.Objects.{blank_semaphore, blank_eventflag, blank_pool}
-use Rattle.fmp_machine.specs.Keeping.{order_in}
-use Rattle.fmp_machine.specs.Numbers.{State}
+use Rattle.fmp_machine.specs.Ordering.{order_in}
+use Rattle.fmp_machine.specs.Arrivals.{State}
 use Rattle.fmp_machine.specs.SyncCalls.{with_count, with_pattern}
 use Rattle.fmp_machine.specs.BufferCalls.{with_handed}
 use Rattle.fmp_safety.proofs.Items.{item_after}

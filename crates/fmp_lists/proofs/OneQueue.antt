@@ -6,7 +6,7 @@ use Rattle.fmp_machine.specs.declared.setup.Order.{Order}
 use Rattle.fmp_machine.specs.declared.setup.Order.TheVariants as order
 use Rattle.fmp_machine.specs.declared.machine.TaskRecord.{TaskRecord}
 use Rattle.fmp_machine.specs.World.{item}
-use Rattle.fmp_machine.specs.Numbers.{inserted, comes_before, rank_in}
+use Rattle.fmp_machine.specs.Arrivals.{inserted, comes_before, rank_in}
 use Rattle.fmp_safety.proofs.First.{comes_before_is_strict}
 use Rattle.fmp_links.specs.Tasks.{without}
 use Rattle.fmp_waitq.specs.Queue.{Waiter, task_of, rank_of, left_by, put_ranked, joined_by}

@@ -10,7 +10,7 @@ use Rattle.fmp_machine.specs.declared.machine.Wait.TheVariants as wait
 use Rattle.fmp_machine.specs.declared.machine.QueueKind.{QueueKind}
 use Rattle.fmp_machine.specs.declared.machine.QueueKind.TheVariants as kind
 use Rattle.fmp_machine.specs.World.{item, with_item}
-use Rattle.fmp_machine.specs.Keeping.{is_in, waits_in}
+use Rattle.fmp_machine.specs.Ordering.{is_in, waits_in}
 use Rattle.fmp_safety.proofs.Items.{object_same, item_same, item_other}
 use Rattle.fmp_waitq.specs.Queue.{Waiter}
 use Rattle.fmp_queues.specs.Queues.{WaitQueues, queues, with_queues, queue, Place, place_of, place_in, changed}

@@ -7,8 +7,8 @@ use Rattle.fmp_codes.specs.declared.numbers.Task.{Task}
 use Rattle.fmp_codes.specs.declared.numbers.Pri.{Pri}
 use Rattle.fmp_machine.specs.declared.machine.TaskRecord.{TaskRecord}
 use Rattle.fmp_machine.specs.World.{item, with_item, no_task}
-use Rattle.fmp_machine.specs.Keeping.{is_runnable}
-use Rattle.fmp_machine.specs.Numbers.{comes_before, priority_in}
+use Rattle.fmp_machine.specs.Ordering.{is_runnable}
+use Rattle.fmp_machine.specs.Arrivals.{comes_before, priority_in}
 use Rattle.fmp_safety.proofs.First.{comes_before_is_strict}
 use Rattle.fmp_links.specs.Tasks.{without}
 use Rattle.fmp_ready.specs.Queues.{list_number, list_at, push_last, take_out}

@@ -4,15 +4,15 @@ use Rattle.fmp_codes.specs.declared.numbers.Proc.{Proc}
 use Rattle.fmp_machine.specs.declared.machine.Wait.{Wait}
 use Rattle.fmp_machine.specs.declared.machine.Wait.TheVariants as wait
 use Rattle.fmp_machine.specs.World.{World}
-use Rattle.fmp_machine.specs.Keeping.{Keeping, top, order_in}
-use Rattle.fmp_machine.specs.Numbers.{State, numbered}
+use Rattle.fmp_machine.specs.Ordering.{Ordering, top, order_in}
+use Rattle.fmp_machine.specs.Arrivals.{State, numbered}
 use Rattle.fmp_safety.specs.Safe.{MayWait, Safe}
 use Rattle.fmp_queues.specs.Queues.{Queues, listed}
 use Rattle.fmp_lists.specs.Stands.{count_in, with_order, Stands}
 use Rattle.fmp_lists.specs.Laws.{TellsAlike, ListsAreRight}
 use Rattle.fmp_lists.proofs.Tops.{same_top, same_ready, same_waiters, same_timed}
 
-module _ {Q R : Type 0} (k : Keeping Q) (l : Keeping R) (w : World Q) (x : R) where
+module _ {Q R : Type 0} (k : Ordering Q) (l : Ordering R) (w : World Q) (x : R) where
   abbrev v : World R
   v = with_order w x
 

@@ -9,7 +9,7 @@ use Rattle.fmp_codes.specs.declared.calls.SpinCall.TheVariants as call
 use Rattle.fmp_machine.specs.declared.machine.Context.{Context}
 use Rattle.fmp_machine.specs.declared.machine.Context.TheVariants as context
 use Rattle.fmp_machine.specs.World.{World}
-use Rattle.fmp_machine.specs.Numbers.{State}
+use Rattle.fmp_machine.specs.Arrivals.{State}
 use Rattle.fmp_machine.specs.Objects.{holder}
 use Rattle.fmp_machine.specs.Processors.{unlocked}
 use Rattle.fmp_machine.specs.Arguments.{object_named}

@@ -14,10 +14,10 @@ use Rattle.fmp_machine.specs.Effects.{Effect}
 use Rattle.fmp_machine.specs.declared.machine.Processor.{Processor}
 use Rattle.fmp_machine.specs.World.{World, item, processor, handler, runner_of, is_held, processors_of}
 use Rattle.fmp_machine.specs.Setup.{has_time}
-use Rattle.fmp_machine.specs.Keeping.{order_in, top}
-use Rattle.fmp_machine.specs.Numbers.{State, numbered}
+use Rattle.fmp_machine.specs.Ordering.{order_in, top}
+use Rattle.fmp_machine.specs.Arrivals.{State, numbered}
 use Rattle.fmp_machine.specs.Rows.{called}
-use Rattle.fmp_machine.specs.Step.{row_of, is_same, requests, settle, changed_run, Front, front_of, settled, unchanged, step}
+use Rattle.fmp_machine.specs.Step.{row_of, is_same, requests, settle, changed_run, Before, before_event, settled, unchanged, step}
 use Rattle.fmp_safety.specs.Runs.{processor_of}
 use Rattle.fmp_safety.specs.Safe.{IsNumberOf, Safe}
 use Rattle.fmp_safety.proofs.Settling.{with_latches, with_dispatch, settle_is}
@@ -62,48 +62,48 @@ module _ (v : State) (x : Queues) (s : Keeps x v) where
     kept_settle : Keeps x (settle numbered before v p)
     kept_settle = subst (Keeps x) (sym (settle_is numbered before v p)) s
 
-  settled_same : (front : Front) (e : Effect) → StepsMatch (settled listed front (with_order v x, e)) (settled numbered front (v, e))
+  settled_same : (before : Before) (e : Effect) → StepsMatch (settled listed before (with_order v x, e)) (settled numbered before (v, e))
   unfolding settled
-  settled_same front e =
-      let after : State = settle numbered front.tops v front.processor in
-      let same : settle listed front.tops (with_order v x) front.processor ≡ with_order after x = same_settle front.tops front.processor in
-      let order : x ≡ (settle listed front.tops (with_order v x) front.processor).order = sym (ap (λ (y : World Queues). y.order) same) in
+  settled_same before e =
+      let after : State = settle numbered before.tops v before.processor in
+      let same : settle listed before.tops (with_order v x) before.processor ≡ with_order after x = same_settle before.tops before.processor in
+      let order : x ≡ (settle listed before.tops (with_order v x) before.processor).order = sym (ap (λ (y : World Queues). y.order) same) in
       record {
-        stands = record { same = same ∙ ap (λ (y : Queues). with_order after y) order; order = subst (λ (y : Queues). Keeps y after) order (kept_settle front.tops front.processor) };
-        same = ap (λ (y : World Queues). told y (requests listed front.tops (with_order v x) front.processor)) same
-            ∙ ap (λ (rs : List Proc). told (with_order after x) rs) (same_requests front.tops front.processor);
+        stands = record { same = same ∙ ap (λ (y : Queues). with_order after y) order; order = subst (λ (y : Queues). Keeps y after) order (kept_settle before.tops before.processor) };
+        same = ap (λ (y : World Queues). told y (requests listed before.tops (with_order v x) before.processor)) same
+            ∙ ap (λ (rs : List Proc). told (with_order after x) rs) (same_requests before.tops before.processor);
       }
     where
       told : World Queues → List Proc → Record
       told y rs = record {
-        event = front.event;
-        runner = front.runner;
+        event = before.event;
+        runner = before.runner;
         answer = e.answer;
         releases = e.releases;
         lost = e.lost;
-        run_change = changed_run front.running (processor y front.processor).running;
+        run_change = changed_run before.running (processor y before.processor).running;
         requests = rs;
       }
 
-settled_matches : (front : Front) (a : World Queues × Effect) (b : State × Effect) → Matches a b → StepsMatch (settled listed front a) (settled numbered front b)
-settled_matches front a b h =
+settled_matches : (before : Before) (a : World Queues × Effect) (b : State × Effect) → Matches a b → StepsMatch (settled listed before a) (settled numbered before b)
+settled_matches before a b h =
     let is : a ≡ (with_order b.0 a.0.order, b.1) = λ i. (h.stands.same i, h.effect i) in
-    subst (λ (y : World Queues × Effect). StepsMatch (settled listed front y) (settled numbered front b)) (sym is) (settled_same b.0 a.0.order h.stands.order front b.1)
+    subst (λ (y : World Queues × Effect). StepsMatch (settled listed before y) (settled numbered before b)) (sym is) (settled_same b.0 a.0.order h.stands.order before b.1)
 
 module _ (m : State) (q : Queues) (s : Keeps q m) where
   abbrev w : World Queues
   w = with_order m q
 
-  same_front : (e : Event) (p : Proc) → front_of listed w e p ≡ front_of numbered m e p
-  unfolding front_of
-  same_front e p =
+  same_before : (e : Event) (p : Proc) → before_event listed w e p ≡ before_event numbered m e p
+  unfolding before_event
+  same_before e p =
       ap (λ (first : Proc → Option Task). record { event = e; processor = p; runner = runner_of m p; running = (processor m p).running; tops = map first (processors_of m) })
       (same_tops m q s)
 
-  ended : (e : Event) (p : Proc) (a : World Queues × Effect) (b : State × Effect) → Matches a b → StepsMatch (settled listed (front_of listed w e p) a) (settled numbered (front_of numbered m e p) b)
+  ended : (e : Event) (p : Proc) (a : World Queues × Effect) (b : State × Effect) → Matches a b → StepsMatch (settled listed (before_event listed w e p) a) (settled numbered (before_event numbered m e p) b)
   ended e p a b h =
-      subst (λ (f : Front). StepsMatch (settled listed f a) (settled numbered (front_of numbered m e p) b)) (sym (same_front e p))
-      (settled_matches (front_of numbered m e p) a b h)
+      subst (λ (f : Before). StepsMatch (settled listed f a) (settled numbered (before_event numbered m e p) b)) (sym (same_before e p))
+      (settled_matches (before_event numbered m e p) a b h)
 
   nothing : (e : Event) (p : Proc) (a : Answer) → StepsMatch (unchanged w e p a) (unchanged m e p a)
   unfolding unchanged

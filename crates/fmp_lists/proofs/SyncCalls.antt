@@ -15,8 +15,8 @@ use Rattle.fmp_machine.specs.declared.machine.Wait.TheVariants as wait
 use Rattle.fmp_machine.specs.declared.machine.QueueKind.TheVariants as kind
 use Rattle.fmp_machine.specs.World.{World, task, first}
 use Rattle.fmp_machine.specs.Objects.{semaphore, eventflag, holds}
-use Rattle.fmp_machine.specs.Keeping.{queue}
-use Rattle.fmp_machine.specs.Numbers.{State, numbered}
+use Rattle.fmp_machine.specs.Ordering.{queue}
+use Rattle.fmp_machine.specs.Arrivals.{State, numbered}
 use Rattle.fmp_machine.specs.Tasks.{make_ready}
 use Rattle.fmp_machine.specs.Arguments.{object_named, forever}
 use Rattle.fmp_machine.specs.Rows.{called, done}

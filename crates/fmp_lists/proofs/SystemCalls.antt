@@ -8,13 +8,13 @@ use Rattle.fmp_codes.specs.declared.numbers.Pri.{Pri}
 use Rattle.fmp_codes.specs.declared.calls.SystemCall.{SystemCall}
 use Rattle.fmp_codes.specs.declared.calls.SystemCall.TheVariants as call
 use Rattle.fmp_machine.specs.World.{World, task, processor, handler, is_held, first}
-use Rattle.fmp_machine.specs.Numbers.{State, Numbers, numbered}
+use Rattle.fmp_machine.specs.Arrivals.{State, Arrivals, numbered}
 use Rattle.fmp_machine.specs.Tasks.{rotate}
 use Rattle.fmp_machine.specs.Arguments.{caller, processor_named, priority_or}
 use Rattle.fmp_machine.specs.Rows.{Row, check, called, in_handler, done}
 use Rattle.fmp_machine.specs.SystemCalls.{rotation, rotation_in_handler, get_tid, get_pid, loc_cpu, unl_cpu, dis_dsp, ena_dsp, sense, system_row}
 use Rattle.fmp_queues.specs.Queues.{Queues, listed}
-use Rattle.fmp_machine.specs.Keeping.{order_in}
+use Rattle.fmp_machine.specs.Ordering.{order_in}
 use Rattle.fmp_lists.specs.Stands.{count_in, with_order, Keeps, Matches}
 use Rattle.fmp_lists.proofs.Listings.{In, itself}
 use Rattle.fmp_lists.proofs.Tops.{same_ready, runs_within}
@@ -50,7 +50,7 @@ module _ (m : State) (q : Queues) (s : Keeps q m) where
         (λ _. rotated_on (unwrap_or r p) (priority_or (task m (caller m p)).priority n))
 
     -- a call that tells something, or changes its processor
-    plainly : (a : Row Queues) (b : Row Numbers) → Keeps q b.effect.0 → check w p a ≡ check m p b → a.effect ≡ (with_order b.effect.0 q, b.effect.1) → Matches (called w p a) (called m p b)
+    plainly : (a : Row Queues) (b : Row Arrivals) → Keeps q b.effect.0 → check w p a ≡ check m p b → a.effect ≡ (with_order b.effect.0 q, b.effect.1) → Matches (called w p a) (called m p b)
     plainly a b k same did = called_matches m q s p a b same (λ _. subst (λ x. Matches x b.effect) (sym did) (matches b.effect.0 q k b.effect.1))
 
     pub system_matches : (c : SystemCall) → Matches (called w p (system_row listed w p c)) (called m p (system_row numbered m p c))

@@ -15,7 +15,7 @@ use Rattle.fmp_machine.specs.declared.machine.Context.TheVariants as context
 use Rattle.fmp_machine.specs.declared.machine.Wait.{Wait}
 use Rattle.fmp_machine.specs.declared.machine.Wait.TheVariants as wait
 use Rattle.fmp_machine.specs.World.{World, task}
-use Rattle.fmp_machine.specs.Numbers.{State, numbered}
+use Rattle.fmp_machine.specs.Arrivals.{State, numbered}
 use Rattle.fmp_machine.specs.Tasks.{started, activate}
 use Rattle.fmp_machine.specs.Arguments.{caller, task_named, task_or_caller, class_of, processor_or_initial, forever, ticks_of}
 use Rattle.fmp_machine.specs.Processors.{opened}

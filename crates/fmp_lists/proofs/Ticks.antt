@@ -11,8 +11,8 @@ use Rattle.fmp_machine.specs.Effects.{Effect}
 use Rattle.fmp_machine.specs.Setup.{counts_for}
 use Rattle.fmp_machine.specs.World.{World, task, item}
 use Rattle.fmp_machine.specs.Objects.{cyclic}
-use Rattle.fmp_machine.specs.Keeping.{order_in}
-use Rattle.fmp_machine.specs.Numbers.{State, numbered}
+use Rattle.fmp_machine.specs.Ordering.{order_in}
+use Rattle.fmp_machine.specs.Arrivals.{State, numbered}
 use Rattle.fmp_machine.specs.Tasks.{make_ready}
 use Rattle.fmp_machine.specs.Rows.{plain}
 use Rattle.fmp_machine.specs.TimeCalls.{with_alarm_left, with_cyclic_left}

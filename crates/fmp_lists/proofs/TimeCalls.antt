@@ -4,7 +4,7 @@ use Rattle.fmp_codes.specs.declared.numbers.Proc.{Proc}
 use Rattle.fmp_codes.specs.declared.calls.TimeCall.{TimeCall}
 use Rattle.fmp_codes.specs.declared.calls.TimeCall.TheVariants as call
 use Rattle.fmp_machine.specs.World.{World}
-use Rattle.fmp_machine.specs.Numbers.{State, numbered}
+use Rattle.fmp_machine.specs.Arrivals.{State, numbered}
 use Rattle.fmp_machine.specs.Rows.{check, called}
 use Rattle.fmp_machine.specs.TimeCalls.{sta_cyc, msta_cyc, stp_cyc, sta_alm, msta_alm, stp_alm, time_row}
 use Rattle.fmp_safety.specs.Safe.{IsNumberOf, Safe}

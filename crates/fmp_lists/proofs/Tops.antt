@@ -12,8 +12,8 @@ use Rattle.fmp_machine.specs.declared.machine.TaskRecord.{TaskRecord}
 use Rattle.fmp_machine.specs.declared.machine.QueueKind.{QueueKind}
 use Rattle.fmp_machine.specs.declared.setup.Order.{Order}
 use Rattle.fmp_machine.specs.World.{no_task, first}
-use Rattle.fmp_machine.specs.Keeping.{is_runnable}
-use Rattle.fmp_machine.specs.Numbers.{Numbers, numbered, comes_before, priority_in, is_ready_on, rank_in, in_order}
+use Rattle.fmp_machine.specs.Ordering.{is_runnable}
+use Rattle.fmp_machine.specs.Arrivals.{Arrivals, numbered, comes_before, priority_in, is_ready_on, rank_in, in_order}
 use Rattle.fmp_safety.proofs.First.{comes_before_is_strict}
 use Rattle.fmp_ready.specs.Queues.{list_number, list_at, first_of}
 use Rattle.fmp_waitq.specs.Queue.{task_of}
@@ -125,7 +125,7 @@ same_numbered : (q : Task → Bool) (rank : Task → ℕ) (ns : List ℕ) (next 
     IsListOf q (comes_before rank ns) us → us ≡ in_order q (comes_before rank ns) n
 same_numbered q rank ns next n us a few within l = same_order q (comes_before rank ns) (comes_before_is_strict rank ns) (numbers_total rank q ns next a) n us few within l
 
-module _ (tasks : List TaskRecord) (orders : QueueKind → Object → Order) (counts : QueueKind → ℕ) (left : List (Option ℕ)) (q : Queues) (n : Numbers)
+module _ (tasks : List TaskRecord) (orders : QueueKind → Object → Order) (counts : QueueKind → ℕ) (left : List (Option ℕ)) (q : Queues) (n : Arrivals)
     (s : IsOrderOf tasks orders counts left q n) where
   pub same_top : (p : Proc) → listed.top q tasks p ≡ numbered.top n tasks p
   unfolding listed numbered

@@ -13,8 +13,8 @@ use Rattle.fmp_machine.specs.declared.machine.Context.TheVariants as context
 use Rattle.fmp_machine.specs.declared.machine.Wait.{Wait}
 use Rattle.fmp_machine.specs.declared.machine.QueueKind.{QueueKind}
 use Rattle.fmp_machine.specs.World.{World, first}
-use Rattle.fmp_machine.specs.Keeping.{order_in, queue}
-use Rattle.fmp_machine.specs.Numbers.{Numbers, State, numbered}
+use Rattle.fmp_machine.specs.Ordering.{order_in, queue}
+use Rattle.fmp_machine.specs.Arrivals.{Arrivals, State, numbered}
 use Rattle.fmp_machine.specs.Arguments.{object_named}
 use Rattle.fmp_machine.specs.Rows.{Row, is_refused_context, first_error, check, done_or_wait}
 use Rattle.fmp_safety.specs.Safe.{IsNumberOf, Safe}
@@ -56,7 +56,7 @@ module _ (m : State) (q : Queues) (s : Keeps q m) where
       go (t ∷ ts) h = some t (h t (or_left _ _ (itself t)))
 
   -- checks whose errors ask the order
-  pub same_checks : (p : Proc) (a : Row Queues) (b : Row Numbers) → a.rule ≡ b.rule → a.known ≡ b.known → a.proper ≡ b.proper → a.errors ≡ b.errors → check w p a ≡ check m p b
+  pub same_checks : (p : Proc) (a : Row Queues) (b : Row Arrivals) → a.rule ≡ b.rule → a.known ≡ b.known → a.proper ≡ b.proper → a.errors ≡ b.errors → check w p a ≡ check m p b
   same_checks p a b rule known proper errors =
       λ i. first_error ((is_refused_context m p (rule i), code.Context) ∷ (not (known i), code.Identifier) ∷ (not (proper i), code.Parameter) ∷ errors i)
 

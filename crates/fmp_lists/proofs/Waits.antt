@@ -10,8 +10,8 @@ use Rattle.fmp_machine.specs.declared.machine.TaskRecord.{TaskRecord}
 use Rattle.fmp_machine.specs.declared.machine.Wait.{Wait}
 use Rattle.fmp_machine.specs.declared.machine.QueueKind.{QueueKind}
 use Rattle.fmp_machine.specs.World.{item, with_item, no_task}
-use Rattle.fmp_machine.specs.Keeping.{waits_in}
-use Rattle.fmp_machine.specs.Numbers.{comes_before, rank_in}
+use Rattle.fmp_machine.specs.Ordering.{waits_in}
+use Rattle.fmp_machine.specs.Arrivals.{comes_before, rank_in}
 use Rattle.fmp_safety.proofs.First.{comes_before_is_strict}
 use Rattle.fmp_links.specs.Tasks.{without}
 use Rattle.fmp_waitq.specs.Queue.{Waiter, task_of, rank_of, left_by, joined_by}

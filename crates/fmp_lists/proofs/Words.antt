@@ -13,8 +13,8 @@ use Rattle.fmp_machine.specs.declared.machine.Wait.TheVariants as wait
 use Rattle.fmp_machine.specs.declared.machine.QueueKind.{QueueKind}
 use Rattle.fmp_machine.specs.declared.machine.QueueKind.TheVariants as kind
 use Rattle.fmp_machine.specs.World.{World, item, with_item, no_task}
-use Rattle.fmp_machine.specs.Keeping.{is_runnable, order_in, order_of, depart, arrive}
-use Rattle.fmp_machine.specs.Numbers.{Numbers, numbered, rank_in}
+use Rattle.fmp_machine.specs.Ordering.{is_runnable, order_in, order_of, depart, arrive}
+use Rattle.fmp_machine.specs.Arrivals.{Arrivals, numbered, rank_in}
 use Rattle.fmp_links.specs.Tasks.{has_task, without}
 use Rattle.fmp_ready.specs.Queues.{take_out}
 use Rattle.fmp_waitq.specs.Queue.{Waiter, task_of, rank_of, waiter_of, left_by, joined_by}
@@ -37,7 +37,7 @@ unfolding listed
 depart_is q o u = elim (is_runnable o) as (λ b. cond b (listed.take_out q o u) q ≡ record q { ready = cond b (take_out q.ready u) q.ready })
     [ true ↦ refl | false ↦ refl ]
 
-depart_numbers : (n : Numbers) (o : TaskRecord) (u : Task) → depart numbered n o u ≡ n
+depart_numbers : (n : Arrivals) (o : TaskRecord) (u : Task) → depart numbered n o u ≡ n
 unfolding numbered
 depart_numbers n o u = cond_both (is_runnable o) n n (λ x. x ≡ n) (λ _. refl) (λ _. refl)
 
@@ -50,7 +50,7 @@ length_changed q (Some at) f k =
 waiting_rests : (r : TaskRecord) (x : Wait) → r.wait ≡ Some x → is_runnable r ≡ false
 waiting_rests r x e = and_left _ _ (and_right r.active _ (ap (λ a. not (is_some a)) e))
 
-module _ (tasks : List TaskRecord) (orders : QueueKind → Object → Order) (counts : QueueKind → ℕ) (n : Numbers)
+module _ (tasks : List TaskRecord) (orders : QueueKind → Object → Order) (counts : QueueKind → ℕ) (n : Arrivals)
     (u : Task) (within : u.number ≤ length tasks) (r : TaskRecord) where
   abbrev o : TaskRecord
   o = record_in tasks u
@@ -62,11 +62,11 @@ module _ (tasks : List TaskRecord) (orders : QueueKind → Object → Order) (co
   mine = own_item no_task tasks r u within
 
   -- the order after the change
-  abbrev Fits : List (Option ℕ) → Queues → Numbers → Type 0
+  abbrev Fits : List (Option ℕ) → Queues → Arrivals → Type 0
   Fits left q m = IsOrderOf new orders counts left q m
 
   -- the order after the task left its ready queue and went last where it is ready then
-  abbrev Moved : List (Option ℕ) → Queues → Numbers → Type 0
+  abbrev Moved : List (Option ℕ) → Queues → Arrivals → Type 0
   Moved left q m = Fits left (arrive listed (depart listed q o u) r u) (arrive numbered (depart numbered m o u) r u)
 
   moved : (q : Queues) (left : List (Option ℕ)) → ReadyIs tasks q.ready n.ready n.next →
@@ -74,7 +74,7 @@ module _ (tasks : List TaskRecord) (orders : QueueKind → Object → Order) (co
   unfolding listed numbered
   moved q left s waits sized =
       subst (λ (x : Queues). Fits left (arrive listed x r u) (arrive numbered (depart numbered n o u) r u)) (sym (depart_is q o u))
-      (subst (λ (m : Numbers). Fits left (arrive listed (record q { ready = departed o u q.ready }) r u) (arrive numbered m r u)) (sym (depart_numbers n o u))
+      (subst (λ (m : Arrivals). Fits left (arrive listed (record q { ready = departed o u q.ready }) r u) (arrive numbered m r u)) (sym (depart_numbers n o u))
       (by_tests (Fits left) (is_runnable r) _ _ _ _
       (λ runs. record { ready = ready_arrives u r tasks (departed o u q.ready) n.ready n.next within runs out; waits = waits (n.next + 1) (omega arith); sized = sized })
       (λ rests. record { ready = ready_away u r tasks (departed o u q.ready) n.ready n.next within rests n.next (omega arith) out; waits = waits n.next (omega arith); sized = sized })))
@@ -89,8 +89,8 @@ module _ (tasks : List TaskRecord) (orders : QueueKind → Object → Order) (co
 
   module _ (left : List (Option ℕ)) (q : Queues) (s : IsOrderOf tasks orders counts left q n) where
     -- the fields change, and the task keeps its place
-    pub order_note : is_runnable r ≡ is_runnable o → r.assigned ≡ o.assigned → r.priority ≡ o.priority → r.wait ≡ o.wait → Fits left q n
-    order_note runs assigned priority wait = record {
+    pub order_with_task : is_runnable r ≡ is_runnable o → r.assigned ≡ o.assigned → r.priority ≡ o.priority → r.wait ≡ o.wait → Fits left q n
+    order_with_task runs assigned priority wait = record {
       ready = ready_noted u r tasks q.ready n.ready n.next within runs assigned priority s.ready;
       waits = waits_kept u tasks orders left q.waits q.timed n.begun n.next r wait (λ x i _. ap (rank_of (orders x i)) priority) n.next (omega arith) within s.waits;
       sized = s.sized;
@@ -155,7 +155,7 @@ module _ (tasks : List TaskRecord) (orders : QueueKind → Object → Order) (co
       unfolding listed numbered
       order_begin l none known =
           subst (λ (y : Queues). Fits more (listed.join y i r l u) (numbered.join (depart numbered n o u) i r l u)) (sym (depart_is q o u))
-          (subst (λ (m : Numbers). Fits more (listed.join (record q { ready = departed o u q.ready }) i r l u) (numbered.join m i r l u)) (sym (depart_numbers n o u))
+          (subst (λ (m : Arrivals). Fits more (listed.join (record q { ready = departed o u q.ready }) i r l u) (numbered.join m i r l u)) (sym (depart_numbers n o u))
           (record {
             ready = ready_away u r tasks (departed o u q.ready) n.ready n.next within (waiting_rests r x waiting) (n.next + 1) (omega arith)
                 (ready_out u tasks q.ready n.ready n.next s.ready);

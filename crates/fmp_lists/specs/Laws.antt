@@ -7,8 +7,8 @@ use Rattle.fmp_codes.specs.declared.numbers.Pri.{Pri}
 use Rattle.fmp_links.specs.Tasks.{has_task}
 use Rattle.fmp_machine.specs.declared.machine.QueueKind.{QueueKind}
 use Rattle.fmp_machine.specs.World.{World}
-use Rattle.fmp_machine.specs.Keeping.{top, queue}
-use Rattle.fmp_machine.specs.Numbers.{State, numbered}
+use Rattle.fmp_machine.specs.Ordering.{top, queue}
+use Rattle.fmp_machine.specs.Arrivals.{State, numbered}
 use Rattle.fmp_queues.specs.Queues.{Queues, listed}
 use Rattle.fmp_lists.specs.Stands.{is_ready_at, is_waiter_of, has_ticks}
 

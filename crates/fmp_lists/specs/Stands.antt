@@ -15,8 +15,8 @@ use Rattle.fmp_machine.specs.declared.machine.Pool.{Pool}
 use Rattle.fmp_machine.specs.declared.machine.QueueKind.{QueueKind}
 use Rattle.fmp_machine.specs.declared.machine.QueueKind.TheVariants as kind
 use Rattle.fmp_machine.specs.World.{World, item, no_task}
-use Rattle.fmp_machine.specs.Keeping.{is_runnable, waits_in, order_in}
-use Rattle.fmp_machine.specs.Numbers.{Numbers, State, comes_before, priority_in, is_ready_on, rank_in}
+use Rattle.fmp_machine.specs.Ordering.{is_runnable, waits_in, order_in}
+use Rattle.fmp_machine.specs.Arrivals.{Arrivals, State, comes_before, priority_in, is_ready_on, rank_in}
 use Rattle.fmp_ready.specs.Queues.{list_number, list_at}
 use Rattle.fmp_waitq.specs.Queue.{Waiter, task_of}
 use Rattle.fmp_queues.specs.Queues.{WaitQueues, Queues, queues, queue}
@@ -82,7 +82,7 @@ pub record WaitsAre (tasks : List TaskRecord) (orders : QueueKind → Object →
   pub left_counted : length left ≡ length tasks
 
 -- the ready lists, the queues, as many as there are objects, and the timed waits are those of the tasks
-pub record IsOrderOf (tasks : List TaskRecord) (orders : QueueKind → Object → Order) (counts : QueueKind → ℕ) (left : List (Option ℕ)) (q : Queues) (n : Numbers) : Type 0 where
+pub record IsOrderOf (tasks : List TaskRecord) (orders : QueueKind → Object → Order) (counts : QueueKind → ℕ) (left : List (Option ℕ)) (q : Queues) (n : Arrivals) : Type 0 where
   pub ready : ReadyIs tasks q.ready n.ready n.next
   pub waits : WaitsAre tasks orders left q.waits q.timed n.begun n.next
   pub sized : (x : QueueKind) → length (queues q.waits x) ≡ counts x

@@ -4,7 +4,7 @@ ghost use Rattle.fmp_codes.specs.declared.records.Event.{Event};
 ghost use Rattle.fmp_machine.specs.Setup.{Setup};
 ghost use Rattle.fmp_machine.specs.Valid.{IsValid};
 ghost use Rattle.fmp_machine.specs.World.{World};
-ghost use Rattle.fmp_machine.specs.Numbers.{State, numbered};
+ghost use Rattle.fmp_machine.specs.Arrivals.{State, numbered};
 ghost use Rattle.fmp_machine.specs.Step as machine;
 ghost use Rattle.fmp_machine.specs.Boot as boot;
 ghost use Rattle.fmp_safety.specs.Safe.{Safe};

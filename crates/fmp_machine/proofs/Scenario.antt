@@ -16,7 +16,7 @@ use Rattle.fmp_codes.specs.declared.records.Release.{Release}
 use Rattle.fmp_machine.specs.declared.setup.Class.{Class}
 use Rattle.fmp_machine.specs.declared.setup.TaskSetup.{TaskSetup}
 use Rattle.fmp_machine.specs.Setup.{Setup}
-use Rattle.fmp_machine.specs.Numbers.{numbered}
+use Rattle.fmp_machine.specs.Arrivals.{numbered}
 use Rattle.fmp_machine.specs.Step.{answers}
 use Rattle.fmp_machine.specs.Boot.{booted}
 

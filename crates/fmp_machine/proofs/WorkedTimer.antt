@@ -13,13 +13,13 @@ use Rattle.fmp_machine.specs.declared.setup.Timer.TheVariants as timer
 use Rattle.fmp_machine.specs.declared.setup.TaskSetup.{TaskSetup}
 use Rattle.fmp_machine.specs.Setup.{Setup, of_tasks, MayHandle}
 use Rattle.fmp_machine.specs.Valid.{IsTimerOf, AreLimits}
-use Rattle.fmp_machine.specs.Numbers.{numbered}
+use Rattle.fmp_machine.specs.Arrivals.{numbered}
 use Rattle.fmp_machine.specs.TaskCalls.{act, dly_tsk, mig_tsk, wup, can_wup, chg_pri}
 use Rattle.fmp_machine.specs.SystemCalls.{rotation}
 use Rattle.fmp_machine.specs.SpinCalls.{ret_hdr}
 use Rattle.fmp_machine.specs.Tick.{counted_down, ticked, with_handlers_due}
 use Rattle.fmp_machine.specs.TimeCalls.{sta_alm, msta_alm, msta_cyc}
-use Rattle.fmp_machine.specs.Step.{front_of, settled, unchanged}
+use Rattle.fmp_machine.specs.Step.{before_event, settled, unchanged}
 use Rattle.fmp_machine.proofs.Scenario.{Plays, a_task, both, sole, ok, error, value, by_task, by_alarm, by_cyclic, nobody, call_on, tick_on, ipi_on, runs, released}
 
 -- a machine of these tasks whose time is that of processor 1
@@ -34,7 +34,7 @@ master_ends_a_delay : Plays (with_master 2 (a_task (both 1) 10 true ∷ a_task (
     ∷ record (by_task 1 (tick_on 1) answer.Taken) { releases = released 2 code.Accepted None ∷ []; requests = as_proc 2 ∷ [] }
     ∷ record (nobody (ipi_on 2) answer.Taken) { run_change = runs 2 }
     ∷ [])
-unfolding numbered front_of settled unchanged dly_tsk counted_down ticked with_handlers_due
+unfolding numbered before_event settled unchanged dly_tsk counted_down ticked with_handlers_due
 master_ends_a_delay = refl
 
 -- a tick elsewhere dispatches nothing, and none is held there; those of the master are
@@ -47,7 +47,7 @@ ticks_elsewhere : Plays (with_master 2 (a_task (both 1) 10 true ∷ a_task (both
     ∷ by_task 1 (call_on 1 (call.System system.LocCpu)) ok
     ∷ by_task 1 (tick_on 1) answer.Held
     ∷ [])
-unfolding numbered front_of settled unchanged act counted_down ticked with_handlers_due
+unfolding numbered before_event settled unchanged act counted_down ticked with_handlers_due
 ticks_elsewhere = refl
 
 -- waits of both processors end in the order in which they began, and one that migrates keeps its count
@@ -60,7 +60,7 @@ service_of_all : Plays (with_master 2 (a_task (both 1) 10 true ∷ a_task (both 
     ∷ record (by_task 1 (tick_on 1) answer.Taken) { releases = released 2 code.Accepted None ∷ released 3 code.Accepted None ∷ []; requests = as_proc 2 ∷ [] }
     ∷ record (nobody (ipi_on 2) answer.Taken) { run_change = runs 2 }
     ∷ [])
-unfolding numbered front_of settled unchanged dly_tsk mig_tsk counted_down ticked with_handlers_due
+unfolding numbered before_event settled unchanged dly_tsk mig_tsk counted_down ticked with_handlers_due
 service_of_all = refl
 
 -- all handlers are the master's, also those that another processor starts, and none can be moved from it
@@ -82,7 +82,7 @@ handlers_of_the_master : Plays (record (with_master 2 (a_task (both 1) 10 true �
     ∷ by_task 1 (tick_on 1) answer.Taken
     ∷ by_alarm 1 (call_on 1 call.RetHdr) ok
     ∷ [])
-unfolding numbered front_of settled unchanged sta_alm msta_alm msta_cyc counted_down ticked with_handlers_due ret_hdr
+unfolding numbered before_event settled unchanged sta_alm msta_alm msta_cyc counted_down ticked with_handlers_due ret_hdr
 handlers_of_the_master = refl
 
 -- three queued wakeups, and priorities up to 32
@@ -96,7 +96,7 @@ larger_limits : Plays (record (of_tasks 2 (a_task (both 1) 10 true ∷ a_task (b
     ∷ by_task 1 (call_on 1 (call.Task (task.CanWup (pos 2)))) (value (pos 3))
     ∷ by_task 1 (call_on 1 (call.System (system.RotRdq (pos 32)))) ok
     ∷ [])
-unfolding numbered front_of settled unchanged act wup chg_pri can_wup rotation
+unfolding numbered before_event settled unchanged act wup chg_pri can_wup rotation
 larger_limits = refl
 
 -- a class may have handlers of a global timer where it has the master alone

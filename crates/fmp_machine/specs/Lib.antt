@@ -1,24 +1,24 @@
-pub mod Setup
-pub mod Valid
-pub mod World
-pub mod Objects
-pub mod Keeping
-pub mod Tasks
-pub mod Numbers
-pub mod Arguments
-pub mod Effects
-pub mod Rows
-pub mod Processors
-pub mod TaskCalls
-pub mod SyncCalls
-pub mod BufferCalls
-pub mod TimeCalls
-pub mod SystemCalls
-pub mod SpinCalls
-pub mod Tick
-pub mod Step
-pub mod Boot
-pub mod Outcomes
-pub mod Parts
-pub mod Building
-pub mod Due
+pub mod Setup  -- What a configuration says: lists in the order of the numbers, which begin at 1.
+pub mod Valid  -- When a configuration is valid.
+pub mod World  -- The state of the machine, over any way Q to keep what came before what.
+pub mod Objects  -- Look-ups of the objects, and what of them a task may wait for.
+pub mod Ordering  -- Ways to keep what came before what, and the words by which tasks change.
+pub mod Tasks  -- How a task begins, becomes ready, moves, and ends.
+pub mod Arrivals  -- The model keeps numbers
+pub mod Arguments  -- What the arguments of calls name.
+pub mod Effects  -- What a call does besides changing the state.
+pub mod Rows  -- What is written of each call: where it may come from, its errors in order, and what it does.
+pub mod Processors  -- Locks and flags of a processor.
+pub mod TaskCalls  -- The calls on tasks.
+pub mod SyncCalls  -- The calls on semaphores and eventflags.
+pub mod BufferCalls  -- The calls on data queues and pools.
+pub mod TimeCalls  -- The calls on cyclic handlers and alarms.
+pub mod SystemCalls  -- The calls on the processors and on the state of dispatching.
+pub mod SpinCalls  -- The calls on spin locks, and the return of a handler.
+pub mod Tick  -- A tick: the counts fall, and what reaches 0 is served.
+pub mod Step  -- One step of the machine, and runs.
+pub mod Boot  -- The state at boot.
+pub mod Outcomes  -- How the code of a call answers: with an effect, or with the code that refuses the call.
+pub mod Parts  -- The configuration that its parts hold.
+pub mod Building  -- A configuration grows by classes, objects and defined names.
+pub mod Due  -- The least ticks left for which a tick on a processor counts.

@@ -14,7 +14,7 @@ use Rattle.fmp_codes.specs.declared.records.Runner.{Runner}
 use Rattle.fmp_machine.specs.Effects.{Effect}
 use Rattle.fmp_machine.specs.Setup.{has_time}
 use Rattle.fmp_machine.specs.World.{World, processor, with_processor, handler, runner_of, is_held, item, processors_of}
-use Rattle.fmp_machine.specs.Keeping.{Keeping, top}
+use Rattle.fmp_machine.specs.Ordering.{Ordering, top}
 use Rattle.fmp_machine.specs.Rows.{Row, called, plain}
 use Rattle.fmp_machine.specs.TaskCalls.{task_row}
 use Rattle.fmp_machine.specs.SyncCalls.{sync_row}
@@ -25,7 +25,7 @@ use Rattle.fmp_machine.specs.SpinCalls.{spin_row, ret_hdr}
 use Rattle.fmp_machine.specs.Tick.{tick}
 
 -- what is written of a call, by its family
-abbrev pub row_of : {Q : Type 0} → Keeping Q → World Q → Proc → Call → Row Q
+abbrev pub row_of : {Q : Type 0} → Ordering Q → World Q → Proc → Call → Row Q
 row_of k w p (call.Task c) = task_row k w p c
 row_of k w p (call.Sync c) = sync_row k w p c
 row_of k w p (call.Buffer c) = buffer_row k w p c
@@ -42,15 +42,15 @@ is_same (Some t) None = false
 is_same (Some t) (Some u) = t.number == u.number
 
 -- the top of each processor
-abbrev pub tops : {Q : Type 0} → Keeping Q → World Q → List (Option Task)
+abbrev pub tops : {Q : Type 0} → Ordering Q → World Q → List (Option Task)
 tops k w = map (top k w) (processors_of w)
 
 -- an event on q sends p a request: p is another, and its top is not what it was
-abbrev pub is_requested : {Q : Type 0} → Keeping Q → List (Option Task) → World Q → Proc → Proc → Bool
+abbrev pub is_requested : {Q : Type 0} → Ordering Q → List (Option Task) → World Q → Proc → Proc → Bool
 is_requested k before w q p = not (p.number == q.number) && not (is_same (item None before p.number) (top k w p))
 
 -- the processors to which an event on q sends a request, where these were the tops before it
-abbrev pub requests : {Q : Type 0} → Keeping Q → List (Option Task) → World Q → Proc → List Proc
+abbrev pub requests : {Q : Type 0} → Ordering Q → List (Option Task) → World Q → Proc → List Proc
 requests k before w q = filter (is_requested k before w q) (processors_of w)
 
 -- the latches of these processors are set
@@ -59,40 +59,40 @@ latched w [] = w
 latched w (p ∷ ps) = latched (with_processor w p (record (processor w p) { latch = true })) ps
 
 -- a processor that is not held runs its top, and its latch is cleared
-abbrev pub dispatched : {Q : Type 0} → Keeping Q → World Q → Proc → World Q
+abbrev pub dispatched : {Q : Type 0} → Ordering Q → World Q → Proc → World Q
 dispatched k w q = if is_held w q then w else with_processor w q (record (processor w q) { running = top k w q; latch = false })
 
 -- the end of an event on q
-abbrev pub settle : {Q : Type 0} → Keeping Q → List (Option Task) → World Q → Proc → World Q
+abbrev pub settle : {Q : Type 0} → Ordering Q → List (Option Task) → World Q → Proc → World Q
 settle k before w q = dispatched k (latched w (requests k before w q)) q
 
 abbrev pub changed_run : Option Task → Option Task → Option (Option Task)
 changed_run before after = if is_same before after then None else Some after
 
 -- what is remembered of the state before an event
-pub record Front : Type 0 where
+pub record Before : Type 0 where
   pub event : Event
   pub processor : Proc
   pub runner : Option Runner
   pub running : Option Task
   pub tops : List (Option Task)
 
-unfoldable pub front_of : {Q : Type 0} → Keeping Q → World Q → Event → Proc → Front
-front_of k w e q = record { event = e; processor = q; runner = runner_of w q; running = (processor w q).running; tops = tops k w }
+unfoldable pub before_event : {Q : Type 0} → Ordering Q → World Q → Event → Proc → Before
+before_event k w e q = record { event = e; processor = q; runner = runner_of w q; running = (processor w q).running; tops = tops k w }
 
 -- the state and the record after an event that did this
-unfoldable pub settled : {Q : Type 0} → Keeping Q → Front → (World Q × Effect) → World Q × Record
-settled k front did =
-    let after = settle k front.tops did.0 front.processor in (
+unfoldable pub settled : {Q : Type 0} → Ordering Q → Before → (World Q × Effect) → World Q × Record
+settled k before did =
+    let after = settle k before.tops did.0 before.processor in (
       after,
       record {
-        event = front.event;
-        runner = front.runner;
+        event = before.event;
+        runner = before.runner;
         answer = did.1.answer;
         releases = did.1.releases;
         lost = did.1.lost;
-        run_change = changed_run front.running (processor after front.processor).running;
-        requests = requests k front.tops did.0 front.processor;
+        run_change = changed_run before.running (processor after before.processor).running;
+        requests = requests k before.tops did.0 before.processor;
       },
     )
 
@@ -100,30 +100,30 @@ settled k front did =
 unfoldable pub unchanged : {Q : Type 0} → World Q → Event → Proc → Answer → World Q × Record
 unchanged w e q a = (w, answer_record e (runner_of w q) a)
 
-abbrev pub step : {Q : Type 0} → Keeping Q → World Q → Event → World Q × Record
+abbrev pub step : {Q : Type 0} → Ordering Q → World Q → Event → World Q × Record
 step k w (event.Call p c) =
     if is_some (runner_of w p)
-    then settled k (front_of k w (event.Call p c) p) (called w p (row_of k w p c))
+    then settled k (before_event k w (event.Call p c) p) (called w p (row_of k w p c))
     else unchanged w (event.Call p c) p answer.Idle
 step k w (event.Tick p) =
     if has_time w.timer p
     then (
     if (processor w p).locked || is_some (handler w p)
     then unchanged w (event.Tick p) p answer.Held
-    else settled k (front_of k w (event.Tick p) p) (tick k w p)
+    else settled k (before_event k w (event.Tick p) p) (tick k w p)
     )
     else unchanged w (event.Tick p) p answer.Nothing
 step k w (event.Ipi p) =
     if is_held w p
     then unchanged w (event.Ipi p) p answer.Held
-    else settled k (front_of k w (event.Ipi p) p) (w, plain (if (processor w p).latch then answer.Taken else answer.Nothing))
+    else settled k (before_event k w (event.Ipi p) p) (w, plain (if (processor w p).latch then answer.Taken else answer.Nothing))
 
 -- the state after a list of events
-abbrev pub replay : {Q : Type 0} → Keeping Q → World Q → List Event → World Q
+abbrev pub replay : {Q : Type 0} → Ordering Q → World Q → List Event → World Q
 replay k w [] = w
 replay k w (e ∷ es) = replay k (step k w e).0 es
 
 -- its records
-abbrev pub answers : {Q : Type 0} → Keeping Q → World Q → List Event → List Record
+abbrev pub answers : {Q : Type 0} → Ordering Q → World Q → List Event → List Record
 answers k w [] = []
 answers k w (e ∷ es) = (step k w e).1 ∷ answers k (step k w e).0 es

@@ -1,5 +1,5 @@
-pub mod Defined
-pub mod Listed
-pub mod Placed
-pub mod Same
-pub mod Valid
+pub mod Defined  -- The defined names in an index map.
+pub mod Listed  -- Tests and counts of the names in lists.
+pub mod Valid  -- One name more keeps what holds of all names.
+pub mod Placed  -- A name's number and a number's name give each other back.
+pub mod Same  -- What the comparison of lists says of their views.

@@ -1,2 +1,2 @@
-pub mod Constants
-pub mod Names
+pub mod Constants  -- The words that stand for values in the arguments of calls.
+pub mod Names  -- The names of a configuration, as lists in the order of their numbers.

@@ -1,1 +1,1 @@
-pub mod Forms
+pub mod Forms  -- Calls that have a form from a task and one from a handler.

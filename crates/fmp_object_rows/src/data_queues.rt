@@ -15,21 +15,21 @@ use fmp_words::{Objects, check_rule, check_timeout, data_queue_named, refuse_if,
 
 /// The first task that waits to receive of a data queue.
 fn receiver<M: Objects>(machine: &M, d: Object) -> Option<Task>
-    ensures { result ≡ receiver M.keeping (M.world machine.now) d }
+    ensures { result ≡ receiver M.ordering (M.world machine.now) d }
 {
     machine.first_waiter(QueueKind::Receive, d)
 }
 
 /// The first task that waits to send to a data queue.
 fn sender<M: Objects>(machine: &M, d: Object) -> Option<Task>
-    ensures { result ≡ sender M.keeping (M.world machine.now) d }
+    ensures { result ≡ sender M.ordering (M.world machine.now) d }
 {
     machine.first_waiter(QueueKind::Send, d)
 }
 
 /// Whether a receiver waits, or a place is free.
 fn can_send<M: Objects>(machine: &M, d: Object) -> bool
-    ensures value { result ≡ can_send M.keeping (M.world machine.now) d }
+    ensures value { result ≡ can_send M.ordering (M.world machine.now) d }
     ensures full { let w = M.world machine.now in result ≡ false → length (values w d) ≡ (data_queue w d).capacity }
 {
     let capacity = usize::from(machine.data_queue(d).capacity);
@@ -38,7 +38,7 @@ fn can_send<M: Objects>(machine: &M, d: Object) -> bool
 
 /// Whether there is a value, or a sender waits.
 fn can_receive<M: Objects>(machine: &M, d: Object) -> bool
-    ensures { result ≡ can_receive M.keeping (M.world machine.now) d }
+    ensures { result ≡ can_receive M.ordering (M.world machine.now) d }
 {
     machine.first_value(d).is_some() || sender(machine, d).is_some()
 }
@@ -47,7 +47,7 @@ fn can_receive<M: Objects>(machine: &M, d: Object) -> bool
 fn send<M: Objects>(machine: &mut M, d: Object, value: i64, waiter: Option<Task>) -> Effect
     requires place { waiter ≡ None → length (values (M.world machine.old) d) < (data_queue (M.world machine.old) d).capacity }
     requires room { 0 < M.room machine.old }
-    ensures state { (M.world machine.new, result) ≡ sent M.keeping (M.world machine.old) d value waiter }
+    ensures state { (M.world machine.new, result) ≡ sent M.ordering (M.world machine.old) d value waiter }
     ensures room { M.room machine.old ≤ M.room machine.new + 1 }
 {
     match waiter {
@@ -69,7 +69,7 @@ fn send_or_wait<M: Objects>(
 ) -> Result<Effect, Code>
     requires caller { is_some (processor (M.world machine.old) p).running ≡ true }
     requires room { 0 < M.room machine.old }
-    ensures state { let w = M.world machine.old in (M.world machine.new, effect_of result) ≡ done_or_wait M.keeping w p (can_send M.keeping w d) (sent M.keeping w d value (receiver M.keeping w d)) (Wait.Send d value) timeout }
+    ensures state { let w = M.world machine.old in (M.world machine.new, effect_of result) ≡ done_or_wait M.ordering w p (can_send M.ordering w d) (sent M.ordering w d value (receiver M.ordering w d)) (Wait.Send d value) timeout }
     ensures room { M.room machine.old ≤ M.room machine.new + 1 }
 {
     let waiter = receiver(machine, d);
@@ -90,7 +90,7 @@ pub(crate) fn tsnd_dtq<M: Objects>(
     timeout: i32,
 ) -> Result<Effect, Code>
     requires { 0 < M.room machine.old }
-    ensures row { let w = M.world machine.old in (M.world machine.new, effect_of result) ≡ called w p (tsnd_dtq M.keeping w p id value timeout) }
+    ensures row { let w = M.world machine.old in (M.world machine.new, effect_of result) ≡ called w p (tsnd_dtq M.ordering w p id value timeout) }
     ensures room { M.room machine.old ≤ M.room machine.new + 1 }
 {
     check_rule(machine, p, Rule::in_task().unheld_if(true))?;
@@ -109,7 +109,7 @@ pub(crate) fn psnd_dtq<M: Objects>(
     value: i64,
 ) -> Result<Effect, Code>
     requires { 0 < M.room machine.old }
-    ensures row { let w = M.world machine.old in (M.world machine.new, effect_of result) ≡ called w p (form_from context (psnd_dtq M.keeping w id value)) }
+    ensures row { let w = M.world machine.old in (M.world machine.new, effect_of result) ≡ called w p (form_from context (psnd_dtq M.ordering w id value)) }
     ensures room { M.room machine.old ≤ M.room machine.new + 1 }
 {
     check_form(machine, p, context, Rule::in_task())?;
@@ -153,7 +153,7 @@ pub(crate) fn fsnd_dtq<M: Objects>(
     value: i64,
 ) -> Result<Effect, Code>
     requires { 0 < M.room machine.old }
-    ensures row { let w = M.world machine.old in (M.world machine.new, effect_of result) ≡ called w p (form_from context (fsnd_dtq M.keeping w id value)) }
+    ensures row { let w = M.world machine.old in (M.world machine.new, effect_of result) ≡ called w p (form_from context (fsnd_dtq M.ordering w id value)) }
     ensures room { M.room machine.old ≤ M.room machine.new + 1 }
 {
     check_form(machine, p, context, Rule::in_task())?;
@@ -195,7 +195,7 @@ fn take_value<M: Objects>(machine: &mut M, d: Object, wait: Option<Wait>) -> i64
 /// Tells the oldest value, and takes in that of a sender, if one waits, which is released.
 fn receive<M: Objects>(machine: &mut M, d: Object, waiter: Option<Task>) -> Effect
     requires { 0 < M.room machine.old }
-    ensures state { (M.world machine.new, result) ≡ received M.keeping (M.world machine.old) d waiter }
+    ensures state { (M.world machine.new, result) ≡ received M.ordering (M.world machine.old) d waiter }
     ensures room { M.room machine.old ≤ M.room machine.new + 1 }
 {
     match waiter {
@@ -224,7 +224,7 @@ fn receive_or_wait<M: Objects>(
 ) -> Result<Effect, Code>
     requires caller { is_some (processor (M.world machine.old) p).running ≡ true }
     requires room { 0 < M.room machine.old }
-    ensures state { let w = M.world machine.old in (M.world machine.new, effect_of result) ≡ done_or_wait M.keeping w p (can_receive M.keeping w d) (received M.keeping w d (sender M.keeping w d)) (Wait.Receive d) timeout }
+    ensures state { let w = M.world machine.old in (M.world machine.new, effect_of result) ≡ done_or_wait M.ordering w p (can_receive M.ordering w d) (received M.ordering w d (sender M.ordering w d)) (Wait.Receive d) timeout }
     ensures room { M.room machine.old ≤ M.room machine.new + 1 }
 {
     let waiter = sender(machine, d);
@@ -244,7 +244,7 @@ pub(crate) fn trcv_dtq<M: Objects>(
     timeout: i32,
 ) -> Result<Effect, Code>
     requires { 0 < M.room machine.old }
-    ensures row { let w = M.world machine.old in (M.world machine.new, effect_of result) ≡ called w p (trcv_dtq M.keeping w p id timeout) }
+    ensures row { let w = M.world machine.old in (M.world machine.new, effect_of result) ≡ called w p (trcv_dtq M.ordering w p id timeout) }
     ensures room { M.room machine.old ≤ M.room machine.new + 1 }
 {
     check_rule(machine, p, Rule::in_task().unheld_if(true))?;
@@ -257,7 +257,7 @@ pub(crate) fn trcv_dtq<M: Objects>(
 #[tactic(auto, unfolding(fmp_machine::specs::BufferCalls::prcv_dtq))]
 pub(crate) fn prcv_dtq<M: Objects>(machine: &mut M, p: Proc, id: i32) -> Result<Effect, Code>
     requires { 0 < M.room machine.old }
-    ensures row { let w = M.world machine.old in (M.world machine.new, effect_of result) ≡ called w p (prcv_dtq M.keeping w id) }
+    ensures row { let w = M.world machine.old in (M.world machine.new, effect_of result) ≡ called w p (prcv_dtq M.ordering w id) }
     ensures room { M.room machine.old ≤ M.room machine.new + 1 }
 {
     check_rule(machine, p, Rule::in_task())?;

@@ -51,7 +51,7 @@ fn cleared<M: Objects>(machine: &M, f: Object, x: u32) -> u32
 fn serve<M: Objects>(machine: &mut M, f: Object, x: u32, tasks: &[Task], told: &mut Releases)
     requires few { length told.old + length tasks.now ≤ 64 }
     requires room { length tasks.now ≤ M.room machine.old }
-    ensures state { (M.world machine.new, told.new) ≡ and_releases told.old (served M.keeping (M.world machine.old) f x tasks.now) }
+    ensures state { (M.world machine.new, told.new) ≡ and_releases told.old (served M.ordering (M.world machine.old) f x tasks.now) }
     ensures room { M.room machine.old ≤ M.room machine.new + length tasks.now }
 {
     let mut bits = x;
@@ -83,7 +83,7 @@ pub(crate) fn set_flg<M: Objects>(
 ) -> Result<Effect, Code>
     requires room { 64 ≤ M.room machine.old }
     requires empty { told.old ≡ [] }
-    ensures row { let w = M.world machine.old in (M.world machine.new, adding told.new (effect_of result)) ≡ called w p (form_from context (set_flg M.keeping w id pattern)) }
+    ensures row { let w = M.world machine.old in (M.world machine.new, adding told.new (effect_of result)) ≡ called w p (form_from context (set_flg M.ordering w id pattern)) }
     ensures once { (effect_of result).releases ≡ [] }
     ensures room { M.room machine.old ≤ M.room machine.new + 64 }
 {
@@ -115,7 +115,7 @@ pub(crate) fn clr_flg<M: Objects>(
 
 /// Whether no other task may wait for an eventflag, since one does already.
 fn is_taken<M: Objects>(machine: &M, f: Object) -> bool
-    ensures { result ≡ is_taken M.keeping (M.world machine.now) f }
+    ensures { result ≡ is_taken M.ordering (M.world machine.now) f }
 {
     let waiter = machine.first_waiter(QueueKind::Eventflag, f);
     !machine.eventflag(f).setup.many && waiter.is_some()
@@ -143,7 +143,7 @@ fn answer_or_wait<M: Objects>(
 ) -> Result<Effect, Code>
     requires caller { is_some (processor (M.world machine.old) p).running ≡ true }
     requires room { 0 < M.room machine.old }
-    ensures state { let w = M.world machine.old in (M.world machine.new, effect_of result) ≡ done_or_wait M.keeping w p (holds (eventflag w f).pattern pattern mode) (answered w f) (Wait.Eventflag f pattern mode) timeout }
+    ensures state { let w = M.world machine.old in (M.world machine.new, effect_of result) ≡ done_or_wait M.ordering w p (holds (eventflag w f).pattern pattern mode) (answered w f) (Wait.Eventflag f pattern mode) timeout }
     ensures room { M.room machine.old ≤ M.room machine.new + 1 }
 {
     if holds(machine.eventflag(f).pattern, pattern, mode) {
@@ -172,7 +172,7 @@ pub(crate) fn twai_flg<M: Objects>(
     timeout: i32,
 ) -> Result<Effect, Code>
     requires { 0 < M.room machine.old }
-    ensures row { let w = M.world machine.old in (M.world machine.new, effect_of result) ≡ called w p (twai_flg M.keeping w p id pattern mode timeout) }
+    ensures row { let w = M.world machine.old in (M.world machine.new, effect_of result) ≡ called w p (twai_flg M.ordering w p id pattern mode timeout) }
     ensures room { M.room machine.old ≤ M.room machine.new + 1 }
 {
     check_rule(machine, p, Rule::in_task().unheld_if(true))?;
@@ -191,7 +191,7 @@ pub(crate) fn pol_flg<M: Objects>(
     pattern: u32,
     mode: Mode,
 ) -> Result<Effect, Code>
-    ensures row { let w = M.world machine.old in (M.world machine.new, effect_of result) ≡ called w p (pol_flg M.keeping w id pattern mode) }
+    ensures row { let w = M.world machine.old in (M.world machine.new, effect_of result) ≡ called w p (pol_flg M.ordering w id pattern mode) }
     ensures room { M.room machine.new ≡ M.room machine.old }
 {
     check_rule(machine, p, Rule::in_task())?;

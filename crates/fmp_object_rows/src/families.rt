@@ -32,7 +32,7 @@ pub fn sync_call<M: Objects>(
 ) -> Result<Effect, Code>
     requires room { 64 ≤ M.room machine.old }
     requires empty { told.old ≡ [] }
-    ensures row { let w = M.world machine.old in (M.world machine.new, adding told.new (effect_of result)) ≡ called w p (sync_row M.keeping w p call) }
+    ensures row { let w = M.world machine.old in (M.world machine.new, adding told.new (effect_of result)) ≡ called w p (sync_row M.ordering w p call) }
     ensures once { TellsOnce told.new (effect_of result) }
     ensures room { M.room machine.old ≤ M.room machine.new + 64 }
 {
@@ -56,7 +56,7 @@ pub fn sync_call<M: Objects>(
 /// A call on data queues and pools from a processor: what it did, or the code with which it is refused.
 pub fn buffer_call<M: Objects>(machine: &mut M, p: Proc, call: BufferCall) -> Result<Effect, Code>
     requires { 64 ≤ M.room machine.old }
-    ensures row { let w = M.world machine.old in (M.world machine.new, effect_of result) ≡ called w p (buffer_row M.keeping w p call) }
+    ensures row { let w = M.world machine.old in (M.world machine.new, effect_of result) ≡ called w p (buffer_row M.ordering w p call) }
     ensures room { M.room machine.old ≤ M.room machine.new + 64 }
 {
     match call {

@@ -1,7 +1,7 @@
 //! The calls on fixed-sized memory pools.
 ghost use Rattle.std.specs.Prelude.{◌≡◌, ◌+◌, ◌<◌, ◌≤◌};
 ghost use Rattle.fmp_machine.specs.World.{first};
-ghost use Rattle.fmp_machine.specs.Keeping.{queue};
+ghost use Rattle.fmp_machine.specs.Ordering.{queue};
 ghost use Rattle.fmp_machine.specs.Rows.{called};
 ghost use Rattle.fmp_machine.specs.Outcomes.{effect_of};
 ghost use Rattle.fmp_machine.specs.BufferCalls.{given, returned, tget_mpf, pget_mpf, rel_mpf};
@@ -29,7 +29,7 @@ pub(crate) fn tget_mpf<M: Objects>(
     timeout: i32,
 ) -> Result<Effect, Code>
     requires { 0 < M.room machine.old }
-    ensures row { let w = M.world machine.old in (M.world machine.new, effect_of result) ≡ called w p (tget_mpf M.keeping w p id timeout) }
+    ensures row { let w = M.world machine.old in (M.world machine.new, effect_of result) ≡ called w p (tget_mpf M.ordering w p id timeout) }
     ensures room { M.room machine.old ≤ M.room machine.new + 1 }
 {
     check_rule(machine, p, Rule::in_task().unheld_if(true))?;
@@ -56,7 +56,7 @@ pub(crate) fn pget_mpf<M: Objects>(machine: &mut M, p: Proc, id: i32) -> Result<
 /// Hands a block to the first task that waits for one, or else makes it free.
 fn take_back<M: Objects>(machine: &mut M, m: Object, block: u8) -> Effect
     requires { 0 < M.room machine.old }
-    ensures state { let w = M.world machine.old in (M.world machine.new, result) ≡ returned M.keeping w m block (first (queue M.keeping w QueueKind.Pool m)) }
+    ensures state { let w = M.world machine.old in (M.world machine.new, result) ≡ returned M.ordering w m block (first (queue M.ordering w QueueKind.Pool m)) }
     ensures room { M.room machine.old ≤ M.room machine.new + 1 }
 {
     match machine.first_waiter(QueueKind::Pool, m) {
@@ -77,7 +77,7 @@ pub(crate) fn rel_mpf<M: Objects>(
     block: i32,
 ) -> Result<Effect, Code>
     requires { 0 < M.room machine.old }
-    ensures row { let w = M.world machine.old in (M.world machine.new, effect_of result) ≡ called w p (rel_mpf M.keeping w id block) }
+    ensures row { let w = M.world machine.old in (M.world machine.new, effect_of result) ≡ called w p (rel_mpf M.ordering w id block) }
     ensures room { M.room machine.old ≤ M.room machine.new + 1 }
 {
     check_rule(machine, p, Rule::in_task())?;

@@ -20,7 +20,7 @@ pub(crate) fn sig_sem<M: Objects>(
     id: i32,
 ) -> Result<Effect, Code>
     requires { 0 < M.room machine.old }
-    ensures row { let w = M.world machine.old in (M.world machine.new, effect_of result) ≡ called w p (form_from context (sig_sem M.keeping w id)) }
+    ensures row { let w = M.world machine.old in (M.world machine.new, effect_of result) ≡ called w p (form_from context (sig_sem M.ordering w id)) }
     ensures room { M.room machine.old ≤ M.room machine.new + 1 }
 {
     check_form(machine, p, context, Rule::in_task())?;
@@ -49,7 +49,7 @@ pub(crate) fn twai_sem<M: Objects>(
     timeout: i32,
 ) -> Result<Effect, Code>
     requires { 0 < M.room machine.old }
-    ensures row { let w = M.world machine.old in (M.world machine.new, effect_of result) ≡ called w p (twai_sem M.keeping w p id timeout) }
+    ensures row { let w = M.world machine.old in (M.world machine.new, effect_of result) ≡ called w p (twai_sem M.ordering w p id timeout) }
     ensures room { M.room machine.old ≤ M.room machine.new + 1 }
 {
     check_rule(machine, p, Rule::in_task().unheld_if(true))?;

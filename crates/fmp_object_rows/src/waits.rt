@@ -18,7 +18,7 @@ pub(crate) fn caller_waits<M: Words>(
 ) -> Result<Effect, Code>
     requires caller { is_some (processor (M.world machine.old) p).running ≡ true }
     requires room { 0 < M.room machine.old }
-    ensures state { let w = M.world machine.old in (M.world machine.new, effect_of result) ≡ wait_for M.keeping w (caller w p) wait timeout }
+    ensures state { let w = M.world machine.old in (M.world machine.new, effect_of result) ≡ wait_for M.ordering w (caller w p) wait timeout }
     ensures room { M.room machine.old ≤ M.room machine.new + 1 }
 {
     let t = caller(machine, p)?;

@@ -1,1 +1,1 @@
-pub mod Waiters
+pub mod Waiters  -- The tasks of waiters.

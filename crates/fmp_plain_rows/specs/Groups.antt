@@ -2,8 +2,8 @@
 use Rattle.std.specs.Prelude.{ℕ, Bool, ◌&&◌, ◌==◌, None, List, length, is_some}
 use Rattle.fmp_codes.specs.declared.numbers.Task.{Task}
 use Rattle.fmp_machine.specs.World.{item, no_task}
-use Rattle.fmp_machine.specs.Keeping.{waits_in}
-use Rattle.fmp_machine.specs.Numbers.{State, in_order, is_ready_on, comes_before, priority_in, rank_in}
+use Rattle.fmp_machine.specs.Ordering.{waits_in}
+use Rattle.fmp_machine.specs.Arrivals.{State, in_order, is_ready_on, comes_before, priority_in, rank_in}
 use Rattle.fmp_plain_rows.specs.declared.groups.Group.{Group}
 use Rattle.fmp_plain_rows.specs.declared.groups.Group.TheVariants as group
 

@@ -1,8 +1,8 @@
 //! Groups of tasks that have an order.
 ghost use Rattle.std.specs.Prelude.{◌≡◌, ◌≤◌};
 ghost use Rattle.fmp_machine.specs.World.{item};
-ghost use Rattle.fmp_machine.specs.Keeping.{is_runnable};
-ghost use Rattle.fmp_machine.specs.Numbers.{is_ready_on, priority_in, rank_in};
+ghost use Rattle.fmp_machine.specs.Ordering.{is_runnable};
+ghost use Rattle.fmp_machine.specs.Arrivals.{is_ready_on, priority_in, rank_in};
 ghost use Rattle.fmp_plain_rows.specs.Groups.{is_member, rank, numbers, candidates, precedes};
 
 use crate::machine::Machine;

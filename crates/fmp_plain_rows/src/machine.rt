@@ -28,7 +28,7 @@ pub struct Machine {
 }
 
 impl Model for Machine {
-    ghost use Rattle.fmp_machine.specs.Numbers.{State};
+    ghost use Rattle.fmp_machine.specs.Arrivals.{State};
 
     ghost Value = { State };
 

@@ -1,8 +1,8 @@
 //! The numbers by which the machine keeps what came before what.
 ghost use Rattle.std.specs.Prelude.{◌≡◌, ◌+◌, ◌<◌, ◌≤◌, ◌^◌, ℕ, Option, option_map};
 ghost use Rattle.fmp_machine.specs.World.{task, with_item};
-ghost use Rattle.fmp_machine.specs.Keeping.{order_of, rejoin};
-ghost use Rattle.fmp_machine.specs.Numbers.{numbered};
+ghost use Rattle.fmp_machine.specs.Ordering.{order_of, rejoin};
+ghost use Rattle.fmp_machine.specs.Arrivals.{numbered};
 ghost use Rattle.fmp_machine.specs.declared.machine.TaskRecord.{TaskRecord as AnyTaskRecord};
 
 use crate::machine::Machine;
@@ -23,7 +23,7 @@ impl Machine {
     }
 
     /// Gives a task the next number, so that it comes last of its priority.
-    #[tactic(auto, unfolding(fmp_machine::specs::Numbers::numbered))]
+    #[tactic(auto, unfolding(fmp_machine::specs::Arrivals::numbered))]
     pub(crate) fn put_last(&mut self, t: Task)
         requires { self.old.order.next + 1 < 2 ^ 64 }
         ensures { self.new ≡ record self.old { order = numbered.put_last self.old.order (task self.old t) t } }
@@ -63,7 +63,7 @@ impl Machine {
     }
 
     /// In a queue by priority, begins the wait of a task anew.
-    #[tactic(auto, unfolding(fmp_machine::specs::Numbers::numbered))]
+    #[tactic(auto, unfolding(fmp_machine::specs::Arrivals::numbered))]
     pub(crate) fn rejoin(&mut self, t: Task, order: Order)
         requires { self.old.order.next + 1 < 2 ^ 64 }
         ensures state { (r : AnyTaskRecord) (left : Option ℕ) → self.new ≡ record self.old { order = rejoin numbered self.old.order order r left t } }

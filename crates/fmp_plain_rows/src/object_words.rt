@@ -22,13 +22,13 @@ impl Machine {
 }
 
 impl Objects for Machine {
-    #[tactic(auto, unfolding(fmp_machine::specs::Numbers::numbered))]
+    #[tactic(auto, unfolding(fmp_machine::specs::Arrivals::numbered))]
     fn first_waiter(&self, kind: QueueKind, o: Object) -> Option<Task> {
         let order = self.order_in(kind, o);
         self.first_of(Group::Queue(kind, o, order))
     }
 
-    #[tactic(auto, unfolding(fmp_machine::specs::Numbers::numbered))]
+    #[tactic(auto, unfolding(fmp_machine::specs::Arrivals::numbered))]
     fn waiters(&self, kind: QueueKind, o: Object) -> ArrayVec<Task, 64> {
         let order = self.order_in(kind, o);
         self.members(Group::Queue(kind, o, order))
@@ -178,7 +178,7 @@ impl Objects for Machine {
         self.handlers.count_down(p);
     }
 
-    #[tactic(auto, unfolding(fmp_machine::specs::Numbers::numbered))]
+    #[tactic(auto, unfolding(fmp_machine::specs::Arrivals::numbered))]
     fn expired_waits(&self) -> ArrayVec<Task, 64> {
         let timed = self.members(Group::Timed);
         tasks_over(timed.as_slice(), self.waits_left.as_slice())

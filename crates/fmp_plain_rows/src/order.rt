@@ -1,7 +1,7 @@
 //! What comes first, and what comes after it.
 ghost use Rattle.std.specs.Prelude.{◌≡◌, ◌+◌, ◌≤◌, ◌<◌, length, insert};
 ghost use Rattle.fmp_machine.specs.World.{first};
-ghost use Rattle.fmp_machine.specs.Numbers.{inserted};
+ghost use Rattle.fmp_machine.specs.Arrivals.{inserted};
 ghost use Rattle.fmp_plain_rows.specs.Better.{better};
 ghost use Rattle.fmp_plain_rows.specs.Groups.{members, precedes};
 

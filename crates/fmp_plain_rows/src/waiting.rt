@@ -1,6 +1,6 @@
 //! For what tasks wait, and in which order.
 ghost use Rattle.std.specs.Prelude.{◌≡◌};
-ghost use Rattle.fmp_machine.specs.Keeping.{is_in, waits_in, order_in, order_of};
+ghost use Rattle.fmp_machine.specs.Ordering.{is_in, waits_in, order_in, order_of};
 
 use crate::machine::Machine;
 use fmp_codes::Object;

@@ -1,6 +1,6 @@
 //! The words of the definitions, on the plain machine.
 ghost use Rattle.std.specs.Prelude.{◌≡◌, ◌-◌, ◌^◌};
-ghost use Rattle.fmp_machine.specs.Numbers.{Numbers, numbered};
+ghost use Rattle.fmp_machine.specs.Arrivals.{Arrivals, numbered};
 
 use crate::groups::{Group, is_runnable};
 use crate::locks::{free, holds};
@@ -12,7 +12,7 @@ use fmp_words::Words;
 
 impl Machine {
     /// The ready tasks of a priority on a processor, in their precedence.
-    #[tactic(auto, unfolding(fmp_machine::specs::Numbers::numbered))]
+    #[tactic(auto, unfolding(fmp_machine::specs::Arrivals::numbered))]
     pub fn ready(&self, p: Proc, priority: Pri) -> ArrayVec<Task, 64>
         ensures { result.items ≡ numbered.ready self.now.order self.now.tasks p priority }
     {
@@ -21,9 +21,9 @@ impl Machine {
 }
 
 impl Words for Machine {
-    ghost Order = { Numbers };
+    ghost Order = { Arrivals };
 
-    ghost keeping = { numbered };
+    ghost ordering = { numbered };
 
     ghost world = { λ w. w };
 
@@ -58,12 +58,12 @@ impl Words for Machine {
         due.head()
     }
 
-    #[tactic(auto, unfolding(fmp_machine::specs::Numbers::numbered))]
+    #[tactic(auto, unfolding(fmp_machine::specs::Arrivals::numbered))]
     fn top(&self, p: Proc) -> Option<Task> {
         self.first_of(Group::Ready(p))
     }
 
-    #[tactic(auto, unfolding(fmp_machine::specs::Numbers::numbered))]
+    #[tactic(auto, unfolding(fmp_machine::specs::Arrivals::numbered))]
     fn first_ready(&self, p: Proc, priority: Pri) -> Option<Task> {
         self.first_of(Group::ReadyAt(p, priority))
     }
@@ -90,30 +90,30 @@ impl Words for Machine {
         free(p, &mut self.resources.holders);
     }
 
-    fn note(&mut self, t: Task, changed: TaskRecord) {
+    fn set_task(&mut self, t: Task, changed: TaskRecord) {
         if let Some(place) = self.tasks.get_mut(t.index()) {
             *place = changed;
         }
     }
 
-    #[tactic(auto, unfolding(fmp_machine::specs::Numbers::numbered))]
+    #[tactic(auto, unfolding(fmp_machine::specs::Arrivals::numbered))]
     fn place(&mut self, t: Task, changed: TaskRecord) {
-        self.note(t, changed);
+        self.set_task(t, changed);
         if is_runnable(&changed) {
             self.put_last(t);
         }
     }
 
-    #[tactic(auto, unfolding(fmp_machine::specs::Numbers::numbered))]
+    #[tactic(auto, unfolding(fmp_machine::specs::Arrivals::numbered))]
     fn end_wait(&mut self, t: Task, changed: TaskRecord) {
         self.set_wait_left(t, None);
         self.place(t, changed);
     }
 
-    #[tactic(auto, unfolding(fmp_machine::specs::Numbers::numbered))]
+    #[tactic(auto, unfolding(fmp_machine::specs::Arrivals::numbered))]
     fn begin_wait(&mut self, t: Task, wait: Wait, left: Option<u64>) {
         let task = self.task(t);
-        self.note(
+        self.set_task(
             t,
             TaskRecord {
                 wait: Some(wait),
@@ -124,12 +124,12 @@ impl Words for Machine {
         self.join(t);
     }
 
-    #[tactic(auto, unfolding(fmp_machine::specs::Numbers::numbered))]
+    #[tactic(auto, unfolding(fmp_machine::specs::Arrivals::numbered))]
     fn requeue(&mut self, t: Task, changed: TaskRecord) {
         match self.queue_order(t) {
             None => self.place(t, changed),
             Some(order) => {
-                self.note(t, changed);
+                self.set_task(t, changed);
                 self.rejoin(t, order);
             }
         }

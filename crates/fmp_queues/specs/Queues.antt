@@ -11,7 +11,7 @@ use Rattle.fmp_machine.specs.declared.machine.QueueKind.{QueueKind}
 use Rattle.fmp_machine.specs.declared.machine.QueueKind.TheVariants as kind
 use Rattle.fmp_machine.specs.Setup.{Setup}
 use Rattle.fmp_machine.specs.World.{item, with_item}
-use Rattle.fmp_machine.specs.Keeping.{Keeping}
+use Rattle.fmp_machine.specs.Ordering.{Ordering}
 
 -- for each object the queue of its waiters; a data queue has two
 pub record WaitQueues : Type 0 where
@@ -73,7 +73,7 @@ timed_by None t ts = without t ts
 timed_by (Some n) t ts = without t ts ++ t ∷ []
 
 -- the lists as a way to keep what came before what
-unfoldable pub listed : Keeping Queues
+unfoldable pub listed : Ordering Queues
 listed = record {
   put_last = λ q r t. record q { ready = push_last (take_out q.ready t) (list_number r.assigned r.priority) t };
   take_out = λ q r t. record q { ready = take_out q.ready t };

@@ -19,7 +19,7 @@ pub(crate) fn rotation<M: Words>(
     n: i32,
 ) -> Result<Effect, Code>
     requires { 0 < M.room machine.old }
-    ensures row { let w = M.world machine.old in (M.world machine.new, effect_of result) ≡ called w p (rotation M.keeping w p named n) }
+    ensures row { let w = M.world machine.old in (M.world machine.new, effect_of result) ≡ called w p (rotation M.ordering w p named n) }
     ensures room { M.room machine.old ≤ M.room machine.new + 1 }
 {
     check_rule(machine, p, Rule::in_task())?;
@@ -39,7 +39,7 @@ pub(crate) fn rotation_in_handler<M: Words>(
     n: i32,
 ) -> Result<Effect, Code>
     requires { 0 < M.room machine.old }
-    ensures row { let w = M.world machine.old in (M.world machine.new, effect_of result) ≡ called w p (rotation_in_handler M.keeping w p named n) }
+    ensures row { let w = M.world machine.old in (M.world machine.new, effect_of result) ≡ called w p (rotation_in_handler M.ordering w p named n) }
     ensures room { M.room machine.old ≤ M.room machine.new + 1 }
 {
     check_rule(machine, p, Rule::in_task().in_handler())?;
@@ -53,7 +53,7 @@ pub(crate) fn rotation_in_handler<M: Words>(
 /// Lets the first of the ready tasks of a priority on a processor come last of it.
 fn rotate_first<M: Words>(machine: &mut M, q: Proc, priority: Pri)
     requires { 0 < M.room machine.old }
-    ensures state { let w = M.world machine.old in M.world machine.new ≡ rotate M.keeping w (first (M.keeping.ready w.order w.tasks q priority)) }
+    ensures state { let w = M.world machine.old in M.world machine.new ≡ rotate M.ordering w (first (M.ordering.ready w.order w.tasks q priority)) }
     ensures room { M.room machine.old ≤ M.room machine.new + 1 }
 {
     let first = machine.first_ready(q, priority);

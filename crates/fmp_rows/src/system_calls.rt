@@ -14,7 +14,7 @@ use fmp_words::{
 /// A call on the processors or on the state of dispatching: what it does, or the code that refuses it.
 pub fn system_call<M: Words>(machine: &mut M, p: Proc, call: SystemCall) -> Result<Effect, Code>
     requires { 64 ≤ M.room machine.old }
-    ensures row { let w = M.world machine.old in (M.world machine.new, effect_of result) ≡ called w p (system_row M.keeping w p call) }
+    ensures row { let w = M.world machine.old in (M.world machine.new, effect_of result) ≡ called w p (system_row M.ordering w p call) }
     ensures room { M.room machine.old ≤ M.room machine.new + 64 }
 {
     let in_task = Rule::in_task();

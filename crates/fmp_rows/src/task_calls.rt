@@ -19,7 +19,7 @@ use fmp_words::{
 /// A call on tasks: what it does, or the code that refuses it.
 pub fn task_call<M: Words>(machine: &mut M, p: Proc, call: TaskCall) -> Result<Effect, Code>
     requires { 64 ≤ M.room machine.old }
-    ensures row { let w = M.world machine.old in (M.world machine.new, effect_of result) ≡ called w p (task_row M.keeping w p call) }
+    ensures row { let w = M.world machine.old in (M.world machine.new, effect_of result) ≡ called w p (task_row M.ordering w p call) }
     ensures room { M.room machine.old ≤ M.room machine.new + 64 }
 {
     match call {
@@ -50,7 +50,7 @@ pub fn task_call<M: Words>(machine: &mut M, p: Proc, call: TaskCall) -> Result<E
 #[tactic(auto, unfolding(fmp_machine::specs::TaskCalls::act))]
 fn act_tsk<M: Words>(machine: &mut M, p: Proc, id: i32) -> Result<Effect, Code>
     requires { 0 < M.room machine.old }
-    ensures row { let w = M.world machine.old in (M.world machine.new, effect_of result) ≡ called w p (act M.keeping w (task_or_caller w p id)) }
+    ensures row { let w = M.world machine.old in (M.world machine.new, effect_of result) ≡ called w p (act M.ordering w (task_or_caller w p id)) }
     ensures room { M.room machine.old ≤ M.room machine.new + 1 }
 {
     check_rule(machine, p, Rule::in_task())?;
@@ -63,7 +63,7 @@ fn act_tsk<M: Words>(machine: &mut M, p: Proc, id: i32) -> Result<Effect, Code>
 #[tactic(auto, unfolding(fmp_machine::specs::TaskCalls::act))]
 fn iact_tsk<M: Words>(machine: &mut M, p: Proc, id: i32) -> Result<Effect, Code>
     requires { 0 < M.room machine.old }
-    ensures row { let w = M.world machine.old in (M.world machine.new, effect_of result) ≡ called w p (in_handler (act M.keeping w (task_named w id))) }
+    ensures row { let w = M.world machine.old in (M.world machine.new, effect_of result) ≡ called w p (in_handler (act M.ordering w (task_named w id))) }
     ensures room { M.room machine.old ≤ M.room machine.new + 1 }
 {
     check_rule(machine, p, Rule::in_task().in_handler())?;
@@ -76,7 +76,7 @@ fn iact_tsk<M: Words>(machine: &mut M, p: Proc, id: i32) -> Result<Effect, Code>
 #[tactic(auto, unfolding(fmp_machine::specs::TaskCalls::mact))]
 fn mact_tsk<M: Words>(machine: &mut M, p: Proc, id: i32, to: i32) -> Result<Effect, Code>
     requires { 0 < M.room machine.old }
-    ensures row { let w = M.world machine.old in (M.world machine.new, effect_of result) ≡ called w p (mact M.keeping w (task_or_caller w p id) to) }
+    ensures row { let w = M.world machine.old in (M.world machine.new, effect_of result) ≡ called w p (mact M.ordering w (task_or_caller w p id) to) }
     ensures room { M.room machine.old ≤ M.room machine.new + 1 }
 {
     check_rule(machine, p, Rule::in_task())?;
@@ -88,7 +88,7 @@ fn mact_tsk<M: Words>(machine: &mut M, p: Proc, id: i32, to: i32) -> Result<Effe
 #[tactic(auto, unfolding(fmp_machine::specs::TaskCalls::mact))]
 fn imact_tsk<M: Words>(machine: &mut M, p: Proc, id: i32, to: i32) -> Result<Effect, Code>
     requires { 0 < M.room machine.old }
-    ensures row { let w = M.world machine.old in (M.world machine.new, effect_of result) ≡ called w p (in_handler (mact M.keeping w (task_named w id) to)) }
+    ensures row { let w = M.world machine.old in (M.world machine.new, effect_of result) ≡ called w p (in_handler (mact M.ordering w (task_named w id) to)) }
     ensures room { M.room machine.old ≤ M.room machine.new + 1 }
 {
     check_rule(machine, p, Rule::in_task().in_handler())?;
@@ -100,7 +100,7 @@ fn imact_tsk<M: Words>(machine: &mut M, p: Proc, id: i32, to: i32) -> Result<Eff
 #[tactic(auto, unfolding(fmp_machine::specs::TaskCalls::mact))]
 fn try_activate_at<M: Words>(machine: &mut M, t: Task, to: i32) -> Result<Effect, Code>
     requires { 0 < M.room machine.old }
-    ensures row { let w = M.world machine.old in let row = mact M.keeping w (Some t) to in (M.world machine.new, effect_of result) ≡ called_by w row.effect (first_error ((not row.known, code.Identifier) ∷ (not row.proper, code.Parameter) ∷ row.errors)) }
+    ensures row { let w = M.world machine.old in let row = mact M.ordering w (Some t) to in (M.world machine.new, effect_of result) ≡ called_by w row.effect (first_error ((not row.known, code.Identifier) ∷ (not row.proper, code.Parameter) ∷ row.errors)) }
     ensures room { M.room machine.old ≤ M.room machine.new + 1 }
 {
     let class = machine.task(t).setup.class;
@@ -117,7 +117,7 @@ fn try_activate<M: Words>(
     kept: Option<Proc>,
 ) -> Result<Effect, Code>
     requires { 0 < M.room machine.old }
-    ensures row { let w = M.world machine.old in let row = activation M.keeping w (Some t) (λ u. to) kept in (M.world machine.new, effect_of result) ≡ called_by w row.effect (first_error row.errors) }
+    ensures row { let w = M.world machine.old in let row = activation M.ordering w (Some t) (λ u. to) kept in (M.world machine.new, effect_of result) ≡ called_by w row.effect (first_error row.errors) }
     ensures room { M.room machine.old ≤ M.room machine.new + 1 }
 {
     let task = machine.task(t);
@@ -135,7 +135,7 @@ fn can_act<M: Words>(machine: &mut M, p: Proc, id: i32) -> Result<Effect, Code>
     check_rule(machine, p, Rule::in_task())?;
     let t = task_or_caller(machine, p, id)?;
     let task = machine.task(t);
-    machine.note(
+    machine.set_task(
         t,
         TaskRecord {
             activations: 0,
@@ -150,7 +150,7 @@ fn can_act<M: Words>(machine: &mut M, p: Proc, id: i32) -> Result<Effect, Code>
 #[tactic(auto, unfolding(fmp_machine::specs::TaskCalls::mig_tsk))]
 fn mig_tsk<M: Words>(machine: &mut M, p: Proc, id: i32, to: i32) -> Result<Effect, Code>
     requires { 0 < M.room machine.old }
-    ensures row { let w = M.world machine.old in (M.world machine.new, effect_of result) ≡ called w p (mig_tsk M.keeping w p (task_or_caller w p id) to) }
+    ensures row { let w = M.world machine.old in (M.world machine.new, effect_of result) ≡ called w p (mig_tsk M.ordering w p (task_or_caller w p id) to) }
     ensures room { M.room machine.old ≤ M.room machine.new + 1 }
 {
     let named = find_task_or_caller(machine, p, id);
@@ -169,7 +169,7 @@ fn mig_tsk<M: Words>(machine: &mut M, p: Proc, id: i32, to: i32) -> Result<Effec
 #[tactic(auto, unfolding(fmp_machine::specs::TaskCalls::ext_tsk))]
 fn ext_tsk<M: Words>(machine: &mut M, p: Proc) -> Result<Effect, Code>
     requires { 0 < M.room machine.old }
-    ensures row { let w = M.world machine.old in (M.world machine.new, effect_of result) ≡ called w p (ext_tsk M.keeping w p) }
+    ensures row { let w = M.world machine.old in (M.world machine.new, effect_of result) ≡ called w p (ext_tsk M.ordering w p) }
     ensures room { M.room machine.old ≤ M.room machine.new + 1 }
 {
     check_rule(machine, p, Rule::in_task().when_locked())?;
@@ -183,7 +183,7 @@ fn ext_tsk<M: Words>(machine: &mut M, p: Proc) -> Result<Effect, Code>
 #[tactic(auto, unfolding(fmp_machine::specs::TaskCalls::ter_tsk))]
 fn ter_tsk<M: Words>(machine: &mut M, p: Proc, id: i32) -> Result<Effect, Code>
     requires { 0 < M.room machine.old }
-    ensures row { let w = M.world machine.old in (M.world machine.new, effect_of result) ≡ called w p (ter_tsk M.keeping w p (task_named w id)) }
+    ensures row { let w = M.world machine.old in (M.world machine.new, effect_of result) ≡ called w p (ter_tsk M.ordering w p (task_named w id)) }
     ensures room { M.room machine.old ≤ M.room machine.new + 1 }
 {
     check_rule(machine, p, Rule::in_task())?;
@@ -202,7 +202,7 @@ fn ter_tsk<M: Words>(machine: &mut M, p: Proc, id: i32) -> Result<Effect, Code>
 #[tactic(auto, unfolding(fmp_machine::specs::TaskCalls::chg_pri))]
 fn chg_pri<M: Words>(machine: &mut M, p: Proc, id: i32, n: i32) -> Result<Effect, Code>
     requires { 0 < M.room machine.old }
-    ensures row { let w = M.world machine.old in (M.world machine.new, effect_of result) ≡ called w p (chg_pri M.keeping w (task_or_caller w p id) n) }
+    ensures row { let w = M.world machine.old in (M.world machine.new, effect_of result) ≡ called w p (chg_pri M.ordering w (task_or_caller w p id) n) }
     ensures room { M.room machine.old ≤ M.room machine.new + 1 }
 {
     check_rule(machine, p, Rule::in_task())?;

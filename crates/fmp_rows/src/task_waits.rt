@@ -1,7 +1,7 @@
 //! The calls by which tasks sleep, wake, wait for some time and are suspended.
 ghost use Rattle.std.specs.Prelude.{◌≡◌, ◌+◌, ◌-◌, ◌<◌, ◌≤◌, Some, nat_lt, if◌then◌else◌};
 ghost use Rattle.fmp_machine.specs.World.{task};
-ghost use Rattle.fmp_machine.specs.Keeping.{note};
+ghost use Rattle.fmp_machine.specs.Ordering.{with_task};
 ghost use Rattle.fmp_machine.specs.Rows.{called, called_by, done, first_error, in_handler, wait_for};
 ghost use Rattle.fmp_machine.specs.TaskCalls.{is_sleep, tslp_tsk, wup, can_wup, rel_wai, sus_tsk, rsm_tsk, dly_tsk};
 ghost use Rattle.fmp_machine.specs.Arguments.{task_named, task_or_caller};
@@ -25,7 +25,7 @@ fn is_sleep(wait: Option<Wait>) -> bool
 #[tactic(auto, unfolding(fmp_machine::specs::TaskCalls::tslp_tsk))]
 pub(crate) fn tslp_tsk<M: Words>(machine: &mut M, p: Proc, timeout: i32) -> Result<Effect, Code>
     requires { 0 < M.room machine.old }
-    ensures row { let w = M.world machine.old in (M.world machine.new, effect_of result) ≡ called w p (tslp_tsk M.keeping w p timeout) }
+    ensures row { let w = M.world machine.old in (M.world machine.new, effect_of result) ≡ called w p (tslp_tsk M.ordering w p timeout) }
     ensures room { M.room machine.old ≤ M.room machine.new + 1 }
 {
     check_rule(machine, p, Rule::in_task().unheld_if(true))?;
@@ -37,12 +37,12 @@ pub(crate) fn tslp_tsk<M: Words>(machine: &mut M, p: Proc, timeout: i32) -> Resu
 /// Takes a queued wakeup of a task, or lets it sleep.
 fn sleep<M: Words>(machine: &mut M, t: Task, timeout: i32) -> Result<Effect, Code>
     requires { 0 < M.room machine.old }
-    ensures state { let w = M.world machine.old in let r = task w t in (M.world machine.new, effect_of result) ≡ (if nat_lt 0 r.wakeups then (note w t (record r { wakeups = r.wakeups - 1 }), done) else wait_for M.keeping w t Wait.Sleep timeout) }
+    ensures state { let w = M.world machine.old in let r = task w t in (M.world machine.new, effect_of result) ≡ (if nat_lt 0 r.wakeups then (with_task w t (record r { wakeups = r.wakeups - 1 }), done) else wait_for M.ordering w t Wait.Sleep timeout) }
     ensures room { M.room machine.old ≤ M.room machine.new + 1 }
 {
     let task = machine.task(t);
     if 0 < task.wakeups {
-        machine.note(
+        machine.set_task(
             t,
             TaskRecord {
                 wakeups: task.wakeups - 1,
@@ -59,7 +59,7 @@ fn sleep<M: Words>(machine: &mut M, t: Task, timeout: i32) -> Result<Effect, Cod
 #[tactic(auto, unfolding(fmp_machine::specs::TaskCalls::wup))]
 pub(crate) fn wup_tsk<M: Words>(machine: &mut M, p: Proc, id: i32) -> Result<Effect, Code>
     requires { 0 < M.room machine.old }
-    ensures row { let w = M.world machine.old in (M.world machine.new, effect_of result) ≡ called w p (wup M.keeping w (task_or_caller w p id)) }
+    ensures row { let w = M.world machine.old in (M.world machine.new, effect_of result) ≡ called w p (wup M.ordering w (task_or_caller w p id)) }
     ensures room { M.room machine.old ≤ M.room machine.new + 1 }
 {
     check_rule(machine, p, Rule::in_task())?;
@@ -71,7 +71,7 @@ pub(crate) fn wup_tsk<M: Words>(machine: &mut M, p: Proc, id: i32) -> Result<Eff
 #[tactic(auto, unfolding(fmp_machine::specs::TaskCalls::wup))]
 pub(crate) fn iwup_tsk<M: Words>(machine: &mut M, p: Proc, id: i32) -> Result<Effect, Code>
     requires { 0 < M.room machine.old }
-    ensures row { let w = M.world machine.old in (M.world machine.new, effect_of result) ≡ called w p (in_handler (wup M.keeping w (task_named w id))) }
+    ensures row { let w = M.world machine.old in (M.world machine.new, effect_of result) ≡ called w p (in_handler (wup M.ordering w (task_named w id))) }
     ensures room { M.room machine.old ≤ M.room machine.new + 1 }
 {
     check_rule(machine, p, Rule::in_task().in_handler())?;
@@ -83,7 +83,7 @@ pub(crate) fn iwup_tsk<M: Words>(machine: &mut M, p: Proc, id: i32) -> Result<Ef
 #[tactic(auto, unfolding(fmp_machine::specs::TaskCalls::wup))]
 fn wake<M: Words>(machine: &mut M, t: Task) -> Result<Effect, Code>
     requires { 0 < M.room machine.old }
-    ensures row { let w = M.world machine.old in let row = wup M.keeping w (Some t) in (M.world machine.new, effect_of result) ≡ called_by w row.effect (first_error row.errors) }
+    ensures row { let w = M.world machine.old in let row = wup M.ordering w (Some t) in (M.world machine.new, effect_of result) ≡ called_by w row.effect (first_error row.errors) }
     ensures room { M.room machine.old ≤ M.room machine.new + 1 }
 {
     let task = machine.task(t);
@@ -96,7 +96,7 @@ fn wake<M: Words>(machine: &mut M, t: Task) -> Result<Effect, Code>
     if sleeps {
         Ok(release(machine, t, Code::Accepted, None))
     } else {
-        machine.note(
+        machine.set_task(
             t,
             TaskRecord {
                 wakeups: task.wakeups + 1,
@@ -117,7 +117,7 @@ pub(crate) fn can_wup<M: Words>(machine: &mut M, p: Proc, id: i32) -> Result<Eff
     let t = task_or_caller(machine, p, id)?;
     let task = machine.task(t);
     refuse_if(!task.active, Code::ObjectState)?;
-    machine.note(t, TaskRecord { wakeups: 0, ..task });
+    machine.set_task(t, TaskRecord { wakeups: 0, ..task });
     Ok(Effect::value(i64::from(task.wakeups)))
 }
 
@@ -125,7 +125,7 @@ pub(crate) fn can_wup<M: Words>(machine: &mut M, p: Proc, id: i32) -> Result<Eff
 #[tactic(auto, unfolding(fmp_machine::specs::TaskCalls::rel_wai))]
 pub(crate) fn rel_wai<M: Words>(machine: &mut M, p: Proc, id: i32) -> Result<Effect, Code>
     requires { 0 < M.room machine.old }
-    ensures row { let w = M.world machine.old in (M.world machine.new, effect_of result) ≡ called w p (rel_wai M.keeping w (task_named w id)) }
+    ensures row { let w = M.world machine.old in (M.world machine.new, effect_of result) ≡ called w p (rel_wai M.ordering w (task_named w id)) }
     ensures room { M.room machine.old ≤ M.room machine.new + 1 }
 {
     check_rule(machine, p, Rule::in_task())?;
@@ -138,7 +138,7 @@ pub(crate) fn rel_wai<M: Words>(machine: &mut M, p: Proc, id: i32) -> Result<Eff
 #[tactic(auto, unfolding(fmp_machine::specs::TaskCalls::rel_wai))]
 pub(crate) fn irel_wai<M: Words>(machine: &mut M, p: Proc, id: i32) -> Result<Effect, Code>
     requires { 0 < M.room machine.old }
-    ensures row { let w = M.world machine.old in (M.world machine.new, effect_of result) ≡ called w p (in_handler (rel_wai M.keeping w (task_named w id))) }
+    ensures row { let w = M.world machine.old in (M.world machine.new, effect_of result) ≡ called w p (in_handler (rel_wai M.ordering w (task_named w id))) }
     ensures room { M.room machine.old ≤ M.room machine.new + 1 }
 {
     check_rule(machine, p, Rule::in_task().in_handler())?;
@@ -151,7 +151,7 @@ pub(crate) fn irel_wai<M: Words>(machine: &mut M, p: Proc, id: i32) -> Result<Ef
 #[tactic(auto, unfolding(fmp_machine::specs::TaskCalls::sus_tsk))]
 pub(crate) fn sus_tsk<M: Words>(machine: &mut M, p: Proc, id: i32) -> Result<Effect, Code>
     requires { 0 < M.room machine.old }
-    ensures row { let w = M.world machine.old in (M.world machine.new, effect_of result) ≡ called w p (sus_tsk M.keeping w p (task_or_caller w p id)) }
+    ensures row { let w = M.world machine.old in (M.world machine.new, effect_of result) ≡ called w p (sus_tsk M.ordering w p (task_or_caller w p id)) }
     ensures room { M.room machine.old ≤ M.room machine.new + 1 }
 {
     let named = find_task_or_caller(machine, p, id);
@@ -175,7 +175,7 @@ pub(crate) fn sus_tsk<M: Words>(machine: &mut M, p: Proc, id: i32) -> Result<Eff
 #[tactic(auto, unfolding(fmp_machine::specs::TaskCalls::rsm_tsk))]
 pub(crate) fn rsm_tsk<M: Words>(machine: &mut M, p: Proc, id: i32) -> Result<Effect, Code>
     requires { 0 < M.room machine.old }
-    ensures row { let w = M.world machine.old in (M.world machine.new, effect_of result) ≡ called w p (rsm_tsk M.keeping w (task_named w id)) }
+    ensures row { let w = M.world machine.old in (M.world machine.new, effect_of result) ≡ called w p (rsm_tsk M.ordering w (task_named w id)) }
     ensures room { M.room machine.old ≤ M.room machine.new + 1 }
 {
     check_rule(machine, p, Rule::in_task())?;
@@ -196,7 +196,7 @@ pub(crate) fn rsm_tsk<M: Words>(machine: &mut M, p: Proc, id: i32) -> Result<Eff
 #[tactic(auto, unfolding(fmp_machine::specs::TaskCalls::dly_tsk))]
 pub(crate) fn dly_tsk<M: Words>(machine: &mut M, p: Proc, time: i32) -> Result<Effect, Code>
     requires { 0 < M.room machine.old }
-    ensures row { let w = M.world machine.old in (M.world machine.new, effect_of result) ≡ called w p (dly_tsk M.keeping w p time) }
+    ensures row { let w = M.world machine.old in (M.world machine.new, effect_of result) ≡ called w p (dly_tsk M.ordering w p time) }
     ensures room { M.room machine.old ≤ M.room machine.new + 1 }
 {
     check_rule(machine, p, Rule::in_task().unheld_if(true))?;

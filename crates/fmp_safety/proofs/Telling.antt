@@ -23,11 +23,11 @@ use Rattle.fmp_machine.specs.Setup.{Setup}
 use Rattle.fmp_machine.specs.Valid.{IsValid}
 use Rattle.fmp_machine.specs.Setup.{has_time}
 use Rattle.fmp_machine.specs.World.{World, no_task, item, first, processor, handler, runner_of, is_held}
-use Rattle.fmp_machine.specs.Keeping.{Keeping}
-use Rattle.fmp_machine.specs.Numbers.{State, numbered}
+use Rattle.fmp_machine.specs.Ordering.{Ordering}
+use Rattle.fmp_machine.specs.Arrivals.{State, numbered}
 use Rattle.fmp_machine.specs.Rows.{called, plain}
 use Rattle.fmp_machine.specs.Tick.{tick}
-use Rattle.fmp_machine.specs.Step.{is_same, tops, is_requested, settle, changed_run, row_of, settled, front_of, unchanged, step, answers}
+use Rattle.fmp_machine.specs.Step.{is_same, tops, is_requested, settle, changed_run, row_of, settled, before_event, unchanged, step, answers}
 use Rattle.fmp_machine.specs.Boot.{booted}
 use Rattle.fmp_safety.specs.Counts.{Counts, counts_of, IsRunnerOf, IsTaskOf, IsReleaseOf, HasCounts, NamesOnly}
 use Rattle.fmp_safety.specs.Safe.{IsNumberOf, may_run_on, Safe}
@@ -81,7 +81,7 @@ first_holds : {X : Type 0} (P : X → Type 0) (xs : List X) → All P xs → IfS
 first_holds P [] all = tt
 first_holds P (x ∷ xs) all = all 0 x (omega arith)
 
-module _ {Q : Type 0} (k : Keeping Q) (n : Counts) (w : World Q) (h : HasCounts n w) (p : Proc) (on : p.number ≤ n.processors) (s : Safe k w) where
+module _ {Q : Type 0} (k : Ordering Q) (n : Counts) (w : World Q) (h : HasCounts n w) (p : Proc) (on : p.number ≤ n.processors) (s : Safe k w) where
   runs_one : IfSome (processor w p).running (IsTaskOf n)
   runs_one =
       let there : IsNumberOf w.processors p.number = (p.least, rw h.processors on) in
@@ -99,13 +99,13 @@ changed_to n before after f = cond_both (is_same before after) None (Some after)
 
 -- ---- a step
 
-module _ {Q : Type 0} (k : Keeping Q) (lists : (v : World Q) → Lists k v) (n : Counts) (w : World Q) (s : Safe k w) (h : HasCounts n w) where
+module _ {Q : Type 0} (k : Ordering Q) (lists : (v : World Q) → Lists k v) (n : Counts) (w : World Q) (s : Safe k w) (h : HasCounts n w) where
   -- a state that has the counts, and a record that names nothing else, where the state is safe
   abbrev Told : World Q × Record → Type 0
   Told x = Safe k x.0 → HasCounts n x.0 × NamesOnly n x.1
 
-  settled_told : (e : Event) → (processor_of e).number ≤ n.processors → (did : World Q × Effect) → Tells n did → Told (settled k (front_of k w e (processor_of e)) did)
-  unfolding settled front_of
+  settled_told : (e : Event) → (processor_of e).number ≤ n.processors → (did : World Q × Effect) → Tells n did → Told (settled k (before_event k w e (processor_of e)) did)
+  unfolding settled before_event
   settled_told e on did t safe =
       let q : Proc = processor_of e in
       let kept : HasCounts n (settle k (tops k w) did.0 q) = counts_settle k n (tops k w) did.0 q t.counts in

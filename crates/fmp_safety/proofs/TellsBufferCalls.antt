@@ -22,7 +22,7 @@ use Rattle.fmp_machine.specs.declared.machine.Wait.TheVariants as wait
 use Rattle.fmp_machine.specs.declared.machine.QueueKind.TheVariants as kind
 use Rattle.fmp_machine.specs.World.{World, task, first, rest}
 use Rattle.fmp_machine.specs.Objects.{values, pool, free_block}
-use Rattle.fmp_machine.specs.Keeping.{Keeping, queue}
+use Rattle.fmp_machine.specs.Ordering.{Ordering, queue}
 use Rattle.fmp_machine.specs.Tasks.{make_ready}
 use Rattle.fmp_machine.specs.Rows.{done}
 use Rattle.fmp_machine.specs.Arguments.{object_named, forever}
@@ -89,7 +89,7 @@ free_below most handed few = go (position not (take most handed)) refl
 is_within : (xs : List Bool) (b : ℕ) → slice_index_or xs b false ≡ true → b < length xs
 is_within xs b e = ⊎_elim (λ (i : b < length xs). i) (λ (i : length xs ≤ b). absurd (false≢true (sym (get_or_past xs b false i) ∙ e))) (cases_lt b (length xs))
 
-module _ {Q : Type 0} (k : Keeping Q) (n : Counts) (w : World Q) (h : HasCounts n w) (l : Lists k w) (p : Proc) where
+module _ {Q : Type 0} (k : Ordering Q) (n : Counts) (w : World Q) (h : HasCounts n w) (l : Lists k w) (p : Proc) where
   tells_did : (v : World Q) → HasCounts n v → Tells n (v, done)
   tells_did v i = tells_plain n v (answer.Done code.Accepted None) i tt
 

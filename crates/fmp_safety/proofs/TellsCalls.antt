@@ -23,7 +23,7 @@ use Rattle.fmp_calls.specs.Arguments.{CallInBits}
 use Rattle.fmp_machine.specs.declared.machine.Processor.{Processor}
 use Rattle.fmp_machine.specs.World.{World, item, with_item, rest, task, processor}
 use Rattle.fmp_machine.specs.Objects.{holder}
-use Rattle.fmp_machine.specs.Keeping.{Keeping}
+use Rattle.fmp_machine.specs.Ordering.{Ordering}
 use Rattle.fmp_machine.specs.Tasks.{rotate}
 use Rattle.fmp_machine.specs.Rows.{Row, check, called, called_by, done}
 use Rattle.fmp_machine.specs.Arguments.{object_named}
@@ -57,7 +57,7 @@ number_within : (o : Option Task) → unwrap_or (option_map (λ t. t.number) o) 
 number_within None = omega arith
 number_within (Some t) = omega (arith, t.most)
 
-module _ {Q : Type 0} (k : Keeping Q) (n : Counts) (w : World Q) (h : HasCounts n w) (s : Safe k w) (l : Lists k w) (p : Proc) where
+module _ {Q : Type 0} (k : Ordering Q) (n : Counts) (w : World Q) (h : HasCounts n w) (s : Safe k w) (l : Lists k w) (p : Proc) where
   -- ---- processors
 
   tells_rotation : (t : Option Task) → Tells n (rotate k w t, done)

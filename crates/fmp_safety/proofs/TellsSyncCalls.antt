@@ -22,7 +22,7 @@ use Rattle.fmp_machine.specs.declared.machine.Wait.TheVariants as wait
 use Rattle.fmp_machine.specs.declared.machine.QueueKind.TheVariants as kind
 use Rattle.fmp_machine.specs.World.{World, task, first}
 use Rattle.fmp_machine.specs.Objects.{semaphore, eventflag, holds}
-use Rattle.fmp_machine.specs.Keeping.{Keeping, queue}
+use Rattle.fmp_machine.specs.Ordering.{Ordering, queue}
 use Rattle.fmp_machine.specs.Tasks.{make_ready}
 use Rattle.fmp_machine.specs.Rows.{done, and_release}
 use Rattle.fmp_machine.specs.Arguments.{object_named, forever}
@@ -67,7 +67,7 @@ pub serves_more : {Q : Type 0} (n : Counts) (most : ℕ) (r : Release) (others :
 serves_more n most r others is s =
     let few = s.few in record { counts = s.counts; releases = All-cons (IsReleaseOf n) r others.1 is s.releases; few = omega (arith, few) }
 
-module _ {Q : Type 0} (k : Keeping Q) (n : Counts) (f : Object) where
+module _ {Q : Type 0} (k : Ordering Q) (n : Counts) (f : Object) where
   served_tells : (w : World Q) → HasCounts n w → (x : ℕ) → x < 2 ^ 32 → (ts : List Task) → ((t : Task) → IsAmong t ts → t.number ≤ n.tasks) → Serves n (length ts) (served k w f x ts)
   served_tells w h x e [] numbers = record { counts = counts_pattern n w h f x e; releases = All-nil (IsReleaseOf n); few = omega arith }
   served_tells w h x e (t ∷ ts) numbers =
@@ -77,7 +77,7 @@ module _ {Q : Type 0} (k : Keeping Q) (n : Counts) (f : Object) where
       (served_tells (make_ready k w t) (counts_ready n w h k t) (cleared w f x) (cleared_fits w f x e) ts later))
       (λ _. let rest = served_tells w h x e ts later in let few = rest.few in record { counts = rest.counts; releases = rest.releases; few = omega (arith, few) })
 
-module _ {Q : Type 0} (k : Keeping Q) (n : Counts) (w : World Q) (h : HasCounts n w) (l : Lists k w) (p : Proc) where
+module _ {Q : Type 0} (k : Ordering Q) (n : Counts) (w : World Q) (h : HasCounts n w) (l : Lists k w) (p : Proc) where
   tells_did : (v : World Q) → HasCounts n v → Tells n (v, done)
   tells_did v i = tells_plain n v (answer.Done code.Accepted None) i tt
 

@@ -1,6 +1,6 @@
-pub mod Found
-pub mod Read
-pub mod Kept
-pub mod Same
-pub mod SpelledLines
-pub mod SpelledScripts
+pub mod Found  -- The script of a function, where scripts are looked up.
+pub mod Read  -- Reading a text line by line.
+pub mod Kept  -- What reading keeps: of each step what holds of every call that is read, and the limits.
+pub mod Same  -- Calls of one name with the same arguments are equal.
+pub mod SpelledLines  -- A line of a script text is read exactly where it is spelled.
+pub mod SpelledScripts  -- A script text is read exactly where it is spelled.

@@ -1,5 +1,5 @@
-pub mod Scripts
-pub mod Lines
-pub mod Texts
-pub mod ScriptGrammar
-pub mod Views
+pub mod Scripts  -- Scripts: what the tasks and handlers of a function ask, one call after the other.
+pub mod Lines  -- What a line of a script text says.
+pub mod Texts  -- Reading a script text, up to its first fault.
+pub mod ScriptGrammar  -- The grammar of script texts, apart from how they are read: which texts spell which scripts.
+pub mod Views  -- What contracts see of scripts and of a reader.

@@ -1,1 +1,1 @@
-pub mod Waiting
+pub mod Waiting  -- Who waits after a task has left.

@@ -1,1 +1,1 @@
-pub mod Semaphores
+pub mod Semaphores  -- A semaphore with the tasks that wait for it.

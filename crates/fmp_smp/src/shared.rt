@@ -28,6 +28,7 @@ pub struct Shared<'a, G> {
 }
 
 impl<'a, G: Gate> Shared<'a, G> {
+    /// The run has ended, and each thread has to return.
     pub fn is_over(&self) -> bool {
         self.over.load(Ordering::SeqCst)
     }
@@ -38,6 +39,7 @@ impl<'a, G: Gate> Shared<'a, G> {
         self.wake_all();
     }
 
+    /// Wakes all threads, whatever they wait for.
     pub fn wake_all(&self) {
         for unparker in &self.unparkers {
             unparker.unpark();
@@ -80,6 +82,7 @@ impl<'a, G: Gate> Shared<'a, G> {
         rounds.give(&mut *guard, clock)
     }
 
+    /// On no processor a handler is due, a task runs or a request is pending.
     pub fn is_quiet<T: Wait>(&self, rt: &T) -> bool {
         self.world.lock(rt).quiet()
     }

@@ -1,1 +1,1 @@
-pub mod Locks
+pub mod Locks  -- Spin locks as a list of their holders.

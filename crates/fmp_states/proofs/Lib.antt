@@ -1,2 +1,2 @@
-pub mod Alike
-pub mod More
+pub mod Alike  -- The text of a state with lists is that of each state with numbers for which it stands.
+pub mod More  -- One processor, one priority or one task more.

@@ -7,12 +7,12 @@ use Rattle.fmp_codes.specs.declared.numbers.Task.{Task}
 use Rattle.fmp_codes.specs.declared.records.Runner.{Runner}
 use Rattle.fmp_machine.specs.declared.machine.Processor.{Processor}
 use Rattle.fmp_machine.specs.declared.machine.TaskRecord.{TaskRecord}
-use Rattle.fmp_machine.specs.Keeping.{Keeping}
+use Rattle.fmp_machine.specs.Ordering.{Ordering}
 use Rattle.fmp_machine.specs.World.{World, item, processor, task}
 use Rattle.fmp_names.specs.Names.{NameLists}
 use Rattle.fmp_states.specs.States.{processor_text, processors_text, ready_to, task_line, tasks_text, without_running}
 
-module _ {Q : Type 0} (k : Keeping Q) (w : World Q) where
+module _ {Q : Type 0} (k : Ordering Q) (w : World Q) where
   ready_suc : (p : Proc) (n : ℕ) → ready_to k w p (suc n) ≡ ready_to k w p n ++ without_running (processor w p).running (k.ready w.order w.tasks p (as_pri (suc n)))
   unfolding ready_to
   ready_suc p n = refl

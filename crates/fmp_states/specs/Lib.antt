@@ -1,1 +1,1 @@
-pub mod States
+pub mod States  -- The text of a state

@@ -12,8 +12,8 @@ use Rattle.fmp_machine.specs.declared.machine.Processor.{Processor}
 use Rattle.fmp_machine.specs.declared.machine.TaskRecord.{TaskRecord}
 use Rattle.fmp_machine.specs.declared.machine.Wait.{Wait}
 use Rattle.fmp_machine.specs.declared.machine.Wait.TheVariants as wait
-use Rattle.fmp_machine.specs.Keeping.{Keeping}
-use Rattle.fmp_machine.specs.Numbers.{State, numbered}
+use Rattle.fmp_machine.specs.Ordering.{Ordering}
+use Rattle.fmp_machine.specs.Arrivals.{State, numbered}
 use Rattle.fmp_machine.specs.World.{World, item, processor, task}
 use Rattle.fmp_trace.specs.Lines.{runner_text, task_text}
 use Rattle.fmp_trace.specs.Values.{named}
@@ -27,7 +27,7 @@ abbrev pub without_running : Option Task → List Task → List Task
 without_running running ts = filter (λ t. not (is_running running t)) ts
 
 -- the ready tasks of the priorities 1 to n on a processor, in their precedence, without the running one
-unfoldable pub ready_to : {Q : Type 0} → Keeping Q → World Q → Proc → ℕ → List Task
+unfoldable pub ready_to : {Q : Type 0} → Ordering Q → World Q → Proc → ℕ → List Task
 ready_to k w p zero = []
 ready_to k w p (suc n) = ready_to k w p n ++ without_running (processor w p).running (k.ready w.order w.tasks p (as_pri (suc n)))
 
@@ -74,7 +74,7 @@ processor_text lists p x ready due =
     head_text lists p x.running ++ ready_from lists 0 ready ++ flags_text x ++ due_from lists 0 due ++ codes "\n"
 
 -- the lines of the first n processors
-unfoldable pub processors_text : {Q : Type 0} → Keeping Q → NameLists → World Q → ℕ → List ℕ
+unfoldable pub processors_text : {Q : Type 0} → Ordering Q → NameLists → World Q → ℕ → List ℕ
 processors_text k lists w zero = []
 processors_text k lists w (suc n) =
     let p = as_proc (suc n) in
@@ -120,7 +120,7 @@ tasks_text lists w (suc n) =
     tasks_text lists w n ++ task_line lists t (task w t) (item None w.waits_left t.number)
 
 -- the lines of a state, whatever keeps its order
-unfoldable pub state_lines : {Q : Type 0} → Keeping Q → NameLists → World Q → List ℕ
+unfoldable pub state_lines : {Q : Type 0} → Ordering Q → NameLists → World Q → List ℕ
 state_lines k lists w = processors_text k lists w (length w.processors) ++ tasks_text lists w (length w.tasks)
 
 -- the lines of a state of the model

@@ -1,6 +1,6 @@
 //! The whole state.
 ghost use Rattle.std.specs.Prelude.{◌≡◌, ◌++◌, OnOk};
-ghost use Rattle.fmp_machine.specs.Numbers.{State};
+ghost use Rattle.fmp_machine.specs.Arrivals.{State};
 ghost use Rattle.fmp_queues.specs.Queues.{listed};
 ghost use Rattle.fmp_lists.specs.Stands.{Stands};
 ghost use Rattle.fmp_states.specs.States.{state_lines, state_text};

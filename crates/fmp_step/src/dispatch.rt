@@ -31,7 +31,7 @@ pub(crate) fn changed_run(before: Option<Task>, after: Option<Task>) -> Option<O
 
 /// The top of each processor.
 pub(crate) fn tops<M: Words>(machine: &M) -> ArrayVec<Option<Task>, 8>
-    ensures { result.items ≡ tops M.keeping (M.world machine.now) }
+    ensures { result.items ≡ tops M.ordering (M.world machine.now) }
 {
     let mut tops = ArrayVec::new();
     for index in 0..machine.processor_count() {
@@ -41,7 +41,7 @@ pub(crate) fn tops<M: Words>(machine: &M) -> ArrayVec<Option<Task>, 8>
 }
 
 fn is_requested<M: Words>(machine: &M, before: &[Option<Task>], q: Proc, p: Proc) -> bool
-    ensures { result ≡ is_requested M.keeping before.now (M.world machine.now) q p }
+    ensures { result ≡ is_requested M.ordering before.now (M.world machine.now) q p }
 {
     let top_before = before.get(p.index()).copied().unwrap_or(None);
     p.number != q.number && !is_same(top_before, machine.top(p))
@@ -49,7 +49,7 @@ fn is_requested<M: Words>(machine: &M, before: &[Option<Task>], q: Proc, p: Proc
 
 /// The processors to which an event on q sends a request.
 fn requests<M: Words>(machine: &M, before: &[Option<Task>], q: Proc) -> Requests
-    ensures { result ≡ requests M.keeping before.now (M.world machine.now) q }
+    ensures { result ≡ requests M.ordering before.now (M.world machine.now) q }
 {
     let mut requests = Requests::new();
     for index in 0..machine.processor_count() {
@@ -80,7 +80,7 @@ fn latch<M: Words>(machine: &mut M, processors: &[Proc])
 
 /// Lets a processor that is not held run its top.
 fn dispatch<M: Words>(machine: &mut M, q: Proc)
-    ensures state { M.world machine.new ≡ dispatched M.keeping (M.world machine.old) q }
+    ensures state { M.world machine.new ≡ dispatched M.ordering (M.world machine.old) q }
     ensures room { M.room machine.new ≡ M.room machine.old }
 {
     if !is_held(machine, q) {
@@ -99,8 +99,8 @@ fn dispatch<M: Words>(machine: &mut M, q: Proc)
 
 /// Ends an event on q, where these were the tops before it.
 pub(crate) fn settle<M: Words>(machine: &mut M, before: &[Option<Task>], q: Proc) -> Requests
-    ensures state { M.world machine.new ≡ settle M.keeping before.now (M.world machine.old) q }
-    ensures requests { result ≡ requests M.keeping before.now (M.world machine.old) q }
+    ensures state { M.world machine.new ≡ settle M.ordering before.now (M.world machine.old) q }
+    ensures requests { result ≡ requests M.ordering before.now (M.world machine.old) q }
     ensures room { M.room machine.new ≡ M.room machine.old }
 {
     let requests = requests(machine, before, q);

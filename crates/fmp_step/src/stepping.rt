@@ -3,8 +3,8 @@ ghost use Rattle.std.specs.Prelude.{◌≡◌, ◌+◌, ◌≤◌, [], if◌then
 ghost use Rattle.fmp_machine.specs.Effects.{TellsOnce, adding};
 ghost use Rattle.fmp_machine.specs.Setup.{has_time};
 ghost use Rattle.fmp_machine.specs.World.{processor};
-ghost use Rattle.fmp_machine.specs.Step.{front_of, settled, unchanged, step};
-ghost use Rattle.fmp_step.specs.Fronts.{seen};
+ghost use Rattle.fmp_machine.specs.Step.{before_event, settled, unchanged, step};
+ghost use Rattle.fmp_step.specs.Before.{seen};
 
 use crate::dispatch::{changed_run, settle, tops};
 use crate::family;
@@ -16,7 +16,7 @@ use fmp_words::{Objects, Words, is_held, runner};
 
 /// What is remembered of the state before an event.
 #[derive(Debug, Drop)]
-struct Front {
+struct Before {
     event: Event,
     processor: Proc,
     runner: Option<Runner>,
@@ -24,11 +24,11 @@ struct Front {
     tops: ArrayVec<Option<Task>, 8>,
 }
 
-#[tactic(auto, unfolding(fmp_machine::specs::Step::front_of))]
-fn front_of<M: Words>(machine: &M, event: Event, q: Proc) -> Front
-    ensures { seen result ≡ front_of M.keeping (M.world machine.now) event q }
+#[tactic(auto, unfolding(fmp_machine::specs::Step::before_event))]
+fn before_event<M: Words>(machine: &M, event: Event, q: Proc) -> Before
+    ensures { seen result ≡ before_event M.ordering (M.world machine.now) event q }
 {
-    Front {
+    Before {
         event,
         processor: q,
         runner: runner(machine, q),
@@ -39,22 +39,22 @@ fn front_of<M: Words>(machine: &M, event: Event, q: Proc) -> Front
 
 /// The end of an event that did this, and ended the waits that are told already.
 #[tactic(auto, unfolding(fmp_machine::specs::Step::settled))]
-fn settled<M: Words>(machine: &mut M, front: Front, effect: Effect, told: &mut Record)
+fn settled<M: Words>(machine: &mut M, before: Before, effect: Effect, told: &mut Record)
     requires once { TellsOnce told.old.releases effect }
-    ensures step { (M.world machine.new, told.new) ≡ settled M.keeping (seen front) (M.world machine.old, adding told.old.releases effect) }
+    ensures step { (M.world machine.new, told.new) ≡ settled M.ordering (seen before) (M.world machine.old, adding told.old.releases effect) }
     ensures room { M.room machine.new ≡ M.room machine.old }
 {
     let (answer, release, lost) = effect.into_parts();
     if let Some(release) = release {
         told.releases.push(release);
     }
-    told.event = front.event;
-    told.runner = front.runner;
+    told.event = before.event;
+    told.runner = before.runner;
     told.answer = answer;
     told.lost = lost;
-    told.requests = settle(machine, front.tops.as_slice(), front.processor);
-    let running = machine.processor(front.processor).running;
-    told.run_change = changed_run(front.running, running);
+    told.requests = settle(machine, before.tops.as_slice(), before.processor);
+    let running = machine.processor(before.processor).running;
+    told.run_change = changed_run(before.running, running);
 }
 
 /// The record of an event that changes nothing.
@@ -74,7 +74,7 @@ fn unchanged<M: Words>(machine: &M, event: Event, q: Proc, answer: Answer, told:
 /// Plays one event, and tells what it answers and did.
 pub fn step<M: Objects>(machine: &mut M, event: Event) -> Record
     requires { 64 ≤ M.room machine.old }
-    ensures step { (M.world machine.new, result) ≡ step M.keeping (M.world machine.old) event }
+    ensures step { (M.world machine.new, result) ≡ step M.ordering (M.world machine.old) event }
     ensures room { M.room machine.old ≤ M.room machine.new + 64 }
 {
     let mut told = Record::answer(event, None, Answer::Nothing);
@@ -85,7 +85,7 @@ pub fn step<M: Objects>(machine: &mut M, event: Event) -> Record
 /// Plays one event, and makes a record tell what it answers and did, whatever it told before.
 pub fn step_into<M: Objects>(machine: &mut M, event: Event, told: &mut Record)
     requires { 64 ≤ M.room machine.old }
-    ensures step { (M.world machine.new, told.new) ≡ step M.keeping (M.world machine.old) event }
+    ensures step { (M.world machine.new, told.new) ≡ step M.ordering (M.world machine.old) event }
     ensures room { M.room machine.old ≤ M.room machine.new + 64 }
 {
     told.releases.clear();
@@ -99,16 +99,16 @@ pub fn step_into<M: Objects>(machine: &mut M, event: Event, told: &mut Record)
 fn step_call<M: Objects>(machine: &mut M, p: Proc, call: Call, told: &mut Record)
     requires room { 64 ≤ M.room machine.old }
     requires empty { told.old.releases ≡ [] }
-    ensures step { (M.world machine.new, told.new) ≡ step M.keeping (M.world machine.old) (Event.Call p call) }
+    ensures step { (M.world machine.new, told.new) ≡ step M.ordering (M.world machine.old) (Event.Call p call) }
     ensures room { M.room machine.old ≤ M.room machine.new + 64 }
 {
     let event = Event::Call(p, call);
     if runner(machine, p).is_none() {
         return unchanged(machine, event, p, Answer::Idle, told);
     }
-    let front = front_of(machine, event, p);
+    let before = before_event(machine, event, p);
     let effect = family::call(machine, p, call, &mut told.releases);
-    settled(machine, front, effect, told);
+    settled(machine, before, effect, told);
 }
 
 /// Whether ticks on a processor count.
@@ -124,7 +124,7 @@ fn has_time(timer: Timer, p: Proc) -> bool
 fn step_tick<M: Objects>(machine: &mut M, p: Proc, told: &mut Record)
     requires room { 64 ≤ M.room machine.old }
     requires empty { told.old.releases ≡ [] }
-    ensures step { (M.world machine.new, told.new) ≡ step M.keeping (M.world machine.old) (Event.Tick p) }
+    ensures step { (M.world machine.new, told.new) ≡ step M.ordering (M.world machine.old) (Event.Tick p) }
     ensures room { M.room machine.old ≤ M.room machine.new + 64 }
 {
     let event = Event::Tick(p);
@@ -134,23 +134,23 @@ fn step_tick<M: Objects>(machine: &mut M, p: Proc, told: &mut Record)
     if machine.processor(p).locked || machine.handler(p).is_some() {
         return unchanged(machine, event, p, Answer::Held, told);
     }
-    let front = front_of(machine, event, p);
+    let before = before_event(machine, event, p);
     tick(machine, p, &mut told.releases);
-    settled(machine, front, Effect::answer(Answer::Taken), told);
+    settled(machine, before, Effect::answer(Answer::Taken), told);
 }
 
 fn step_interrupt<M: Words>(machine: &mut M, p: Proc, told: &mut Record)
     requires empty { told.old.releases ≡ [] }
-    ensures step { (M.world machine.new, told.new) ≡ step M.keeping (M.world machine.old) (Event.Ipi p) }
+    ensures step { (M.world machine.new, told.new) ≡ step M.ordering (M.world machine.old) (Event.Ipi p) }
     ensures room { M.room machine.new ≡ M.room machine.old }
 {
     let event = Event::Ipi(p);
     if is_held(machine, p) {
         return unchanged(machine, event, p, Answer::Held, told);
     }
-    let front = front_of(machine, event, p);
+    let before = before_event(machine, event, p);
     let answer = interrupt_answer(machine, p);
-    settled(machine, front, Effect::answer(answer), told);
+    settled(machine, before, Effect::answer(answer), told);
 }
 
 /// Whether a request was pending.

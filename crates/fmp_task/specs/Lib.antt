@@ -1,1 +1,1 @@
-pub mod States
+pub mod States  -- The records of the tasks as a map, and the states of a task.

@@ -1,6 +1,6 @@
 //! How one task changes, each way under the condition that its state sets.
 ghost use Rattle.std.specs.Prelude.{◌≡◌, ◌+◌, ◌-◌, ◌<◌, Some, None, true, false};
-ghost use Rattle.fmp_machine.specs.Keeping.{is_runnable};
+ghost use Rattle.fmp_machine.specs.Ordering.{is_runnable};
 ghost use Rattle.fmp_machine.specs.Tasks.{started, ended};
 ghost use Rattle.fmp_task.specs.States.{record_of, with_record, is_dormant, is_waiting, is_suspended};
 

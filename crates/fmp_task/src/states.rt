@@ -1,6 +1,6 @@
 //! The states of a task.
 ghost use Rattle.std.specs.Prelude.{◌≡◌};
-ghost use Rattle.fmp_machine.specs.Keeping.{is_runnable};
+ghost use Rattle.fmp_machine.specs.Ordering.{is_runnable};
 ghost use Rattle.fmp_task.specs.States.{record_of, is_dormant, is_waiting, is_suspended};
 
 use crate::tasks::Tasks;

@@ -1,2 +1,2 @@
-pub mod Steps
-pub mod Lexing
+pub mod Steps  -- What each byte of a text does, by what stands before it and what follows it.
+pub mod Lexing  -- The tokens of a text, with their lines, byte by byte.

@@ -1,21 +1,21 @@
-pub mod Bytes
-pub mod CheckedTexts
-pub mod Collected
-pub mod Compared
-pub mod FittingAnswers
-pub mod FittingArguments
-pub mod FittingLines
-pub mod FittingParts
-pub mod GuessedCalls
-pub mod GuessedLines
-pub mod GuessedRunners
-pub mod GuessedTails
-pub mod GuessedValues
-pub mod Guessing
-pub mod Numbered
-pub mod Patched
-pub mod ReadTexts
-pub mod Releases
-pub mod Results
-pub mod Told
-pub mod Unended
+pub mod Bytes  -- Which bytes stand in the parts of a printed line, and which do not.
+pub mod FittingAnswers  -- What the machine answers fits the names of its configuration.
+pub mod FittingArguments  -- The arguments of a call that are within their kinds' bits are those of its kinds.
+pub mod Told  -- Numbers that name something are the numbers that they are made of.
+pub mod GuessedValues  -- Numbers, names, codes and answers that are printed are guessed right.
+pub mod GuessedCalls  -- A call that is printed spells the call, so it is read as that call.
+pub mod GuessedRunners  -- The runner that is printed is guessed right: no two objects have one name, of whatever kinds.
+pub mod GuessedTails  -- What is printed behind the answer is guessed right, word by word.
+pub mod GuessedLines  -- A printed line is guessed right, and its bytes are printed ones.
+pub mod Numbered  -- Going over the lines of a text one after the other, as loops do.
+pub mod FittingParts  -- What is guessed of a part of a line fits the names, whatever the part is.
+pub mod FittingLines  -- What is guessed of a line fits the names, whatever the line is.
+pub mod Unended  -- No printed line has a line feed within it, whatever the record.
+pub mod ReadTexts  -- A text is read exactly where it prints records that fit, and else its first fault is told.
+pub mod CheckedTexts  -- The verdict on a text that prints records.
+pub mod Collected  -- Going over the lines of a text while what differs is collected, as the loop does.
+pub mod Compared  -- What is collected of a text that prints records: where it differs from the machine's own.
+pub mod Guessing  -- Guessing what the pieces of a line say one after the other, as a loop does.
+pub mod Patched  -- Replacing the lines that differ makes the machine's own lines.
+pub mod Releases  -- The releases from one on, where it is read by its place.
+pub mod Results  -- What reading gives, as a result that may also be want of memory.

@@ -4,7 +4,7 @@ use Rattle.std.specs.Option.{ok_or}
 use Rattle.std.specs.Str.{bytes_eq}
 use Rattle.fmp_bytes.specs.Bytes.{pieces_of}
 use Rattle.fmp_machine.specs.Boot.{booted}
-use Rattle.fmp_machine.specs.Numbers.{State, numbered}
+use Rattle.fmp_machine.specs.Arrivals.{State, numbered}
 use Rattle.fmp_machine.specs.Setup.{Setup}
 use Rattle.fmp_machine.specs.Step.{step}
 use Rattle.fmp_text.specs.declared.fault.TextFault.{TextFault}

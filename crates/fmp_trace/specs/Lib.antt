@@ -1,10 +1,10 @@
-pub mod Checking
-pub mod Comparing
-pub mod Differences
-pub mod Fits
-pub mod Guess
-pub mod GuessParts
-pub mod Lines
-pub mod Prints
-pub mod Reading
-pub mod Values
+pub mod GuessParts  -- What the parts of a line are guessed to say: numbers, names, codes, answers, runners, releases and requests.
+pub mod Guess  -- The record that a line is guessed to print
+pub mod Values  -- How names, values and calls are printed.
+pub mod Lines  -- The text of a trace as a function of its records.
+pub mod Fits  -- Which records are told apart by their printed lines
+pub mod Prints  -- Which texts print which records, and the first fault of a text that prints none.
+pub mod Reading  -- Reading a trace line by line: each line is guessed, and printed again.
+pub mod Checking  -- What is answered of a text that prints records: whether they are the machine's own answers.
+pub mod Differences  -- Where a trace differs from the machine's own answers to its events, and how that is shown.
+pub mod Comparing  -- Comparing a trace with the machine's own line by line, as the code does.

@@ -5,7 +5,7 @@ ghost use Rattle.fmp_codes.specs.Records.{AreOn};
 ghost use Rattle.fmp_codes.specs.declared.records.Event.{Event};
 ghost use Rattle.fmp_codes.specs.declared.records.Record.{Record};
 ghost use Rattle.fmp_machine.specs.Boot.{booted};
-ghost use Rattle.fmp_machine.specs.Numbers.{numbered};
+ghost use Rattle.fmp_machine.specs.Arrivals.{numbered};
 ghost use Rattle.fmp_machine.specs.Setup.{Setup};
 ghost use Rattle.fmp_machine.specs.Step as machine;
 ghost use Rattle.fmp_machine.specs.Valid.{IsValid};

@@ -32,6 +32,7 @@ pub fn is_line(
     Ok(scratch.as_slice() == line)
 }
 
+/// A fault of this kind in this line.
 pub fn fault(kind: TextKind, line: u32) -> TextFault
     ensures { result ≡ record { kind = kind; line = line } }
 {

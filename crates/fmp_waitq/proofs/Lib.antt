@@ -1,1 +1,1 @@
-pub mod Waiters
+pub mod Waiters  -- Waiters against tasks and their ranks.

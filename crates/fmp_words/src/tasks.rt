@@ -47,7 +47,7 @@ fn ended(task: TaskRecord) -> TaskRecord
 /// Starts a dormant task on a processor.
 pub fn start<M: Words>(machine: &mut M, t: Task, p: Proc)
     requires { 0 < M.room machine.old }
-    ensures state { M.world machine.new ≡ start M.keeping (M.world machine.old) t p }
+    ensures state { M.world machine.new ≡ start M.ordering (M.world machine.old) t p }
     ensures room { M.room machine.old ≤ M.room machine.new + 1 }
 {
     let task = machine.task(t);
@@ -57,12 +57,12 @@ pub fn start<M: Words>(machine: &mut M, t: Task, p: Proc)
 /// Starts a dormant task on a processor, or queues the activation of another with a kept processor.
 pub fn activate<M: Words>(machine: &mut M, t: Task, p: Proc, kept: Option<Proc>)
     requires { 0 < M.room machine.old }
-    ensures state { M.world machine.new ≡ activate M.keeping (M.world machine.old) t p kept }
+    ensures state { M.world machine.new ≡ activate M.ordering (M.world machine.old) t p kept }
     ensures room { M.room machine.old ≤ M.room machine.new + 1 }
 {
     let task = machine.task(t);
     if task.active {
-        machine.note(
+        machine.set_task(
             t,
             TaskRecord {
                 activations: 1,
@@ -79,7 +79,7 @@ pub fn activate<M: Words>(machine: &mut M, t: Task, p: Proc, kept: Option<Proc>)
 #[tactic(auto, unfolding(fmp_machine::specs::Tasks::finish))]
 pub fn finish<M: Words>(machine: &mut M, t: Task)
     requires { 0 < M.room machine.old }
-    ensures state { M.world machine.new ≡ finish M.keeping (M.world machine.old) t }
+    ensures state { M.world machine.new ≡ finish M.ordering (M.world machine.old) t }
     ensures room { M.room machine.old ≤ M.room machine.new + 1 }
 {
     let task = machine.task(t);
@@ -94,7 +94,7 @@ pub fn wait_for<M: Words>(
     timeout: i32,
 ) -> Result<Effect, Code>
     requires { 0 < M.room machine.old }
-    ensures state { (M.world machine.new, effect_of result) ≡ wait_for M.keeping (M.world machine.old) t wait timeout }
+    ensures state { (M.world machine.new, effect_of result) ≡ wait_for M.ordering (M.world machine.old) t wait timeout }
     ensures room { M.room machine.old ≤ M.room machine.new + 1 }
 {
     refuse_if(timeout == 0, Code::TimedOut)?;
@@ -105,7 +105,7 @@ pub fn wait_for<M: Words>(
 /// Ends the wait of a task, which is ready last of its priority unless it is suspended.
 pub fn make_ready<M: Words>(machine: &mut M, t: Task)
     requires { 0 < M.room machine.old }
-    ensures state { M.world machine.new ≡ make_ready M.keeping (M.world machine.old) t }
+    ensures state { M.world machine.new ≡ make_ready M.ordering (M.world machine.old) t }
     ensures room { M.room machine.old ≤ M.room machine.new + 1 }
 {
     let task = machine.task(t);
@@ -115,7 +115,7 @@ pub fn make_ready<M: Words>(machine: &mut M, t: Task)
 /// Ends the wait of a task with a code and perhaps a value.
 pub fn release<M: Words>(machine: &mut M, t: Task, code: Code, value: Option<i64>) -> Effect
     requires { 0 < M.room machine.old }
-    ensures state { (M.world machine.new, result) ≡ release M.keeping (M.world machine.old) t code value }
+    ensures state { (M.world machine.new, result) ≡ release M.ordering (M.world machine.old) t code value }
     ensures room { M.room machine.old ≤ M.room machine.new + 1 }
 {
     make_ready(machine, t);
@@ -125,7 +125,7 @@ pub fn release<M: Words>(machine: &mut M, t: Task, code: Code, value: Option<i64
 /// Gives a task this priority, of which it comes last.
 pub fn change_priority<M: Words>(machine: &mut M, t: Task, priority: Pri)
     requires { 0 < M.room machine.old }
-    ensures state { M.world machine.new ≡ change_priority M.keeping (M.world machine.old) t priority }
+    ensures state { M.world machine.new ≡ change_priority M.ordering (M.world machine.old) t priority }
     ensures room { M.room machine.old ≤ M.room machine.new + 1 }
 {
     let task = machine.task(t);
@@ -135,7 +135,7 @@ pub fn change_priority<M: Words>(machine: &mut M, t: Task, priority: Pri)
 /// Assigns a task to a processor. Where that is another than before and the task is ready, it comes last there.
 pub fn migrate<M: Words>(machine: &mut M, t: Task, p: Proc)
     requires { 0 < M.room machine.old }
-    ensures state { M.world machine.new ≡ migrate M.keeping (M.world machine.old) t p }
+    ensures state { M.world machine.new ≡ migrate M.ordering (M.world machine.old) t p }
     ensures room { M.room machine.old ≤ M.room machine.new + 1 }
 {
     let task = machine.task(t);
@@ -153,7 +153,7 @@ pub fn migrate<M: Words>(machine: &mut M, t: Task, p: Proc)
 /// Lets a task, if there is one, come last of its priority.
 pub fn rotate<M: Words>(machine: &mut M, t: Option<Task>)
     requires { 0 < M.room machine.old }
-    ensures state { M.world machine.new ≡ rotate M.keeping (M.world machine.old) t }
+    ensures state { M.world machine.new ≡ rotate M.ordering (M.world machine.old) t }
     ensures room { M.room machine.old ≤ M.room machine.new + 1 }
 {
     if let Some(t) = t {

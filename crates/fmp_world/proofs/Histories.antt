@@ -10,8 +10,8 @@ use Rattle.fmp_codes.specs.declared.records.Event.TheVariants as events
 use Rattle.fmp_codes.specs.declared.records.Record.{Record}
 use Rattle.fmp_machine.specs.Setup.{Setup, has_time}
 use Rattle.fmp_machine.specs.World.{World, processor, handler, runner_of, is_held}
-use Rattle.fmp_machine.specs.Numbers.{State, numbered}
-use Rattle.fmp_machine.specs.Step.{settled, front_of, unchanged, step, replay, answers}
+use Rattle.fmp_machine.specs.Arrivals.{State, numbered}
+use Rattle.fmp_machine.specs.Step.{settled, before_event, unchanged, step, replay, answers}
 use Rattle.fmp_machine.specs.Boot.{booted}
 use Rattle.fmp_machine.specs.Valid.{IsValid}
 use Rattle.fmp_safety.specs.Safe.{Safe}
@@ -24,7 +24,7 @@ use Rattle.fmp_world.specs.Histories.{events_of, state_after, IsRunOf}
 
 -- a record names its event
 pub step_event : (m : State) (e : Event) → (step numbered m e).1.event ≡ e
-unfolding settled front_of unchanged
+unfolding settled before_event unchanged
 step_event m (events.Call p c) = cond_both (is_some (runner_of m p)) _ _ (λ (x : State × Record). x.1.event ≡ events.Call p c) (λ _. refl) (λ _. refl)
 step_event m (events.Tick p) =
     cond_both (has_time m.timer p) _ _ (λ (x : State × Record). x.1.event ≡ events.Tick p)

@@ -1,7 +1,7 @@
-pub mod Histories
-pub mod Advancing
-pub mod Runs
-pub mod Opening
-pub mod Bits
-pub mod Judging
-pub mod Finished
+pub mod Histories  -- A history that is one event longer.
+pub mod Advancing  -- Script positions along a history.
+pub mod Runs  -- What a world keeps, with one event more.
+pub mod Opening  -- The seats of a new world.
+pub mod Bits  -- The events of a scripted history are within the bits of their kinds, where the scripts are.
+pub mod Judging  -- Steps of the judge's loops, and what its answers say.
+pub mod Finished  -- What is known of a run that the judge let pass.

@@ -1,6 +1,6 @@
 //! What a task or a handler does next.
 ghost use Rattle.std.specs.Prelude.{◌≡◌};
-ghost use Rattle.fmp_machine.specs.Numbers.{State};
+ghost use Rattle.fmp_machine.specs.Arrivals.{State};
 ghost use Rattle.fmp_machine.specs.World as world;
 ghost use Rattle.fmp_lists.specs.Stands.{Stands};
 ghost use Rattle.fmp_world.specs.Scripted as scripted;

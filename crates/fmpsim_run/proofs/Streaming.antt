@@ -8,7 +8,7 @@ use Rattle.fmp_feed.proofs.Cut.{ahead_closed, ahead_new, ahead_pushed}
 use Rattle.fmp_feed.specs.Feed.{Feed, Gives, IsDone, ahead, closed, new_feed, only, pushed}
 use Rattle.fmp_lists.specs.Stands.{Stands}
 use Rattle.fmp_machine.specs.Boot.{booted}
-use Rattle.fmp_machine.specs.Numbers.{State, numbered}
+use Rattle.fmp_machine.specs.Arrivals.{State, numbered}
 use Rattle.fmp_machine.specs.Setup.{Setup}
 use Rattle.fmp_machine.specs.Step.{replay, step}
 use Rattle.fmp_text.specs.declared.fault.TextFault.{TextFault}

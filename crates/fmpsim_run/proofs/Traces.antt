@@ -4,8 +4,8 @@ use Rattle.std.proofs.lemmas.List.{append-nil, take_min, take-append-le}
 use Rattle.std.proofs.Math.Seq.{take-append-add, take-length}
 use Rattle.fmp_codes.specs.declared.records.Event.{Event}
 use Rattle.fmp_machine.specs.Boot.{booted}
-use Rattle.fmp_machine.specs.Keeping.{Keeping}
-use Rattle.fmp_machine.specs.Numbers.{State, numbered}
+use Rattle.fmp_machine.specs.Ordering.{Ordering}
+use Rattle.fmp_machine.specs.Arrivals.{State, numbered}
 use Rattle.fmp_machine.specs.Setup.{Setup}
 use Rattle.fmp_machine.specs.Step.{answers, replay, step}
 use Rattle.fmp_machine.specs.World.{World}
@@ -17,7 +17,7 @@ use Rattle.fmpsim_run.specs.declared.stream.Detail.TheVariants as detail
 use Rattle.fmpsim_run.specs.Runs.{trace_of}
 use Rattle.fmpsim_run.specs.Details.{detail_of, entry_text, states_from, states_of}
 
-module _ {Q : Type 0} (k : Keeping Q) (names : NameLists) where
+module _ {Q : Type 0} (k : Ordering Q) (names : NameLists) where
   pub replay_more : (w : World Q) (es : List Event) (e : Event) → replay k w (es ++ e ∷ []) ≡ (step k (replay k w es) e).0
   replay_more w [] e = refl
   replay_more w (x ∷ es) e = replay_more (step k w x).0 es e

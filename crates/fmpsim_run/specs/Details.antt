@@ -6,7 +6,7 @@ use Rattle.fmp_text.specs.TextGrammar.{SpellsText}
 use Rattle.fmp_names.specs.Names.{NameLists}
 use Rattle.fmp_machine.specs.Setup.{Setup}
 use Rattle.fmp_machine.specs.Boot.{booted}
-use Rattle.fmp_machine.specs.Numbers.{State, numbered}
+use Rattle.fmp_machine.specs.Arrivals.{State, numbered}
 use Rattle.fmp_machine.specs.Step.{answers, step}
 use Rattle.fmp_safety.specs.Runs.{IsSafeThroughout}
 use Rattle.fmp_balance.specs.Balance.{IsBalancedThroughout}

@@ -9,7 +9,7 @@ use Rattle.fmp_config.specs.Faults.{IsFirstFault}
 use Rattle.fmp_config_laws.specs.Grammar.{Configures}
 use Rattle.fmp_machine.specs.Setup.{Setup}
 use Rattle.fmp_machine.specs.Boot.{booted}
-use Rattle.fmp_machine.specs.Numbers.{numbered}
+use Rattle.fmp_machine.specs.Arrivals.{numbered}
 use Rattle.fmp_machine.specs.Step.{answers}
 use Rattle.fmp_safety.specs.Runs.{IsSafeThroughout}
 use Rattle.fmp_balance.specs.Balance.{IsBalancedThroughout}

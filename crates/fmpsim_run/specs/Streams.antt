@@ -5,7 +5,7 @@ use Rattle.fmp_text.specs.Events.{Reading, faultless, with_events}
 use Rattle.fmp_feed.specs.Feed.{ahead}
 use Rattle.fmp_machine.specs.Setup.{Setup}
 use Rattle.fmp_machine.specs.Boot.{booted}
-use Rattle.fmp_machine.specs.Numbers.{numbered}
+use Rattle.fmp_machine.specs.Arrivals.{numbered}
 use Rattle.fmp_machine.specs.Step.{replay}
 use Rattle.fmp_lists.specs.Stands.{Stands}
 use Rattle.fmpsim_run.specs.declared.fault.RunFault.{RunFault}

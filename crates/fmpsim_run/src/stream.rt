@@ -4,7 +4,7 @@ ghost use Rattle.fmp_codes.specs.Records.{processor_of};
 ghost use Rattle.fmp_feed.specs.Feed.{IsDone, new_feed};
 ghost use Rattle.fmp_lists.specs.Stands.{Stands};
 ghost use Rattle.fmp_machine.specs.Boot.{booted};
-ghost use Rattle.fmp_machine.specs.Numbers.{State, numbered};
+ghost use Rattle.fmp_machine.specs.Arrivals.{State, numbered};
 ghost use Rattle.fmp_machine.specs.Setup.{Setup};
 ghost use Rattle.fmp_machine.specs.Step.{step as step_of};
 ghost use Rattle.fmp_machine.specs.Valid.{IsValid};

@@ -5,7 +5,7 @@ use Rattle.fmp_links.proofs.Tasks.{task_is}
 use Rattle.fmp_ready.specs.Queues.{Queues, list_at, push_last}
 use Rattle.fmp_ready.specs.Kept.{tasks_of}
 use Rattle.fmp_ready.proofs.Tasks.{has_task-tasks_of, push_tasks, queues_same}
-use Rattle.fmp_ready.proofs.Keeping.{kept_push}
+use Rattle.fmp_ready.proofs.Kept.{kept_push}
 use Rattle.fmp_ready.proofs.ReadyQueues.insert.Goals as goal
 
 pub push_last-requires : goal.push_last-requires

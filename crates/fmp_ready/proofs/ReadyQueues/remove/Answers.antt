@@ -8,7 +8,7 @@ use Rattle.fmp_links.specs.Tasks.{has_task}
 use Rattle.fmp_ready.specs.Queues.{Queues, list_at, take_out}
 use Rattle.fmp_ready.specs.Kept.{tasks_of}
 use Rattle.fmp_ready.proofs.Tasks.{has_task-tasks_of, remove_tasks, take_out-lacking, queues_same}
-use Rattle.fmp_ready.proofs.Keeping.{kept_remove}
+use Rattle.fmp_ready.proofs.Kept.{kept_remove}
 use Rattle.fmp_ready.proofs.ReadyQueues.remove.Goals as goal
 
 pub first-requires : goal.first-requires

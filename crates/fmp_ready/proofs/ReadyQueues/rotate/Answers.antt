@@ -4,7 +4,7 @@ use Rattle.fmp_codes.specs.declared.numbers.Task.{Task}
 use Rattle.fmp_ready.specs.Queues.{Queues, list_at, rotated}
 use Rattle.fmp_ready.specs.Kept.{tasks_of}
 use Rattle.fmp_ready.proofs.Tasks.{rotate_tasks, queues_same}
-use Rattle.fmp_ready.proofs.Keeping.{kept_rotate}
+use Rattle.fmp_ready.proofs.Kept.{kept_rotate}
 use Rattle.fmp_ready.proofs.ReadyQueues.rotate.Goals as goal
 
 pub invariant_of-self : goal.invariant_of-self

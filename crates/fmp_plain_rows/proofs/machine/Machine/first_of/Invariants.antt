@@ -1,6 +1,6 @@
 use Rattle.std.proofs.Common.{◌≡◌}
 use Rattle.fmp_machine.specs.World.{first}
-use Rattle.fmp_machine.specs.Numbers.{in_order}
+use Rattle.fmp_machine.specs.Arrivals.{in_order}
 use Rattle.fmp_plain_rows.specs.Groups.{is_member, precedes}
 use Rattle.fmp_plain_rows.proofs.machine.Machine.first_of.Given as goal
 

@@ -1,5 +1,5 @@
 use Rattle.std.proofs.Common.{◌≡◌, ◌≤◌, length}
-use Rattle.fmp_machine.specs.Numbers.{in_order}
+use Rattle.fmp_machine.specs.Arrivals.{in_order}
 use Rattle.fmp_plain_rows.specs.Groups.{is_member, precedes}
 use Rattle.fmp_plain_rows.proofs.machine.Machine.members.Given as goal
 

@@ -1,5 +1,5 @@
 use Rattle.std.proofs.Common.{◌≡◌, ◌++◌, take, drop}
-use Rattle.fmp_machine.specs.Numbers.{inserted}
+use Rattle.fmp_machine.specs.Arrivals.{inserted}
 use Rattle.fmp_plain_rows.specs.Groups.{precedes}
 use Rattle.fmp_plain_rows.proofs.machine.Machine.place_of.Given as goal
 

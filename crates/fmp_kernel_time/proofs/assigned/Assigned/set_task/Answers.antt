@@ -6,8 +6,8 @@ use Rattle.fmp_time.specs.declared.item.Item.TheVariants.{Wait}
 use Rattle.fmp_kernel_time.specs.Assignments.{Assignments, assignments_of}
 use Rattle.fmp_kernel_time.specs.Counting.{AreInStep, followed}
 use Rattle.fmp_kernel_time.proofs.Changes.{noted, noted_step}
-use Rattle.fmp_kernel_time.proofs.assigned.Assigned.note.Goals as goal
-use Rattle.fmp_kernel_time.proofs.assigned.Assigned.note.Goals.{After-set}
+use Rattle.fmp_kernel_time.proofs.assigned.Assigned.set_task.Goals as goal
+use Rattle.fmp_kernel_time.proofs.assigned.Assigned.set_task.Goals.{After-set}
 
 -- the timers follow the record
 timers : (c : After-set) → c.follow.new.timers ≡ followed c.self.inside.timers (Wait c.args.t) (item no_task c.self.inside.tasks c.args.t.number).assigned c.args.changed.assigned

@@ -18,7 +18,7 @@ use Rattle.fmp_machine.specs.declared.machine.QueueKind.TheVariants as kind
 use Rattle.fmp_machine.specs.World.{World, task, item, with_item}
 use Rattle.fmp_machine.specs.Objects.{blank_semaphore, blank_eventflag, no_data_queue, blank_pool}
 
-pub record Keeping (Q : Type 0) : Type 0 where
+pub record Ordering (Q : Type 0) : Type 0 where
   -- a task becomes the last of its priority on its processor, and is no longer ready
   pub put_last : Q → TaskRecord → Task → Q
   pub take_out : Q → TaskRecord → Task → Q
@@ -73,36 +73,36 @@ order_of w (wait.Receive d) = order_in w kind.Receive d
 order_of w (wait.Pool m) = order_in w kind.Pool m
 
 -- the tasks that wait in the queue of an object, in their order
-abbrev pub queue : {Q : Type 0} → Keeping Q → World Q → QueueKind → Object → List Task
+abbrev pub queue : {Q : Type 0} → Ordering Q → World Q → QueueKind → Object → List Task
 queue k w x o = k.waiters w.order w.tasks (order_in w x o) x o
 
 -- the task that comes first on a processor
-abbrev pub top : {Q : Type 0} → Keeping Q → World Q → Proc → Option Task
+abbrev pub top : {Q : Type 0} → Ordering Q → World Q → Proc → Option Task
 top k w p = k.top w.order w.tasks p
 
 -- The fields of t change, and t keeps its place.
-abbrev pub note : {Q : Type 0} → World Q → Task → TaskRecord → World Q
-note w t r = record w { tasks = with_item w.tasks t.number r }
+abbrev pub with_task : {Q : Type 0} → World Q → Task → TaskRecord → World Q
+with_task w t r = record w { tasks = with_item w.tasks t.number r }
 
 -- a task of this record leaves its ready queue, if it is in one
-abbrev pub depart : {Q : Type 0} → Keeping Q → Q → TaskRecord → Task → Q
+abbrev pub depart : {Q : Type 0} → Ordering Q → Q → TaskRecord → Task → Q
 depart k q r t = if is_runnable r then k.take_out q r t else q
 
 -- a task of this record goes last in its ready queue, if it is to be in one
-abbrev pub arrive : {Q : Type 0} → Keeping Q → Q → TaskRecord → Task → Q
+abbrev pub arrive : {Q : Type 0} → Ordering Q → Q → TaskRecord → Task → Q
 arrive k q r t = if is_runnable r then k.put_last q r t else q
 
 -- The fields of t change. It leaves its ready queue, and goes last where it is ready then.
-abbrev pub place : {Q : Type 0} → Keeping Q → World Q → Task → TaskRecord → World Q
+abbrev pub place : {Q : Type 0} → Ordering Q → World Q → Task → TaskRecord → World Q
 place k w t r = record w { tasks = with_item w.tasks t.number r; order = arrive k (depart k w.order (task w t) t) r t }
 
 -- The wait of t is over, if it has one, and its fields change: it leaves its queue and the timed waits, and goes last where it is ready then.
-abbrev pub end_wait : {Q : Type 0} → Keeping Q → World Q → Task → TaskRecord → World Q
+abbrev pub end_wait : {Q : Type 0} → Ordering Q → World Q → Task → TaskRecord → World Q
 end_wait k w t r =
     place k (record w { order = k.leave w.order (task w t) t; waits_left = with_item w.waits_left t.number None }) t r
 
 -- The task t waits for this with so many ticks left, or for ever. It leaves its ready queue, and is the last in the queue and of the timed waits.
-abbrev pub begin_wait : {Q : Type 0} → Keeping Q → World Q → Task → Wait → Option ℕ → World Q
+abbrev pub begin_wait : {Q : Type 0} → Ordering Q → World Q → Task → Wait → Option ℕ → World Q
 begin_wait k w t x left =
     let r = record (task w t) { wait = Some x } in
     record w {
@@ -112,15 +112,15 @@ begin_wait k w t x left =
     }
 
 -- in a queue by priority a task of this record leaves and joins again, with the ticks that it has left
-abbrev pub rejoin : {Q : Type 0} → Keeping Q → Q → Order → TaskRecord → Option ℕ → Task → Q
+abbrev pub rejoin : {Q : Type 0} → Ordering Q → Q → Order → TaskRecord → Option ℕ → Task → Q
 rejoin k q order.First r left t = q
 rejoin k q order.Priority r left t = k.join (k.leave q r t) order.Priority r left t
 
 -- the order when t, which has this wait or none, comes last among its equals where it stands
-abbrev pub behind : {Q : Type 0} → Keeping Q → World Q → Task → TaskRecord → Option Wait → Q
+abbrev pub behind : {Q : Type 0} → Ordering Q → World Q → Task → TaskRecord → Option Wait → Q
 behind k w t r None = arrive k (depart k w.order (task w t) t) r t
 behind k w t r (Some x) = rejoin k w.order (order_of w x) r (item None w.waits_left t.number) t
 
 -- The fields of t change. Where it is ready it goes last, and where it waits in a queue by priority its wait begins anew.
-abbrev pub requeue : {Q : Type 0} → Keeping Q → World Q → Task → TaskRecord → World Q
+abbrev pub requeue : {Q : Type 0} → Ordering Q → World Q → Task → TaskRecord → World Q
 requeue k w t r = record w { tasks = with_item w.tasks t.number r; order = behind k w t r (task w t).wait }
