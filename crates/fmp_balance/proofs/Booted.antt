@@ -18,13 +18,13 @@ use Rattle.fmp_machine.specs.declared.machine.Pool.{Pool}
 use Rattle.fmp_machine.specs.declared.machine.Wait.TheVariants as wait
 use Rattle.fmp_machine.specs.Setup.{Setup}
 use Rattle.fmp_machine.specs.Valid.{AreFew}
-use Rattle.fmp_machine.specs.World.{World, no_task, item, task, processors_to}
+use Rattle.fmp_machine.specs.World.{World, no_task, item, task, processors_to, resting}
 use Rattle.fmp_machine.specs.Objects.{blank_semaphore, semaphore, pool, values}
 use Rattle.fmp_machine.specs.Ordering.{Ordering}
 use Rattle.fmp_machine.specs.Arrivals.{State, numbered}
 use Rattle.fmp_machine.specs.Tasks.{start}
 use Rattle.fmp_machine.specs.Step.{step, replay, answers}
-use Rattle.fmp_machine.specs.Boot.{resting, blank, all_started, with_top_running, with_tops_running, booted, unnumbered}
+use Rattle.fmp_machine.specs.Boot.{blank, all_started, with_top_running, with_tops_running, booted, unnumbered}
 use Rattle.fmp_safety.specs.Safe.{Safe}
 use Rattle.fmp_safety.specs.Runs.{IsSafeThroughout}
 use Rattle.fmp_safety.proofs.Items.{item_holds}

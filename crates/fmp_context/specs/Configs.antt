@@ -1,7 +1,7 @@
 -- What stands beside a fault line of a configuration.
 use Rattle.std.specs.Prelude.{ℕ, ◌+◌, ◌-◌, ◌&&◌, Bool, true, false, List, [], ◌∷◌, ◌++◌, length, take, drop, min, nat_lt, nat_le, Option, Some, None, ◌==◌, if◌then◌else◌}
 use Rattle.std.specs.Option.{option_map_or, option_or}
-use Rattle.fmp_bytes.specs.Bytes.{cut_at}
+use Rattle.fmp_bytes.specs.Bytes.{cut_at, line_feed}
 use Rattle.fmp_config.specs.declared.fault.ConfigFault.{ConfigFault}
 use Rattle.fmp_context.specs.Contexts.{line_behind}
 use Rattle.fmp_context.specs.Excerpts.{excerpt, line_shown}
@@ -33,7 +33,7 @@ abbrev pub column_at : List ℕ → ℕ → ℕ
 column_at text place = column_after 0 (take place text)
 
 abbrev pub line_over : List ℕ → ℕ → List ℕ
-line_over text place = (cut_at 10 (drop (place - column_at text place) text)).0
+line_over text place = (cut_at line_feed (drop (place - column_at text place) text)).0
 
 -- the line of a place, and a caret under it
 unfoldable pub placed : List ℕ → ℕ → List ℕ

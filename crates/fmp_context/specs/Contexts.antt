@@ -1,6 +1,6 @@
 -- What stands beside a fault line.
 use Rattle.std.specs.Prelude.{ℕ, zero, suc, ◌-◌, ◌++◌, List, length, Option, Some, option_map, option_and_then}
-use Rattle.fmp_bytes.specs.Bytes.{cut_at}
+use Rattle.fmp_bytes.specs.Bytes.{cut_at, line_feed}
 use Rattle.fmp_names.specs.Names.{NameLists}
 use Rattle.fmp_text.specs.Lines.{without_return}
 use Rattle.fmp_context.specs.Excerpts.{excerpt}
@@ -22,5 +22,5 @@ event_context names line = context_at names.processors (without_return line) (ev
 
 -- the line behind so many line feeds, and what follows its own, where it has one
 unfoldable pub line_behind : ℕ → List ℕ → Option (List ℕ × Option (List ℕ))
-line_behind zero text = Some (cut_at 10 text)
-line_behind (suc n) text = option_and_then (line_behind n) (cut_at 10 text).1
+line_behind zero text = Some (cut_at line_feed text)
+line_behind (suc n) text = option_and_then (line_behind n) (cut_at line_feed text).1

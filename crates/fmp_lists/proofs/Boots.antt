@@ -12,12 +12,12 @@ use Rattle.fmp_machine.specs.declared.machine.TaskRecord.{TaskRecord}
 use Rattle.fmp_machine.specs.declared.machine.QueueKind.{QueueKind}
 use Rattle.fmp_machine.specs.declared.machine.QueueKind.TheVariants as kind
 use Rattle.fmp_machine.specs.Setup.{Setup}
-use Rattle.fmp_machine.specs.World.{World, with_item, no_task, task, processor, with_processor, processors_to}
+use Rattle.fmp_machine.specs.World.{World, with_item, no_task, task, processor, with_processor, processors_to, resting}
 use Rattle.fmp_machine.specs.Ordering.{is_runnable, waits_in, order_in}
 use Rattle.fmp_machine.specs.Arrivals.{State, numbered, rank_in}
 use Rattle.fmp_machine.specs.Tasks.{start, started}
 use Rattle.fmp_machine.specs.Rows.{done}
-use Rattle.fmp_machine.specs.Boot.{resting, blank, all_started, with_top_running, with_tops_running, boot, booted, unnumbered}
+use Rattle.fmp_machine.specs.Boot.{blank, all_started, with_top_running, with_tops_running, boot, booted, unnumbered}
 use Rattle.fmp_safety.proofs.Items.{item_after}
 use Rattle.fmp_ready.specs.Queues.{list_number, list_at}
 use Rattle.fmp_waitq.specs.Queue.{task_of}

@@ -18,18 +18,23 @@ use Rattle.fmp_machine.specs.declared.machine.QueueKind.TheVariants as kind
 use Rattle.fmp_machine.specs.World.{World, task, item, with_item}
 use Rattle.fmp_machine.specs.Objects.{blank_semaphore, blank_eventflag, no_data_queue, blank_pool}
 
+-- A reader may take Q for Arrivals, where all of this is told by numbers (`numbered`); the other Q is the kernel's queues.
 pub record Ordering (Q : Type 0) : Type 0 where
-  -- a task becomes the last of its priority on its processor, and is no longer ready
+  -- a task becomes the last of its priority on its processor
   pub put_last : Q → TaskRecord → Task → Q
+  -- a task is no longer ready
   pub take_out : Q → TaskRecord → Task → Q
-  -- the task that comes first on a processor, and the ready tasks of a processor and a priority in their order
+  -- the task that comes first on a processor
   pub top : Q → List TaskRecord → Proc → Option Task
+  -- the ready tasks of a processor and a priority, in their order
   pub ready : Q → List TaskRecord → Proc → Pri → List Task
-  -- a task with a wait is the last in its queue, and where it has ticks left the last of the timed waits; its wait is over
+  -- a task begins to wait: it is the last in its queue, and where it has ticks left the last of the timed waits
   pub join : Q → Order → TaskRecord → Option ℕ → Task → Q
+  -- its wait is over
   pub leave : Q → TaskRecord → Task → Q
-  -- the tasks in the queue of an object in their order, and those with ticks left in the order in which their waits began
+  -- the tasks in the queue of an object, in their order
   pub waiters : Q → List TaskRecord → Order → QueueKind → Object → List Task
+  -- the tasks with ticks left, in the order in which their waits began
   pub timed : Q → List (Option ℕ) → List Task
 
 -- active, with no wait and not suspended

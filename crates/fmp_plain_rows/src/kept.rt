@@ -1,6 +1,7 @@
 //! What the machine keeps at boot, by what the configuration says.
 ghost use Rattle.std.specs.Prelude.{◌≡◌, ◌≤◌, false, None, length, map, replicate};
-ghost use Rattle.fmp_machine.specs.Boot.{phase_left, resting};
+ghost use Rattle.fmp_machine.specs.World.{resting};
+ghost use Rattle.fmp_machine.specs.Boot.{phase_left};
 
 use arrayvec::ArrayVec;
 use fmp_machine::{

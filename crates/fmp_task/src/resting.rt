@@ -1,6 +1,6 @@
 //! Tasks before any of them is started.
 ghost use Rattle.std.specs.Prelude.{◌≡◌, ◌≤◌, length, map};
-ghost use Rattle.fmp_machine.specs.Boot.{resting};
+ghost use Rattle.fmp_machine.specs.World.{resting};
 
 use arrayvec::ArrayVec;
 use fmp_machine::{TaskRecord, TaskSetup};

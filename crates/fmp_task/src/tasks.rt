@@ -1,7 +1,6 @@
 //! The records of all tasks.
 ghost use Rattle.std.specs.Prelude.{◌≡◌, ◌≤◌, length, map};
-ghost use Rattle.fmp_machine.specs.Boot.{resting};
-ghost use Rattle.fmp_machine.specs.World.{item, with_item, no_task};
+ghost use Rattle.fmp_machine.specs.World.{item, with_item, no_task, resting};
 
 use crate::resting::all_resting;
 use arrayvec::ArrayVec;

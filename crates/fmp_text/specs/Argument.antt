@@ -4,7 +4,7 @@ use Rattle.std.specs.List.{list_all}
 use Rattle.std.specs.Option.{ok_or, option_map_or, option_or}
 use Rattle.fmp_bytes.specs.declared.classes.Class.TheVariants.{Blank, Argument}
 use Rattle.fmp_bytes.specs.declared.numerals.Number.{Number}
-use Rattle.fmp_bytes.specs.Bytes.{is_of, front, after, behind, cut_at, pieces_of, is_identifier}
+use Rattle.fmp_bytes.specs.Bytes.{is_of, front, after, behind, cut_at, pieces_of, is_identifier, close_parenthesis, comma, open_parenthesis}
 use Rattle.fmp_bytes.specs.Numerals.{number_of, signed_of, unsigned_limited}
 use Rattle.fmp_calls.specs.declared.kinds.ArgumentKind.{ArgumentKind}
 use Rattle.fmp_calls.specs.declared.kinds.ArgumentKind.TheVariants as kinds
@@ -50,18 +50,18 @@ at_most most tokens = do
 
 -- the arguments between the parentheses
 unfoldable pub arguments_in : ℕ → List ℕ → Option (List (List ℕ))
-arguments_in most text = if list_all (is_of Blank) text then Some [] else at_most most (tokens_in (pieces_of 44 text))
+arguments_in most text = if list_all (is_of Blank) text then Some [] else at_most most (tokens_in (pieces_of comma text))
 
 -- what stands before the first closing parenthesis, with only blanks after it
 unfoldable pub before_close : List ℕ → Option (List ℕ)
 before_close text = do
-  rest ← (cut_at 41 text).1
-  if list_all (is_of Blank) rest then Some (cut_at 41 text).0 else None
+  rest ← (cut_at close_parenthesis text).1
+  if list_all (is_of Blank) rest then Some (cut_at close_parenthesis text).0 else None
 
 -- what stands between parentheses, with blanks around
 unfoldable pub enclosed_in : List ℕ → Option (List ℕ)
 enclosed_in text = do
-  rest ← behind 40 (after Blank text)
+  rest ← behind open_parenthesis (after Blank text)
   before_close rest
 
 -- the arguments in what follows a name, at most so many. Behind a bare name only blanks may stand

@@ -5,7 +5,7 @@ use Rattle.std.specs.Str.{bytes_eq}
 use Rattle.fmp_codes.specs.Records.{AreOn}
 use Rattle.fmp_codes.specs.declared.records.Event.{Event}
 use Rattle.fmp_codes.specs.declared.records.Record.{Record}
-use Rattle.fmp_bytes.specs.Bytes.{pieces_of}
+use Rattle.fmp_bytes.specs.Bytes.{pieces_of, line_feed}
 use Rattle.fmp_calls.specs.Arguments.{EventInBits}
 use Rattle.fmp_machine.specs.Boot.{booted}
 use Rattle.fmp_machine.specs.Arrivals.{State, numbered}
@@ -46,7 +46,7 @@ pub record IsFirstDifference (n : ℕ) (lines others : List (List ℕ)) : Type 0
 -- the text is that of the machine's own answers, or line n is the first that is not
 abbrev pub Compares : Setup → List ℕ → List Record → Verdict → Type 0
 Compares c text records Yes = text ≡ own_text c records
-Compares c text records (No n) = IsFirstDifference n (pieces_of 10 text) (own_lines c records)
+Compares c text records (No n) = IsFirstDifference n (pieces_of line_feed text) (own_lines c records)
 
 -- the verdict on a text that prints records, by the answers to its own events
 pub record Judges (c : Setup) (text : List ℕ) (verdict : Verdict) : Type 0 where
@@ -83,4 +83,4 @@ verdict_from names w n (line ∷ next ∷ lines) = do
 
 -- the verdict on a text, or its first fault
 unfoldable pub checked : Setup → List ℕ → Result Verdict TextFault
-checked c text = records_in c.names text >>= λ records. verdict_from c.names (booted c) 1 (pieces_of 10 text)
+checked c text = records_in c.names text >>= λ records. verdict_from c.names (booted c) 1 (pieces_of line_feed text)

@@ -2,7 +2,7 @@
 use Rattle.std.specs.Prelude.{ℕ, ◌+◌, Bool, true, false, List, [], ◌∷◌, ◌++◌, Result, Ok, if◌then◌else◌}
 use Rattle.std.specs.Option.{ok_or}
 use Rattle.std.specs.Str.{bytes_eq}
-use Rattle.fmp_bytes.specs.Bytes.{pieces_of}
+use Rattle.fmp_bytes.specs.Bytes.{pieces_of, line_feed}
 use Rattle.fmp_machine.specs.Boot.{booted}
 use Rattle.fmp_machine.specs.Arrivals.{State, numbered}
 use Rattle.fmp_machine.specs.Setup.{Setup}
@@ -63,4 +63,4 @@ found_from shown names w n found (line ∷ next ∷ lines) = do
 
 -- a whole text, or its first fault
 unfoldable pub found_in : Shown → Setup → List ℕ → Result Found TextFault
-found_in shown c text = records_in c.names text >>= λ records. found_from shown c.names (booted c) 1 (Yes, []) (pieces_of 10 text)
+found_in shown c text = records_in c.names text >>= λ records. found_from shown c.names (booted c) 1 (Yes, []) (pieces_of line_feed text)

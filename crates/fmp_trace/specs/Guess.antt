@@ -9,7 +9,7 @@ use Rattle.fmp_codes.specs.declared.records.Event.TheVariants as events
 use Rattle.fmp_codes.specs.declared.records.Runner.{Runner}
 use Rattle.fmp_codes.specs.declared.records.Record.{Record}
 use Rattle.fmp_bytes.specs.declared.classes.Class.TheVariants.{Word}
-use Rattle.fmp_bytes.specs.Bytes.{front, after, behind, cut_at, pieces_of}
+use Rattle.fmp_bytes.specs.Bytes.{front, after, behind, cut_at, pieces_of, close_parenthesis, comma, equals_sign, letter_p, space}
 use Rattle.fmp_calls.specs.Table.{is_bare, named}
 use Rattle.fmp_text.specs.Argument.{◌>>=◌}
 use Rattle.fmp_text.specs.Lines.{processor_numbered}
@@ -36,7 +36,7 @@ with_run_change names r text = do
 
 unfoldable pub with_requests : NameLists → Record → List ℕ → Option Record
 with_requests names r text = do
-  requests ← requests_in names 0 [] (pieces_of 44 text)
+  requests ← requests_in names 0 [] (pieces_of comma text)
   Some (record r { requests = requests })
 
 -- a record with what a word of this key says
@@ -50,8 +50,8 @@ with_part names r key text =
 
 unfoldable pub with_word : NameLists → Record → List ℕ → Option Record
 with_word names r word = do
-  text ← (cut_at 61 word).1
-  with_part names r (cut_at 61 word).0 text
+  text ← (cut_at equals_sign word).1
+  with_part names r (cut_at equals_sign word).0 text
 
 -- a record with what these words say
 abbrev pub with_words : NameLists → Record → List (List ℕ) → Option Record
@@ -64,13 +64,13 @@ with_words names r (word ∷ words) = do
 
 -- the words of a text with blanks between them, where there is one
 abbrev pub words_left : Option (List ℕ) → List (List ℕ)
-words_left text = option_map_or (pieces_of 32) text []
+words_left text = option_map_or (pieces_of space) text []
 
 unfoldable pub guess_answer : NameLists → Option Runner → Event → List ℕ → Option Record
 guess_answer names runner event text = do
-  rest ← behind 32 text
-  answer ← answer_in (cut_at 32 rest).0
-  with_words names (answer_record event runner answer) (words_left (cut_at 32 rest).1)
+  rest ← behind space text
+  answer ← answer_in (cut_at space rest).0
+  with_words names (answer_record event runner answer) (words_left (cut_at space rest).1)
 
 -- what was read without a fault
 abbrev pub read : {A E : Type 0} → Result A E → Option A
@@ -85,7 +85,7 @@ is_bare_name word = option_map_or is_bare (named word) false
 unfoldable pub cut_call : List ℕ → Option (List ℕ × List ℕ)
 cut_call text =
     if is_bare_name (front Word text) then Some (front Word text, after Word text)
-    else ((cut_at 41 text).1 >>= λ rest. Some (take (length (cut_at 41 text).0 + 1) text, rest))
+    else ((cut_at close_parenthesis text).1 >>= λ rest. Some (take (length (cut_at close_parenthesis text).0 + 1) text, rest))
 
 unfoldable pub guess_call : NameLists → Option Runner → Proc → List ℕ → Option Record
 guess_call names runner p text = do
@@ -101,20 +101,20 @@ guess_event names runner p text =
 
 unfoldable pub guess_runner : NameLists → Proc → List ℕ → Option Record
 guess_runner names p text = do
-  rest ← (cut_at 32 text).1
-  runner ← runner_in names (cut_at 32 text).0
+  rest ← (cut_at space text).1
+  runner ← runner_in names (cut_at space text).0
   guess_event names runner p rest
 
 -- what follows the line's number and its blank
 unfoldable pub guess_processor : NameLists → List ℕ → Option Record
 guess_processor names text = do
-  digits ← behind 80 text
-  rest ← (cut_at 32 digits).1
-  p ← processor_numbered names (cut_at 32 digits).0
+  digits ← behind letter_p text
+  rest ← (cut_at space digits).1
+  p ← processor_numbered names (cut_at space digits).0
   guess_runner names p rest
 
 -- the record that a line prints, whatever its number
 unfoldable pub guess : NameLists → List ℕ → Option Record
 guess names line = do
-  rest ← (cut_at 32 line).1
+  rest ← (cut_at space line).1
   guess_processor names rest

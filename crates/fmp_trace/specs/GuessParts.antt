@@ -14,7 +14,7 @@ use Rattle.fmp_codes.specs.declared.records.Runner.TheVariants as runners
 use Rattle.fmp_codes.specs.declared.records.Answer.{Answer}
 use Rattle.fmp_codes.specs.declared.records.Answer.TheVariants as answers
 use Rattle.fmp_codes.specs.declared.records.Release.{Release}
-use Rattle.fmp_bytes.specs.Bytes.{cut_at}
+use Rattle.fmp_bytes.specs.Bytes.{cut_at, colon}
 use Rattle.fmp_bytes.specs.Numerals.{number_of, signed_of}
 use Rattle.fmp_calls.specs.declared.kinds.ObjectKind.{ObjectKind}
 use Rattle.fmp_calls.specs.declared.kinds.ObjectKind.TheVariants as objects
@@ -51,8 +51,8 @@ value_in (Some text) = option_map Some (signed_in text)
 -- a code with its value
 unfoldable pub coded_in : List ℕ → Option (Code × Option ℤ)
 coded_in text = do
-  c ← code_in (cut_at 58 text).0
-  value ← value_in (cut_at 58 text).1
+  c ← code_in (cut_at colon text).0
+  value ← value_in (cut_at colon text).1
   Some (c, value)
 
 unfoldable pub done_in : List ℕ → Option Answer
@@ -85,8 +85,8 @@ runner_in names word = if bytes_eq word (codes "-") then Some None else option_m
 
 unfoldable pub release_in : NameLists → List ℕ → Option Release
 release_in names text = do
-  rest ← (cut_at 58 text).1
-  task ← task_in names (cut_at 58 text).0
+  rest ← (cut_at colon text).1
+  task ← task_in names (cut_at colon text).0
   coded ← coded_in rest
   Some (record { task = task; code = coded.0; value = coded.1 })
 

@@ -4,7 +4,7 @@ use Rattle.std.specs.List.{list_all}
 use Rattle.std.specs.Str.{bytes_eq}
 use Rattle.fmp_codes.specs.declared.records.Record.{Record}
 use Rattle.fmp_bytes.specs.declared.classes.Class.TheVariants.{Printed}
-use Rattle.fmp_bytes.specs.Bytes.{is_of, pieces_of}
+use Rattle.fmp_bytes.specs.Bytes.{is_of, pieces_of, line_feed}
 use Rattle.fmp_text.specs.Limits.{most_bytes, most_events}
 use Rattle.fmp_text.specs.declared.fault.TextFault.{TextFault}
 use Rattle.fmp_text.specs.declared.fault.TextKind.{TextKind}
@@ -57,4 +57,4 @@ records_from names n (line ∷ next ∷ lines) = do
 -- all of a text
 unfoldable pub records_in : NameLists → List ℕ → Result (List Record) TextFault
 records_in names text =
-    if nat_lt most_bytes (length text) then Err (record { kind = TooMany; line = 0 }) else records_from names 1 (pieces_of 10 text)
+    if nat_lt most_bytes (length text) then Err (record { kind = TooMany; line = 0 }) else records_from names 1 (pieces_of line_feed text)

@@ -1,7 +1,7 @@
 use Rattle.std.proofs.Common.{◌≡◌, ◌≤◌, List, length, map, sym, ap, ◌∙◌, subst, arith}
 use Rattle.std.proofs.lemmas.List.{length-map}
 use Rattle.fmp_machine.specs.declared.machine.Cyclic.{Cyclic}
-use Rattle.fmp_machine.specs.Boot.{resting}
+use Rattle.fmp_machine.specs.World.{resting}
 use Rattle.fmp_kernel_time.specs.Assignments.{lefts}
 use Rattle.fmp_kernel_time.specs.Counting.{AreInStep}
 use Rattle.fmp_kernel_time.specs.Starting.{first_cyclic, first_alarm}
