@@ -114,13 +114,20 @@ pub struct Paths<'a> {
     pub context: Option<TextForm>,
 }
 
+/// What is written of each event.
+#[derive(Clone, Copy, Debug, PartialEq, Eq)]
+pub enum Told {
+    /// Its line of the trace.
+    Line,
+    /// That, and the state after it.
+    State,
+}
+
 /// What the command line asks for.
 #[derive(Clone, Copy, Debug)]
 pub enum Request<'a> {
-    /// The trace of a configuration over a list of events.
-    Calls(Paths<'a>),
-    /// That, with the state after each event.
-    States(Paths<'a>),
+    /// What a configuration answers to a list of events.
+    Calls(Paths<'a>, Told),
     /// Whether a trace is the machine's.
     Check(Paths<'a>),
     /// Where a trace is not the machine's.
@@ -226,11 +233,12 @@ fn named_paths<'a>(matches: &ArgMatches<'a>, text: &str, form: TextForm) -> Path
 fn parse_calls<'a>(alloc: Global, words: &'a [String]) -> Result<Request<'a>, Error> {
     let matches = calls_command(alloc)?.try_get_matches_from(words)?;
     let paths = named_paths(&matches, "EVENTS", TextForm::Events);
-    Ok(if matches.get_flag(STATE) {
-        Request::States(paths)
+    let told = if matches.get_flag(STATE) {
+        Told::State
     } else {
-        Request::Calls(paths)
-    })
+        Told::Line
+    };
+    Ok(Request::Calls(paths, told))
 }
 
 fn parse_check<'a>(alloc: Global, words: &'a [String]) -> Result<Request<'a>, Error> {

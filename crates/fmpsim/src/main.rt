@@ -8,7 +8,7 @@ mod cli;
 #[cfg(test)]
 mod tests;
 
-use cli::{Paths, Request};
+use cli::{Paths, Request, Told};
 use fmp_context::TextForm;
 use fmp_smp::Open;
 use fmp_smp_command::{Limits, SmpRequest};
@@ -34,35 +34,21 @@ const NO_PATHS: Paths<'static> = Paths {
 /// The path in whose place events or scripts are read from standard input.
 pub const STANDARD_INPUT: &str = "-";
 
-/// Writes the trace of the machine's answers, each line as its event comes.
-fn answered<R, C, E>(rt: &R, config: C, events: E) -> Result<Status, RunFault>
+/// Writes what the machine answers, each event's part as it comes.
+fn answered<R, C, E>(rt: &R, config: C, events: E, told: Told) -> Result<Status, RunFault>
 where
     R: Print + AllocGlobal,
     C: Read + Drop,
     E: Read + Drop,
 {
-    run_calls(
-        rt.alloc(),
-        &mut ReadSource::new(config),
-        &mut ReadSource::new(events),
-        &mut WriteSink::new(rt.alloc(), io::writer(rt))?,
-    )?;
-    Ok(Status::Done)
-}
-
-/// Writes the same with the state after each event.
-fn states_told<R, C, E>(rt: &R, config: C, events: E) -> Result<Status, RunFault>
-where
-    R: Print + AllocGlobal,
-    C: Read + Drop,
-    E: Read + Drop,
-{
-    run_states(
-        rt.alloc(),
-        &mut ReadSource::new(config),
-        &mut ReadSource::new(events),
-        &mut WriteSink::new(rt.alloc(), io::writer(rt))?,
-    )?;
+    let alloc = rt.alloc();
+    let mut config = ReadSource::new(config);
+    let mut events = ReadSource::new(events);
+    let mut sink = WriteSink::new(alloc, io::writer(rt))?;
+    match told {
+        Told::Line => run_calls(alloc, &mut config, &mut events, &mut sink)?,
+        Told::State => run_states(alloc, &mut config, &mut events, &mut sink)?,
+    }
     Ok(Status::Done)
 }
 
@@ -70,26 +56,14 @@ where
 fn calls<R: Files + Input + Print + AllocGlobal>(
     rt: &R,
     paths: &Paths<'_>,
+    told: Told,
 ) -> Result<Status, RunFault> {
     let config = fs::open(rt, paths.config).map_err(|_| RunFault::Read)?;
     if paths.text == STANDARD_INPUT {
-        return answered(rt, config, rt.reader());
+        return answered(rt, config, rt.reader(), told);
     }
     let events = fs::open(rt, paths.text).map_err(|_| RunFault::Read)?;
-    answered(rt, config, events)
-}
-
-/// The same with the state after each event.
-fn states<R: Files + Input + Print + AllocGlobal>(
-    rt: &R,
-    paths: &Paths<'_>,
-) -> Result<Status, RunFault> {
-    let config = fs::open(rt, paths.config).map_err(|_| RunFault::Read)?;
-    if paths.text == STANDARD_INPUT {
-        return states_told(rt, config, rt.reader());
-    }
-    let events = fs::open(rt, paths.text).map_err(|_| RunFault::Read)?;
-    states_told(rt, config, events)
+    answered(rt, config, events, told)
 }
 
 /// Opens both files before it reads either, and writes whether the trace is the machine's.
@@ -245,8 +219,7 @@ fn execute<R: Files + Input + Print + Eprint + AllocGlobal + Threads + Wait + Sy
     words: &[String],
 ) -> Status {
     match cli::parse(rt.alloc(), words) {
-        Ok(Request::Calls(paths)) => ended(rt, &paths, calls(rt, &paths)),
-        Ok(Request::States(paths)) => ended(rt, &paths, states(rt, &paths)),
+        Ok(Request::Calls(paths, told)) => ended(rt, &paths, calls(rt, &paths, told)),
         Ok(Request::Check(paths)) => ended(rt, &paths, check(rt, &paths)),
         Ok(Request::Report(paths, shown)) => ended(rt, &paths, report(rt, &paths, shown)),
         Ok(Request::Smp(request)) => {

@@ -1,5 +1,5 @@
 //! What the words of the command line ask for.
-use crate::cli::{self, Request};
+use crate::cli::{self, Request, Told};
 use fmp_context::TextForm;
 use fmp_trace::Shown;
 use fmpsim_run::Status;
@@ -20,7 +20,7 @@ fn words_of(alloc: Global, line: &str) -> Result<Vec<String>, AllocError> {
 #[test]
 fn commands_of_two_texts(rt: HostRuntime) -> Result<(), Fail> {
     let words = words_of(rt.alloc(), "fmpsim calls machine.cfg events.txt")?;
-    let Request::Calls(paths) = cli::parse(rt.alloc(), words.as_slice())? else {
+    let Request::Calls(paths, Told::Line) = cli::parse(rt.alloc(), words.as_slice())? else {
         return Err("the trace is asked for")?;
     };
     assert_eq!(rt; paths.config, "machine.cfg");
@@ -43,7 +43,7 @@ fn states(rt: HostRuntime) -> Result<(), Fail> {
         "fmpsim calls machine.cfg events.txt --state",
     ] {
         let words = words_of(rt.alloc(), line)?;
-        let Request::States(paths) = cli::parse(rt.alloc(), words.as_slice())? else {
+        let Request::Calls(paths, Told::State) = cli::parse(rt.alloc(), words.as_slice())? else {
             return Err("the states are asked for")?;
         };
         assert_eq!(rt; paths.config, "machine.cfg");
@@ -114,7 +114,7 @@ fn contexts(rt: HostRuntime) -> Result<(), Fail> {
         ),
     ] {
         let words = words_of(rt.alloc(), line)?;
-        let (Request::Calls(paths) | Request::Check(paths)) = cli::parse(
+        let (Request::Calls(paths, _) | Request::Check(paths)) = cli::parse(
             rt.alloc(),
             words.as_slice(),
         )?
