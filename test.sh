@@ -243,6 +243,7 @@ little_memory() {
     starved "$late/trace.txt" calls "$late/machine.cfg" "$late/events.txt"
     starved verdict.txt check "$late/machine.cfg" "$late/trace.txt"
     starved "$spin/trace.txt" smp "$spin/machine.cfg" "$spin/scripts.txt" --ticks 1 --turns 100 --seed 11
+    starved "$late/trace.vcd" wave "$late/machine.cfg" "$late/trace.txt"
     starved "$late/trace.txt" calls "$late/machine.cfg" line.txt
 }
 
@@ -307,6 +308,7 @@ END
     refused "$whole/trace.txt" calls "$whole/machine.cfg" "$whole/events.txt"
     refused verdict.txt check "$late/machine.cfg" "$late/trace.txt"
     refused "$spin/trace.txt" smp "$spin/machine.cfg" "$spin/scripts.txt" --ticks 1 --turns 100 --seed 11
+    refused "$late/trace.vcd" wave "$late/machine.cfg" "$late/trace.txt"
     refused threads smp "$spin/machine.cfg" "$spin/scripts.txt" --ticks 0 --turns 6
 }
 
@@ -374,6 +376,27 @@ states() {
     to=/dev/full run 3 /dev/null <(echo fmpsim: write failed) calls --state "$late/machine.cfg" "$late/events.txt"
 }
 
+# The waveform of a trace, which has the line of each event's time. Of a trace that is not the machine's there is none.
+waves() {
+    local folder timed=yes
+    run 0 "$late/trace.vcd" /dev/null wave "$late/machine.cfg" "$late/trace.txt"
+    for folder in "$top"/examples/*/; do
+        play wave "$folder/machine.cfg" "$folder/trace.txt"
+        diff <(grep '^#' output) <(seq -f '#%.0f' 0 "$(wc -l < "$folder/trace.txt")") || timed=no
+    done
+    count "$timed" wave
+    sed '3s/taken/none/' "$late/trace.txt" > changed.txt
+    run 5 /dev/null <(echo fmpsim: changed.txt: no 3: see fmpsim check --show) wave "$late/machine.cfg" changed.txt
+    printf '1 P1 T1 tick taken' > cut.txt
+    run 1 /dev/null <(echo fmpsim: cut.txt: line 1: E6 cut short) wave "$late/machine.cfg" cut.txt
+    run 1 /dev/null <(printf '%s\n' 'fmpsim: cut.txt: line 1: E6 cut short' '  1 P1 T1 tick taken' '                    ^' \
+        '  End the last line with a line feed, and the last script with `end`.') wave --context "$late/machine.cfg" cut.txt
+    run 1 /dev/null <(echo fmpsim: cut.txt: line 1: F1 syntax) wave cut.txt "$late/trace.txt"
+    unread wave missing "$late/trace.txt"
+    unread wave "$late/machine.cfg" missing
+    to=/dev/full run 3 /dev/null <(echo fmpsim: write failed) wave "$late/machine.cfg" "$late/trace.txt"
+}
+
 # What may be written in the texts.
 lists() {
     local each=no call
@@ -438,6 +461,8 @@ command_lines() {
     usage 2 errors output check --show --all "$late/machine.cfg" "$late/trace.txt"
     usage 2 errors output calls --all "$late/machine.cfg" "$late/events.txt"
     usage 2 errors output check --state "$late/machine.cfg" "$late/trace.txt"
+    usage 2 errors output wave "$late/machine.cfg"
+    usage 2 errors output wave --show "$late/machine.cfg" "$late/trace.txt"
     usage 2 errors output list act_tsk sig_sem
     usage 2 errors output smp again.cfg again.txt --ticks 0
     usage 2 errors output smp again.cfg again.txt --turns 1
@@ -447,6 +472,7 @@ command_lines() {
     usage 0 output errors --help
     usage 0 output errors calls --help
     usage 0 output errors check --help
+    usage 0 output errors wave --help
     usage 0 output errors smp --help
     usage 0 output errors list --help
 }
@@ -465,6 +491,7 @@ for program in "$top"/crates/fmpsim/out/fmpsim{,.by-rattle}; do
         greatest_texts
         [[ $program = *.by-rattle ]] || { little_memory && refused_growth; }
         states
+        waves
         lists
         completions
         command_lines

@@ -84,6 +84,29 @@ Exit status:
   4  want of memory
   5  no";
 
+const WAVE_ABOUT: &str = "Writes the waveform of a trace, for GTKWave and other viewers";
+
+const WAVE_HELP: &str = "\
+CFG is a configuration, and TRACE a trace as `fmpsim calls` or `fmpsim smp` writes it. The machine
+of the configuration answers the events of the trace, and what its processors and tasks did
+is written to standard output as a Value Change Dump (IEEE 1364). Each event is a unit of
+time: line 57 of the trace is drawn at 57.
+
+  fmpsim wave machine.cfg trace.txt > trace.vcd
+  gtkwave trace.vcd
+
+For each processor there are the task that runs, by name and number, whether it is locked or
+its dispatching disabled, its latch, the handler that is due, and its ticks, and for each task
+its state. Of a trace that is not the machine's own nothing is written.
+
+Exit status:
+  0  done
+  1  a fault in a text, told on standard error with its line
+  2  the command line is wrong
+  3  a file could not be read, or the output not be written
+  4  want of memory
+  5  the trace is not the machine's own: the first line that differs is told on standard error";
+
 const LIST_ABOUT: &str = "Lists the service calls, the statements and the faults";
 
 const LIST_HELP: &str = "\
@@ -132,6 +155,8 @@ pub enum Request<'a> {
     Check(Paths<'a>),
     /// Where a trace is not the machine's.
     Report(Paths<'a>, Shown),
+    /// The waveform of a trace.
+    Wave(Paths<'a>),
     /// The trace of processors that follow scripts.
     Smp(SmpRequest<'a>),
     /// What may be written: all of it, or what is called so.
@@ -196,6 +221,16 @@ fn check_command<'a>(alloc: Global) -> Result<Command<'a>, AllocError> {
         .arg(context(alloc))
 }
 
+fn wave_command<'a>(alloc: Global) -> Result<Command<'a>, AllocError> {
+    Command::new(alloc, "wave")
+        .about(WAVE_ABOUT)
+        .after_help(WAVE_HELP)
+        .bin_name("fmpsim wave")?
+        .arg(path(alloc, "CFG", "Path of the configuration"))?
+        .arg(path(alloc, "TRACE", "Path of the trace"))?
+        .arg(context(alloc))
+}
+
 fn list_command<'a>(alloc: Global) -> Result<Command<'a>, AllocError> {
     Command::new(alloc, "list")
         .about(LIST_ABOUT)
@@ -217,6 +252,7 @@ fn whole_command<'a>(alloc: Global) -> Result<Command<'a>, AllocError> {
         .arg_required_else_help(true)
         .subcommand(calls_command(alloc)?)?
         .subcommand(check_command(alloc)?)?
+        .subcommand(wave_command(alloc)?)?
         .subcommand(smp_command(alloc)?)?
         .subcommand(list_command(alloc)?)
 }
@@ -251,6 +287,11 @@ fn parse_check<'a>(alloc: Global, words: &'a [String]) -> Result<Request<'a>, Er
     })
 }
 
+fn parse_wave<'a>(alloc: Global, words: &'a [String]) -> Result<Request<'a>, Error> {
+    let matches = wave_command(alloc)?.try_get_matches_from(words)?;
+    Ok(Request::Wave(named_paths(&matches, "TRACE", TextForm::Trace)))
+}
+
 /// The name behind `list`, if there is one.
 fn listed_name<'a>(alloc: Global, words: &'a [String]) -> Result<Option<&'a str>, Error> {
     let mut command = list_command(alloc)?;
@@ -266,6 +307,9 @@ pub fn parse<'a>(alloc: Global, words: &'a [String]) -> Result<Request<'a>, Erro
     }
     if command == Some("check") {
         return parse_check(alloc, &words[1..]);
+    }
+    if command == Some("wave") {
+        return parse_wave(alloc, &words[1..]);
     }
     if command == Some("smp") {
         return Ok(Request::Smp(parse_smp(alloc, &words[1..])?));

@@ -1,5 +1,6 @@
 //! fmpsim: reads a configuration and another text from files, or that text from standard input. Writes the trace of the
-//! machine's answers to events or of processors that follow scripts, or whether and where a trace is what the machine answers.
+//! machine's answers to events or of processors that follow scripts, or whether and where a trace is what the machine answers,
+//! or the waveform of a trace.
 //! Or it lists what may be written in these texts.
 #![tactic(auto)]
 
@@ -12,7 +13,8 @@ use cli::{Paths, Request, Told};
 use fmp_context::TextForm;
 use fmp_smp::Open;
 use fmp_smp_command::{Limits, SmpRequest};
-use fmp_trace::Shown;
+use fmp_trace::{Shown, Verdict};
+use fmp_wave::run_wave;
 use fmpsim_run::{
     FaultLine, ReadSource, RunFault, Status, WriteSink, run_calls, run_check, run_report,
     run_seeded, run_states, run_threads,
@@ -94,6 +96,26 @@ fn report<R: Files + Print + AllocGlobal>(
         &mut WriteSink::new(rt.alloc(), io::writer(rt))?,
         shown,
     )?;
+    Ok(Status::of_verdict(verdict))
+}
+
+/// Opens both files before it reads either, and writes the waveform of the trace. A trace that is not the machine's is told.
+fn wave<R: Files + Print + Eprint + AllocGlobal>(
+    rt: &R,
+    paths: &Paths<'_>,
+) -> Result<Status, RunFault> {
+    let config = fs::open(rt, paths.config).map_err(|_| RunFault::Read)?;
+    let trace = fs::open(rt, paths.text).map_err(|_| RunFault::Read)?;
+    let verdict = run_wave(
+        rt.alloc(),
+        &mut ReadSource::new(config),
+        &mut ReadSource::new(trace),
+        &mut WriteSink::new(rt.alloc(), io::writer(rt))?,
+    )?;
+    if let Verdict::No(line) = verdict {
+        let path = paths.text;
+        let _ = eprintln!(rt; "fmpsim: {path}: no {line}: see fmpsim check --show");
+    }
     Ok(Status::of_verdict(verdict))
 }
 
@@ -222,6 +244,7 @@ fn execute<R: Files + Input + Print + Eprint + AllocGlobal + Threads + Wait + Sy
         Ok(Request::Calls(paths, told)) => ended(rt, &paths, calls(rt, &paths, told)),
         Ok(Request::Check(paths)) => ended(rt, &paths, check(rt, &paths)),
         Ok(Request::Report(paths, shown)) => ended(rt, &paths, report(rt, &paths, shown)),
+        Ok(Request::Wave(paths)) => ended(rt, &paths, wave(rt, &paths)),
         Ok(Request::Smp(request)) => {
             let paths = Paths {
                 config: request.config,

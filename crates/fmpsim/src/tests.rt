@@ -32,6 +32,13 @@ fn commands_of_two_texts(rt: HostRuntime) -> Result<(), Fail> {
     };
     assert_eq!(rt; paths.config, "machine.cfg");
     assert_eq!(rt; paths.text, "trace.txt");
+
+    let words = words_of(rt.alloc(), "fmpsim wave machine.cfg trace.txt")?;
+    let Request::Wave(paths) = cli::parse(rt.alloc(), words.as_slice())? else {
+        return Err("the waveform is asked for")?;
+    };
+    assert_eq!(rt; paths.config, "machine.cfg");
+    assert_eq!(rt; paths.text, "trace.txt");
     Ok(())
 }
 
@@ -112,9 +119,13 @@ fn contexts(rt: HostRuntime) -> Result<(), Fail> {
             "fmpsim check machine.cfg --context trace.txt",
             Some(TextForm::Trace),
         ),
+        (
+            "fmpsim wave --context machine.cfg trace.txt",
+            Some(TextForm::Trace),
+        ),
     ] {
         let words = words_of(rt.alloc(), line)?;
-        let (Request::Calls(paths, _) | Request::Check(paths)) = cli::parse(
+        let (Request::Calls(paths, _) | Request::Check(paths) | Request::Wave(paths)) = cli::parse(
             rt.alloc(),
             words.as_slice(),
         )?
@@ -170,6 +181,9 @@ fn refused_lines(rt: HostRuntime) -> Result<(), Fail> {
         "fmpsim calls --fast machine.cfg events.txt",
         "fmpsim check machine.cfg",
         "fmpsim check machine.cfg trace.txt more",
+        "fmpsim wave machine.cfg",
+        "fmpsim wave machine.cfg trace.txt more",
+        "fmpsim wave --show machine.cfg trace.txt",
         "fmpsim list act_tsk sig_sem",
         "fmpsim check --show --all machine.cfg trace.txt",
         "fmpsim check --all --all machine.cfg trace.txt",
@@ -197,6 +211,7 @@ fn help(rt: HostRuntime) -> Result<(), Fail> {
         "fmpsim --help",
         "fmpsim calls --help",
         "fmpsim check --help",
+        "fmpsim wave --help",
         "fmpsim smp --help",
         "fmpsim list --help",
         "fmpsim --version",

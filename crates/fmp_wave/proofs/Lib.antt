@@ -1,0 +1,3 @@
+pub mod Counted  -- One processor or one task more.
+pub mod Changed  -- Going over the lines of two texts together, as the loop does.
+pub mod SoFar  -- A waveform while it is drawn, event by event.

@@ -1,0 +1,5 @@
+pub mod Signals  -- What a waveform shows of a processor or a task, and how that is declared.
+pub mod Headers  -- The declarations of the signals: a scope for each processor, and one for all tasks.
+pub mod Values  -- The values of all signals, a line for each.
+pub mod Waves  -- The waveform of what a machine does at events, as a Value Change Dump. An event is a unit of time.
+pub mod Runs  -- What a run that draws a trace does.
