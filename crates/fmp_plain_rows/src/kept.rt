@@ -50,17 +50,7 @@ impl KeptOf<TaskSetup> for TaskRecord {
     ghost kept = { resting };
 
     fn kept_of(setup: &TaskSetup) -> TaskRecord {
-        TaskRecord {
-            setup: *setup,
-            assigned: setup.class.initial,
-            priority: setup.priority,
-            active: false,
-            wait: None,
-            suspended: false,
-            activations: 0,
-            kept: None,
-            wakeups: 0,
-        }
+        TaskRecord::resting(setup)
     }
 }
 

@@ -2,8 +2,8 @@
 ghost use Rattle.std.specs.Prelude.{◌≡◌, ◌≤◌};
 
 use crate::texts::REMOTE;
+use fmp_check::Verdict;
 use fmp_smp::Open;
-use fmp_trace::Verdict;
 use fmp_world::Ended;
 use fmpsim_run::{MemSink, MemSource, RunFault, run_check, run_seeded, run_threads};
 use std::alloc::Global;

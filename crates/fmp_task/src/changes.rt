@@ -8,40 +8,6 @@ use crate::tasks::Tasks;
 use fmp_codes::{Pri, Proc, Task};
 use fmp_machine::{TaskRecord, Wait};
 
-/// A task as it starts on a processor.
-fn started(task: TaskRecord, p: Proc) -> TaskRecord
-    ensures { result ≡ started task p }
-{
-    TaskRecord {
-        assigned: p,
-        priority: task.setup.priority,
-        active: true,
-        wait: None,
-        suspended: false,
-        wakeups: 0,
-        ..task
-    }
-}
-
-/// A task as it ends: dormant, or started anew by a queued activation.
-fn ended(task: TaskRecord) -> TaskRecord
-    ensures { result ≡ ended task }
-{
-    let over = TaskRecord {
-        active: false,
-        wait: None,
-        suspended: false,
-        activations: task.activations.saturating_sub(1),
-        kept: None,
-        ..task
-    };
-    if 0 < task.activations {
-        started(over, task.kept.unwrap_or(task.assigned))
-    } else {
-        over
-    }
-}
-
 impl Tasks {
     /// Starts a dormant task on a processor.
     pub fn activate(&mut self, t: Task, p: Proc)
@@ -49,7 +15,7 @@ impl Tasks {
         ensures { self.new ≡ with_record self.old t (started (record_of self.old t) p) }
     {
         let task = self.get(t);
-        self.set(t, started(task, p));
+        self.set(t, task.started(p));
     }
 
     /// Ends an active task. A queued activation starts it anew, on the processor that it kept if it named one.
@@ -58,7 +24,7 @@ impl Tasks {
         ensures { self.new ≡ with_record self.old t (ended (record_of self.old t)) }
     {
         let task = self.get(t);
-        self.set(t, ended(task));
+        self.set(t, task.ended());
     }
 
     /// Lets a runnable task wait for something.

@@ -5,23 +5,6 @@ ghost use Rattle.fmp_machine.specs.World.{resting};
 use arrayvec::ArrayVec;
 use fmp_machine::{TaskRecord, TaskSetup};
 
-/// A dormant task, at the initial processor of its class.
-fn resting(setup: &TaskSetup) -> TaskRecord
-    ensures { result ≡ resting setup.now }
-{
-    TaskRecord {
-        setup: *setup,
-        assigned: setup.class.initial,
-        priority: setup.priority,
-        active: false,
-        wait: None,
-        suspended: false,
-        activations: 0,
-        kept: None,
-        wakeups: 0,
-    }
-}
-
 /// The records of dormant tasks, in the order of their setups.
 pub(crate) fn all_resting(setups: &[TaskSetup]) -> ArrayVec<TaskRecord, 64>
     requires { length setups.now ≤ 64 }
@@ -29,7 +12,7 @@ pub(crate) fn all_resting(setups: &[TaskSetup]) -> ArrayVec<TaskRecord, 64>
 {
     let mut records = ArrayVec::new();
     for setup in setups {
-        records.push(resting(setup));
+        records.push(TaskRecord::resting(setup));
     }
     records
 }

@@ -2,7 +2,7 @@
 ghost use Rattle.std.specs.Prelude.{◌≤◌};
 
 use crate::run::verdict_on_own;
-use fmp_trace::Verdict;
+use fmp_check::Verdict;
 use std::alloc::{AllocError, Global};
 use std::test::Fail;
 

@@ -1,7 +1,7 @@
 //! Reports of where a trace differs, over memory. The lines that the machine answers are worked out by hand from the rules of
 //! docs/PROFILE.md.
 use crate::machines::REMOTE;
-use fmp_trace::{Shown, Verdict};
+use fmp_check::{Shown, Verdict};
 use fmpsim_run::{MemSink, MemSource, RunFault, run_report};
 use std::alloc::Global;
 use std::process::Abort;

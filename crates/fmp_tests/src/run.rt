@@ -4,8 +4,8 @@ ghost use Rattle.fmpsim_run.specs.Runs.{IsAnswered};
 
 use crate::machines::{NEIGHBOURS, REMOTE};
 use crate::scenarios::ONE_TASK;
+use fmp_check::Verdict;
 use fmp_text::MOST_BYTES;
-use fmp_trace::Verdict;
 use fmpsim_run::{MemSink, MemSource, RunFault, run_calls, run_check};
 use std::alloc::Global;
 use std::process::Abort;

@@ -1,13 +1,14 @@
 //! Traces as docs/FORMATS.md has them: one line of each form, texts that are refused, and traces that are checked.
 use crate::machines::{NEIGHBOURS, REMOTE, names_of};
 use fmp_calls::{NameKind, ObjectKind};
+use fmp_check::{Verdict, check};
 use fmp_codes::{
     Answer, Call, Code, Event, Object, Proc, Record, Release, Releases, Requests, Runner,
     SystemCall, Task, TaskCall,
 };
 use fmp_config::read_config;
 use fmp_text::{Names, TextFault, TextKind};
-use fmp_trace::{Verdict, check, read_trace, trace_text};
+use fmp_trace::{read_trace, trace_text};
 use std::alloc::Global;
 use std::process::Abort;
 use std::test::Fail;

@@ -1,5 +1,4 @@
 pub mod Bytes  -- Which bytes stand in the parts of a printed line, and which do not.
-pub mod FittingAnswers  -- What the machine answers fits the names of its configuration.
 pub mod FittingArguments  -- The arguments of a call that are within their kinds' bits are those of its kinds.
 pub mod Told  -- Numbers that name something are the numbers that they are made of.
 pub mod GuessedValues  -- Numbers, names, codes and answers that are printed are guessed right.
@@ -12,10 +11,6 @@ pub mod FittingParts  -- What is guessed of a part of a line fits the names, wha
 pub mod FittingLines  -- What is guessed of a line fits the names, whatever the line is.
 pub mod Unended  -- No printed line has a line feed within it, whatever the record.
 pub mod ReadTexts  -- A text is read exactly where it prints records that fit, and else its first fault is told.
-pub mod CheckedTexts  -- The verdict on a text that prints records.
-pub mod Collected  -- Going over the lines of a text while what differs is collected, as the loop does.
-pub mod Compared  -- What is collected of a text that prints records: where it differs from the machine's own.
 pub mod Guessing  -- Guessing what the pieces of a line say one after the other, as a loop does.
-pub mod Patched  -- Replacing the lines that differ makes the machine's own lines.
 pub mod Releases  -- The releases from one on, where it is read by its place.
 pub mod Results  -- What reading gives, as a result that may also be want of memory.

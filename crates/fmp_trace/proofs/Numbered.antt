@@ -4,15 +4,11 @@ use Rattle.std.proofs.lemmas.List.{append-nil}
 use Rattle.fmp_bytes.specs.Bytes.{cut_at, pieces_of}
 use Rattle.fmp_bytes.proofs.Cutting.{pieces_left, pieces_of-cut, no_cut}
 use Rattle.fmp_codes.specs.declared.records.Record.{Record}
-use Rattle.fmp_machine.specs.Arrivals.{State}
 use Rattle.fmp_text.specs.declared.fault.TextFault.{TextFault}
 use Rattle.fmp_text.specs.declared.fault.TextKind.TheVariants.{CutShort}
 use Rattle.fmp_trace.specs.Reading.{at_line, Fails}
 use Rattle.fmp_names.specs.Names.{NameLists}
 use Rattle.fmp_text.specs.Reading.{◌>>=◌}
-use Rattle.fmp_trace.specs.declared.checking.Verdict.{Verdict}
-use Rattle.fmp_trace.specs.declared.checking.Verdict.TheVariants.{Yes, No}
-use Rattle.fmp_trace.specs.Checking.{answered, verdict_from}
 use Rattle.fmp_trace.specs.Reading.{line_record, records_from}
 
 -- what was read before, and what is still read
@@ -61,36 +57,4 @@ module _ (names : NameLists) (total : Result (List Record) TextFault) (front : L
   pub is_short : (cut_at 10 text).1 ≡ None → eqb (length text) 0 ≡ false → total ≡ Err (record { kind = CutShort; line = n })
   is_short none some =
       let one : with_front front (records_from names n (pieces_of 10 text)) ≡ Err (record { kind = CutShort; line = n }) = rw (only_piece text none, records_from-last, some) refl in
-      sym so_far ∙ one
-
--- ---- comparing with the machine
-
-pub verdict_from-line : (names : NameLists) (w : State) (n : ℕ) (line rest : List ℕ) → verdict_from names w n (line ∷ pieces_of 10 rest) ≡ (answered names w n line >>= λ told. cond told.1 (verdict_from names told.0 (n + 1) (pieces_of 10 rest)) (Ok (No n)))
-unfolding verdict_from
-verdict_from-line names w n line rest = rw (pieces_of-cut 10 rest) refl
-
-pub verdict_from-last : (names : NameLists) (w : State) (n : ℕ) (last : List ℕ) → verdict_from names w n (last ∷ []) ≡ Ok Yes
-unfolding verdict_from
-verdict_from-last names w n last = refl
-
-module _ (names : NameLists) (total : Result Verdict TextFault) (w : State) (n : ℕ) (text : List ℕ) (so_far : verdict_from names w n (pieces_of 10 text) ≡ total) where
-  pub agrees : (line rest : List ℕ) (next : State) → (cut_at 10 text).0 ≡ line → (cut_at 10 text).1 ≡ Some rest → answered names w n line ≡ Ok (next, true) → verdict_from names next (n + 1) (pieces_of 10 rest) ≡ total
-  agrees line rest next is_line cut here =
-      let one : verdict_from names w n (pieces_of 10 text) ≡ verdict_from names next (n + 1) (pieces_of 10 rest) = rw (first_piece text line rest is_line cut, verdict_from-line, here) refl in
-      sym one ∙ so_far
-
-  pub differs : (line rest : List ℕ) (next : State) → (cut_at 10 text).0 ≡ line → (cut_at 10 text).1 ≡ Some rest → answered names w n line ≡ Ok (next, false) → total ≡ Ok (No n)
-  differs line rest next is_line cut here =
-      let one : verdict_from names w n (pieces_of 10 text) ≡ Ok (No n) = rw (first_piece text line rest is_line cut, verdict_from-line, here) refl in
-      sym so_far ∙ one
-
-  pub stops : (line rest : List ℕ) (fault : TextFault) → (cut_at 10 text).0 ≡ line → (cut_at 10 text).1 ≡ Some rest → Fails fault (answered names w n line) → Fails fault total
-  stops line rest fault is_line cut (inr memory) = inr memory
-  stops line rest fault is_line cut (inl here) =
-      let one : verdict_from names w n (pieces_of 10 text) ≡ Err fault = rw (first_piece text line rest is_line cut, verdict_from-line, here) refl in
-      inl (sym so_far ∙ one)
-
-  pub all_agree : (cut_at 10 text).1 ≡ None → total ≡ Ok Yes
-  all_agree none =
-      let one : verdict_from names w n (pieces_of 10 text) ≡ Ok Yes = rw (only_piece text none, verdict_from-last) refl in
       sym so_far ∙ one

@@ -5,6 +5,3 @@ pub mod Lines  -- The text of a trace as a function of its records.
 pub mod Fits  -- Which records are told apart by their printed lines
 pub mod Prints  -- Which texts print which records, and the first fault of a text that prints none.
 pub mod Reading  -- Reading a trace line by line: each line is guessed, and printed again.
-pub mod Checking  -- What is answered of a text that prints records: whether they are the machine's own answers.
-pub mod Differences  -- Where a trace differs from the machine's own answers to its events, and how that is shown.
-pub mod Comparing  -- Comparing a trace with the machine's own line by line, as the code does.

@@ -29,6 +29,11 @@ abbrev pub GivesOrFails : {X Y : Type 0} → (X → Y) → Result X TextFault �
 GivesOrFails view (Ok x) read = read ≡ Ok (view x)
 GivesOrFails view (Err e) read = Fails e read
 
+-- a text was gone over: it reads as some records, or has the fault, unless memory ran out
+abbrev pub Passes : {T : Type 0} → Result T TextFault → Result (List Record) TextFault → Type 0
+Passes (Ok done) read = (records : List Record) × (read ≡ Ok records)
+Passes (Err fault) read = Fails fault read
+
 -- a record, where there is room for a line of this number
 unfoldable pub limited : ℕ → Record → Result Record TextKind
 limited n r = if nat_lt most_events n then Err TooMany else Ok r

@@ -1,17 +1,16 @@
-//! The text of a trace: one line for each record. It is printed, read back, and checked against the plain machine.
+//! The text of a trace: one line for each record. It is printed, and read back.
+//!
+//! What is printed of a record is `specs/Lines`; which texts print which records, and the first fault of a text that prints
+//! none, is `specs/Prints`. Begin at `trace_line` and `read_trace`.
 #![tactic(auto)]
 
-mod checking;
-mod comparing;
 mod guess;
 mod laws;
 mod lines;
 mod reading;
 mod values;
 
-pub use checking::{Verdict, check, guessed};
-pub use comparing::{Comparison, Shown, compare_lines};
-pub use laws::{answers_fit_the_names, differences_patch, texts_print_one_list};
-pub use lines::{put_runner, put_task, trace_line, trace_text};
-pub use reading::{next_line, read_trace};
+pub use laws::texts_print_one_list;
+pub use lines::{put_core, put_runner, put_running, put_task, trace_line, trace_text};
+pub use reading::{guessed, is_line, next_line, read_trace, validate};
 pub use values::{put_named, put_number};

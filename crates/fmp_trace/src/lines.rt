@@ -118,7 +118,11 @@ fn put_lost(out: &mut Vec<u8>, lost: Option<i64>) -> Result<(), AllocError>
 }
 
 /// Adds the task that runs now, or that there is none.
-fn put_running(out: &mut Vec<u8>, names: &Names, running: Option<Task>) -> Result<(), AllocError>
+pub fn put_running(
+    out: &mut Vec<u8>,
+    names: &Names,
+    running: Option<Task>,
+) -> Result<(), AllocError>
     ensures { OnOk result (out.new.items ≡ out.old.items ++ spec.running_text names.now running) }
 {
     match running {

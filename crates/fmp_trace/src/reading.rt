@@ -1,11 +1,13 @@
 //! Reading a trace. What a line may print is guessed, and printed again.
 ghost use Rattle.std.specs.Prelude.{◌≡◌, ◌≤◌, ◌⊎◌, length, List, Ok, IfOk, IfErr, IfSome, IfNone, Some, None};
+ghost use Rattle.std.specs.Option.{ok_or};
 ghost use Rattle.std.specs.Str.{bytes_eq};
 ghost use Rattle.fmp_codes.specs.declared.records.Record.{Record as AnyRecord};
 ghost use Rattle.fmp_bytes.specs.Bytes.{cut_at, pieces_of};
 ghost use Rattle.fmp_text.specs.Events.{IsMemory};
 ghost use Rattle.fmp_text.specs.Limits.{most_bytes};
 ghost use Rattle.fmp_trace.specs.Reading.{GivesOrFails, at_line};
+ghost use Rattle.fmp_trace.specs.Guess.{guess as guess_of};
 ghost use Rattle.fmp_trace.specs.Lines.{core_text};
 ghost use Rattle.fmp_trace.specs.Prints.{PrintsWithin, FirstFault};
 ghost use Rattle.fmp_trace.specs.Reading as spec;
@@ -33,7 +35,7 @@ pub fn is_line(
 }
 
 /// A fault of this kind in this line.
-pub fn fault(kind: TextKind, line: u32) -> TextFault
+fn fault(kind: TextKind, line: u32) -> TextFault
     ensures { result ≡ record { kind = kind; line = line } }
 {
     TextFault { kind, line }
@@ -69,7 +71,7 @@ fn confirmed(
 
 /// The record of line n without its line feed.
 #[tactic(auto, unfolding(crate::specs::Reading::line_record))]
-pub fn line_record(
+fn line_record(
     scratch: &mut Vec<u8>,
     names: &Names,
     n: u32,
@@ -84,6 +86,13 @@ pub fn line_record(
         Some(entry) => confirmed(scratch, names, n, line, entry),
         None => Err(fault(TextKind::BadWord, n)),
     }
+}
+
+/// The record that line n prints, if it prints any, its number left aside.
+pub fn guessed(names: &Names, n: u32, line: &[u8]) -> Result<Record, TextFault>
+    ensures { result ≡ ok_or (guess_of names.now line.now) (record { kind = TextKind.BadWord; line = n }) }
+{
+    guess(names, line).ok_or(fault(TextKind::BadWord, n))
 }
 
 /// The first line, and what follows its line feed.
@@ -124,6 +133,26 @@ fn read_within(alloc: Global, text: &[u8], names: &Names) -> Result<Vec<Record>,
         return Err(fault(TextKind::TooMany, 0));
     }
     records_in(alloc, text, names)
+}
+
+/// Goes over the lines of a trace as `read_trace` does, and keeps no record.
+pub fn validate(alloc: Global, text: &[u8], names: &Names) -> Result<(), TextFault>
+    requires { length text.now ≤ most_bytes }
+    ensures { spec.Passes result (spec.records_from names.now 1 (pieces_of 10 text.now)) }
+{
+    let mut scratch = Vec::new(alloc);
+    let mut number: u32 = 1;
+    let mut rest = text;
+    while let Some((line, after)) = next_line(rest) {
+        line_record(&mut scratch, names, number, line)?;
+        number += 1;
+        rest = after;
+    }
+    if rest.is_empty() {
+        Ok(())
+    } else {
+        Err(fault(TextKind::CutShort, number))
+    }
 }
 
 /// Reads the records of a trace: those whose lines `trace_text` prints so, within the limits of event texts.

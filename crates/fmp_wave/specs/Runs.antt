@@ -2,9 +2,9 @@
 use Rattle.std.specs.Prelude.{◌≡◌, ◌⊎◌, ℕ, List, ◌++◌, map, Result, Ok, Err}
 use Rattle.fmp_codes.specs.declared.records.Record.{Record}
 use Rattle.fmp_machine.specs.Setup.{Setup}
-use Rattle.fmp_trace.specs.declared.checking.Verdict.{Verdict}
-use Rattle.fmp_trace.specs.declared.checking.Verdict.TheVariants.{Yes, No}
-use Rattle.fmp_trace.specs.Checking.{Judges, own_text}
+use Rattle.fmp_check.specs.declared.checking.Verdict.{Verdict}
+use Rattle.fmp_check.specs.declared.checking.Verdict.TheVariants.{Yes, No}
+use Rattle.fmp_check.specs.Checking.{Judges, own_text}
 use Rattle.fmp_trace.specs.Prints.{PrintsWithin}
 use Rattle.fmpsim_run.specs.declared.fault.RunFault.{RunFault}
 use Rattle.fmpsim_run.specs.declared.fault.RunFault.TheVariants as run

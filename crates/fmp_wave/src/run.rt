@@ -3,7 +3,7 @@ ghost use Rattle.std.specs.Prelude.{◌≡◌, ◌≢◌, ℕ, ◌+◌, ◌-◌,
 ghost use Rattle.fmp_codes.specs.declared.records.Event.{Event as AnyEvent};
 ghost use Rattle.fmp_codes.specs.declared.records.Record.{Record as AnyRecord};
 ghost use Rattle.fmp_text.specs.Limits.{most_bytes as MOST_BYTES};
-ghost use Rattle.fmp_trace.specs.Checking.{Judges, PrintsAnswers};
+ghost use Rattle.fmp_check.specs.Checking.{Judges, PrintsAnswers};
 ghost use Rattle.fmp_trace.specs.Prints.{PrintsWithin};
 ghost use Rattle.fmp_world.specs.declared.finishing.Ended.{Ended};
 ghost use Rattle.fmpsim_run.specs.Checks.{FirstTraceFault, IsFirstOfTrace, IsYes};
@@ -15,8 +15,9 @@ ghost use Rattle.fmp_wave.specs.Runs.{Drawn, IsDrawnBy, IsLate, LeavesBy, Leaves
 ghost use Rattle.fmp_wave.specs.Waves.{wave_of};
 
 use crate::drawing::Drawing;
+use fmp_check::{Verdict, check};
 use fmp_machine::Config;
-use fmp_trace::{Verdict, check, guessed, next_line};
+use fmp_trace::{guessed, next_line};
 use fmpsim_run::{RunFault, Sink, Source, config_from, read_up_to, write_all};
 use std::alloc::Global;
 

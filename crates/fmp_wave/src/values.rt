@@ -1,6 +1,5 @@
 //! The values of all signals, a line for each.
 ghost use Rattle.std.specs.Prelude.{◌≡◌, ◌++◌, length, OnOk};
-ghost use Rattle.fmp_trace.specs.Lines.{running_text};
 ghost use Rattle.fmp_wave.specs.Values as spec;
 
 use crate::signal::{Signal, put_identifier};
@@ -8,7 +7,7 @@ use fmp_codes::{Proc, Runner, Task};
 use fmp_machine::{Processor, TaskRecord};
 use fmp_names::Names;
 use fmp_plain_rows::Machine;
-use fmp_trace::{put_runner, put_task};
+use fmp_trace::{put_runner, put_running};
 use fmp_words::Words;
 use std::alloc::AllocError;
 
@@ -47,15 +46,6 @@ pub(crate) fn put_bit_value(
     put_identifier(out, signal, number)?;
     out.push(b'\n')?;
     Ok(())
-}
-
-fn put_running(out: &mut Vec<u8>, names: &Names, running: Option<Task>) -> Result<(), AllocError>
-    ensures { OnOk result (out.new.items ≡ out.old.items ++ running_text names.now running) }
-{
-    match running {
-        None => out.extend_from_slice(b"idle"),
-        Some(task) => put_task(out, names, task),
-    }
 }
 
 /// Adds the line of the task that runs on a processor.

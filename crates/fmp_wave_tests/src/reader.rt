@@ -5,7 +5,7 @@ use std::alloc::Global;
 pub type Cause = &'static str;
 
 /// A declared variable.
-#[derive(Clone, Copy, Debug)]
+#[derive(Clone, Copy)]
 pub struct Variable<'a> {
     /// The innermost scope that it stands in.
     pub scope: &'a str,
@@ -16,7 +16,7 @@ pub struct Variable<'a> {
 }
 
 /// A value that a variable has from a time on: its bits, its number or its text.
-#[derive(Clone, Copy, Debug)]
+#[derive(Clone, Copy)]
 pub struct Change<'a> {
     pub time: u64,
     /// The place of the variable among all of them.
@@ -25,7 +25,7 @@ pub struct Change<'a> {
 }
 
 /// What a dump says.
-#[derive(Debug, Drop)]
+#[derive(Drop)]
 pub struct Dump<'a> {
     pub variables: Vec<Variable<'a>>,
     pub times: Vec<u64>,
@@ -33,7 +33,7 @@ pub struct Dump<'a> {
 }
 
 /// How a value is written.
-#[derive(Clone, Copy, Debug)]
+#[derive(Clone, Copy)]
 enum Form {
     Scalar,
     Vector,

@@ -4,7 +4,7 @@ use crate::texts::{
     ALARM, EIGHT, GLOBAL_TIMER, LOCKS, MOST_TEXT, NAMES, NO_TASK, STATES, SUSPENDED, text_of,
     trace_of, wave_of,
 };
-use fmp_trace::Verdict;
+use fmp_check::Verdict;
 use fmp_wave::run_wave;
 use fmpsim_run::{MemSink, MemSource, RunFault, run_seeded};
 use std::alloc::Global;

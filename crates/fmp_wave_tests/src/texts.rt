@@ -1,5 +1,5 @@
 //! The machines of these tests, what comes to them, and the runs over both.
-use fmp_trace::Verdict;
+use fmp_check::Verdict;
 use fmp_wave::run_wave;
 use fmpsim_run::{MemSink, MemSource, run_calls, run_states};
 use std::alloc::Global;
@@ -9,7 +9,7 @@ use std::test::Fail;
 pub const MOST_TEXT: usize = 1 << 18;
 
 /// A machine, and the events that come to it.
-#[derive(Clone, Copy, Debug)]
+#[derive(Clone, Copy)]
 pub struct Scenario {
     pub machine: &'static str,
     pub events: &'static str,

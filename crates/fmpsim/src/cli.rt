@@ -1,9 +1,9 @@
 //! The command line.
 use clap::error::ErrorKind;
 use clap::{Arg, ArgAction, ArgMatches, Command, Error};
+use fmp_check::Shown;
 use fmp_context::TextForm;
 use fmp_smp_command::{SmpRequest, parse_smp, path, smp_command};
-use fmp_trace::Shown;
 use fmpsim_run::Status;
 use std::alloc::{AllocError, Global};
 

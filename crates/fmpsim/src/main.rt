@@ -10,10 +10,10 @@ mod cli;
 mod tests;
 
 use cli::{Paths, Request, Told};
+use fmp_check::{Shown, Verdict};
 use fmp_context::TextForm;
 use fmp_smp::Open;
 use fmp_smp_command::{Limits, SmpRequest};
-use fmp_trace::{Shown, Verdict};
 use fmp_wave::run_wave;
 use fmpsim_run::{
     FaultLine, ReadSource, RunFault, Status, WriteSink, run_calls, run_check, run_report,
@@ -54,24 +54,33 @@ where
     Ok(Status::Done)
 }
 
-/// Opens both files before it reads either, or takes the events from standard input.
+fn opened<R: Files>(rt: &R, path: &str) -> Result<R::File, RunFault> {
+    fs::open(rt, path).map_err(|_| RunFault::Read)
+}
+
+/// Opens both files, before either is read.
+fn both_opened<R: Files>(rt: &R, paths: &Paths<'_>) -> Result<(R::File, R::File), RunFault> {
+    let config = opened(rt, paths.config)?;
+    let text = opened(rt, paths.text)?;
+    Ok((config, text))
+}
+
+/// Opens both files, or takes the events from standard input.
 fn calls<R: Files + Input + Print + AllocGlobal>(
     rt: &R,
     paths: &Paths<'_>,
     told: Told,
 ) -> Result<Status, RunFault> {
-    let config = fs::open(rt, paths.config).map_err(|_| RunFault::Read)?;
     if paths.text == STANDARD_INPUT {
-        return answered(rt, config, rt.reader(), told);
+        return answered(rt, opened(rt, paths.config)?, rt.reader(), told);
     }
-    let events = fs::open(rt, paths.text).map_err(|_| RunFault::Read)?;
+    let (config, events) = both_opened(rt, paths)?;
     answered(rt, config, events, told)
 }
 
-/// Opens both files before it reads either, and writes whether the trace is the machine's.
+/// Writes whether the trace is the machine's.
 fn check<R: Files + Print + AllocGlobal>(rt: &R, paths: &Paths<'_>) -> Result<Status, RunFault> {
-    let config = fs::open(rt, paths.config).map_err(|_| RunFault::Read)?;
-    let trace = fs::open(rt, paths.text).map_err(|_| RunFault::Read)?;
+    let (config, trace) = both_opened(rt, paths)?;
     let verdict = run_check(
         rt.alloc(),
         &mut ReadSource::new(config),
@@ -81,14 +90,13 @@ fn check<R: Files + Print + AllocGlobal>(rt: &R, paths: &Paths<'_>) -> Result<St
     Ok(Status::of_verdict(verdict))
 }
 
-/// Opens both files before it reads either, and writes where the trace is not the machine's.
+/// Writes where the trace is not the machine's.
 fn report<R: Files + Print + AllocGlobal>(
     rt: &R,
     paths: &Paths<'_>,
     shown: Shown,
 ) -> Result<Status, RunFault> {
-    let config = fs::open(rt, paths.config).map_err(|_| RunFault::Read)?;
-    let trace = fs::open(rt, paths.text).map_err(|_| RunFault::Read)?;
+    let (config, trace) = both_opened(rt, paths)?;
     let verdict = run_report(
         rt.alloc(),
         &mut ReadSource::new(config),
@@ -99,13 +107,12 @@ fn report<R: Files + Print + AllocGlobal>(
     Ok(Status::of_verdict(verdict))
 }
 
-/// Opens both files before it reads either, and writes the waveform of the trace. A trace that is not the machine's is told.
+/// Writes the waveform of the trace. A trace that is not the machine's is told.
 fn wave<R: Files + Print + Eprint + AllocGlobal>(
     rt: &R,
     paths: &Paths<'_>,
 ) -> Result<Status, RunFault> {
-    let config = fs::open(rt, paths.config).map_err(|_| RunFault::Read)?;
-    let trace = fs::open(rt, paths.text).map_err(|_| RunFault::Read)?;
+    let (config, trace) = both_opened(rt, paths)?;
     let verdict = run_wave(
         rt.alloc(),
         &mut ReadSource::new(config),
@@ -160,16 +167,16 @@ where
     Ok(Status::of_end(ended))
 }
 
-/// Opens both files before it reads either, or takes the scripts from standard input.
+/// Opens both files, or takes the scripts from standard input.
 fn smp<R: Files + Input + Print + AllocGlobal + Threads + Wait + Sync>(
     rt: &R,
+    paths: &Paths<'_>,
     request: &SmpRequest<'_>,
 ) -> Result<Status, RunFault> {
-    let config = fs::open(rt, request.config).map_err(|_| RunFault::Read)?;
-    if request.scripts == STANDARD_INPUT {
-        return played(rt, config, rt.reader(), request);
+    if paths.text == STANDARD_INPUT {
+        return played(rt, opened(rt, paths.config)?, rt.reader(), request);
     }
-    let scripts = fs::open(rt, request.scripts).map_err(|_| RunFault::Read)?;
+    let (config, scripts) = both_opened(rt, paths)?;
     played(rt, config, scripts, request)
 }
 
@@ -251,7 +258,7 @@ fn execute<R: Files + Input + Print + Eprint + AllocGlobal + Threads + Wait + Sy
                 text: request.scripts,
                 context: request.context.then_some(TextForm::Scripts),
             };
-            ended(rt, &paths, smp(rt, &request))
+            ended(rt, &paths, smp(rt, &paths, &request))
         }
         Ok(Request::List(name)) => ended(rt, &NO_PATHS, list(rt, name)),
         Err(error) => refused(rt, &error),

@@ -1,7 +1,7 @@
 //! What the words of the command line ask for.
 use crate::cli::{self, Request, Told};
+use fmp_check::Shown;
 use fmp_context::TextForm;
-use fmp_trace::Shown;
 use fmpsim_run::Status;
 use std::alloc::{AllocError, Global};
 use std::process::Abort;

@@ -10,7 +10,7 @@ use Rattle.fmp_text.proofs.SpelledTexts.{reading_of-spelled}
 use Rattle.fmp_text.specs.TextGrammar.{SpellsText}
 use Rattle.fmp_names.specs.Names.{AreValid}
 use Rattle.fmp_text.specs.Limits.{most_bytes as MOST_BYTES}
-use Rattle.fmp_trace.specs.Checking.{PrintsAnswers}
+use Rattle.fmp_check.specs.Checking.{PrintsAnswers}
 use Rattle.fmp_trace.specs.Lines.{lines_from}
 use Rattle.fmp_world.specs.declared.finishing.Ended.{Ended}
 use Rattle.fmp_world.specs.Histories.{events_of}

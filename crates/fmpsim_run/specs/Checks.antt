@@ -4,9 +4,9 @@ use Rattle.fmp_text.specs.Events.{IsMemory}
 use Rattle.fmp_names.specs.Names.{NameLists}
 use Rattle.fmp_statements.specs.declared.fault.ConfigKind.TheVariants as config_kind
 use Rattle.fmp_machine.specs.Setup.{Setup}
-use Rattle.fmp_trace.specs.declared.checking.Verdict.{Verdict}
-use Rattle.fmp_trace.specs.declared.checking.Verdict.TheVariants.{Yes, No}
-use Rattle.fmp_trace.specs.Checking.{Judges}
+use Rattle.fmp_check.specs.declared.checking.Verdict.{Verdict}
+use Rattle.fmp_check.specs.declared.checking.Verdict.TheVariants.{Yes, No}
+use Rattle.fmp_check.specs.Checking.{Judges}
 use Rattle.fmp_trace.specs.Prints.{FirstFault}
 use Rattle.fmpsim_run.specs.declared.fault.RunFault.{RunFault}
 use Rattle.fmpsim_run.specs.declared.fault.RunFault.TheVariants as run

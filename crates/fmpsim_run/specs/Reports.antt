@@ -1,13 +1,13 @@
 -- What a run that reports where a trace differs does.
 use Rattle.std.specs.Prelude.{◌≡◌, ℕ, List, [], ◌++◌, Result, Ok, Err, codes}
 use Rattle.fmp_machine.specs.Setup.{Setup}
-use Rattle.fmp_trace.specs.declared.checking.Verdict.{Verdict}
-use Rattle.fmp_trace.specs.declared.checking.Verdict.TheVariants.{Yes, No}
-use Rattle.fmp_trace.specs.declared.comparing.Comparison.{Comparison}
-use Rattle.fmp_trace.specs.declared.comparing.Shown.{Shown}
-use Rattle.fmp_trace.specs.declared.comparing.Shown.TheVariants.{First, Each}
-use Rattle.fmp_trace.specs.Checking.{Judges}
-use Rattle.fmp_trace.specs.Differences.{Contrasts}
+use Rattle.fmp_check.specs.declared.checking.Verdict.{Verdict}
+use Rattle.fmp_check.specs.declared.checking.Verdict.TheVariants.{Yes, No}
+use Rattle.fmp_check.specs.declared.comparing.Comparison.{Comparison}
+use Rattle.fmp_check.specs.declared.comparing.Shown.{Shown}
+use Rattle.fmp_check.specs.declared.comparing.Shown.TheVariants.{First, Each}
+use Rattle.fmp_check.specs.Checking.{Judges}
+use Rattle.fmp_check.specs.Differences.{Contrasts}
 use Rattle.fmpsim_run.specs.declared.fault.RunFault.{RunFault}
 use Rattle.fmpsim_run.specs.Checks.{verdict_text}
 use Rattle.fmpsim_run.specs.Devices.{BeginsWith}

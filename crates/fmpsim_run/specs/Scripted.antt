@@ -9,7 +9,7 @@ use Rattle.fmp_scripts.specs.Texts.{scripts_in}
 use Rattle.fmp_smp.specs.Seeds.{IsInOrderOf}
 use Rattle.fmp_text.specs.Events.{IsMemory}
 use Rattle.fmp_text.specs.Limits.{most_bytes}
-use Rattle.fmp_trace.specs.Checking.{PrintsAnswers}
+use Rattle.fmp_check.specs.Checking.{PrintsAnswers}
 use Rattle.fmp_trace.specs.Lines.{lines_from}
 use Rattle.fmp_world.specs.declared.finishing.Ended.{Ended}
 use Rattle.fmp_world.specs.declared.seats.Receipt.{Receipt}

@@ -6,8 +6,8 @@ use Rattle.fmp_text.specs.declared.fault.TextKind.{TextKind}
 use Rattle.fmp_text.specs.declared.fault.TextKind.TheVariants as text_kind
 use Rattle.fmp_world.specs.declared.finishing.Ended.{Ended}
 use Rattle.fmp_world.specs.declared.finishing.Ended.TheVariants as ended
-use Rattle.fmp_trace.specs.declared.checking.Verdict.{Verdict}
-use Rattle.fmp_trace.specs.declared.checking.Verdict.TheVariants.{Yes, No}
+use Rattle.fmp_check.specs.declared.checking.Verdict.{Verdict}
+use Rattle.fmp_check.specs.declared.checking.Verdict.TheVariants.{Yes, No}
 use Rattle.fmpsim_run.specs.declared.fault.RunFault.{RunFault}
 use Rattle.fmpsim_run.specs.declared.fault.RunFault.TheVariants as run
 use Rattle.fmpsim_run.specs.declared.status.Status.{Status}

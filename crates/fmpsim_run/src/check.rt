@@ -2,7 +2,7 @@
 ghost use Rattle.std.specs.Prelude.{◌≡◌, ◌≢◌, ℕ, ◌+◌, ◌-◌, ◌^◌, ◌<◌, ◌≤◌, List, ◌++◌, [], length, IsTrue, OnOk, IfOk, IfErr, Err, Ok, false, if◌then◌else◌};
 ghost use Rattle.fmp_codes.specs.declared.records.Event.{Event as AnyEvent};
 ghost use Rattle.fmp_text.specs.Limits.{most_bytes as MOST_BYTES};
-ghost use Rattle.fmp_trace.specs.Checking.{Judges, PrintsAnswers};
+ghost use Rattle.fmp_check.specs.Checking.{Judges, PrintsAnswers};
 ghost use Rattle.fmpsim_run.specs.Faults.{failed_read, failed_write, is_config, is_write};
 ghost use Rattle.fmpsim_run.specs.Runs.{Answered, CountsReads, FirstConfigFault};
 ghost use Rattle.fmp_world.specs.declared.finishing.Ended.{Ended};
@@ -15,8 +15,8 @@ use crate::source::Source;
 use crate::texts::config_from;
 use crate::whole::read_up_to;
 use arrayvec::ArrayString;
+use fmp_check::{Verdict, check};
 use fmp_machine::Config;
-use fmp_trace::{Verdict, check};
 use itoa::Buffer;
 use std::alloc::Global;
 

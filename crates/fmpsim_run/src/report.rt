@@ -2,8 +2,8 @@
 ghost use Rattle.std.specs.Prelude.{◌≡◌, ◌≢◌, ℕ, ◌+◌, ◌-◌, ◌^◌, ◌<◌, ◌≤◌, List, ◌++◌, [], length, IsTrue, OnOk, OnErr, IfOk, IfErr, Err, false, is_err, if◌then◌else◌};
 ghost use Rattle.fmp_codes.specs.declared.records.Event.{Event as AnyEvent};
 ghost use Rattle.fmp_text.specs.Limits.{most_bytes as MOST_BYTES};
-ghost use Rattle.fmp_trace.specs.Checking.{Judges, PrintsAnswers};
-ghost use Rattle.fmp_trace.specs.Differences.{Contrasts};
+ghost use Rattle.fmp_check.specs.Checking.{Judges, PrintsAnswers};
+ghost use Rattle.fmp_check.specs.Differences.{Contrasts};
 ghost use Rattle.fmp_world.specs.declared.finishing.Ended.{Ended};
 ghost use Rattle.fmpsim_run.specs.Checks.{IsFirstOfTrace, IsYes, FirstTraceFault};
 ghost use Rattle.fmpsim_run.specs.Devices.{BeginsWith};
@@ -18,8 +18,8 @@ use crate::sink::{Sink, write_all, write_out};
 use crate::source::{Failed, Source};
 use crate::texts::config_from;
 use crate::whole::read_up_to;
+use fmp_check::{Comparison, Shown, Verdict, compare_lines};
 use fmp_machine::Config;
-use fmp_trace::{Comparison, Shown, Verdict, compare_lines};
 use std::alloc::Global;
 
 /// What a unified diff begins with. Its names are fixed, so that no path can break its form.

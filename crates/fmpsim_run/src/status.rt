@@ -2,7 +2,7 @@
 ghost use Rattle.std.specs.Prelude.{◌≡◌};
 ghost use Rattle.fmpsim_run.specs.Statuses as spec;
 
-use fmp_trace::Verdict;
+use fmp_check::Verdict;
 use fmp_world::Ended;
 
 /// How the program ends. The number of each is its exit status.

@@ -1,7 +1,7 @@
 use Rattle.std.proofs.Common.{◌≡◌, ◌≤◌, ◌∙◌, List, ℕ, length, sym, refl, subst, Result, Ok, Err, IfOk}
 use Rattle.fmp_text.specs.Limits.{most_bytes as MOST_BYTES}
-use Rattle.fmp_trace.specs.declared.checking.Verdict.{Verdict}
-use Rattle.fmp_trace.specs.declared.checking.Verdict.TheVariants.{Yes}
+use Rattle.fmp_check.specs.declared.checking.Verdict.{Verdict}
+use Rattle.fmp_check.specs.declared.checking.Verdict.TheVariants.{Yes}
 use Rattle.fmpsim_run.specs.Checks.{IsYes}
 use Rattle.fmpsim_run.specs.Runs.{Answered}
 use Rattle.fmpsim_run.specs.declared.fault.RunFault.{RunFault}

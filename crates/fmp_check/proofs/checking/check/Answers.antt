@@ -1,0 +1,15 @@
+use Rattle.std.proofs.Common.{subst}
+use Rattle.fmp_names.specs.Names.{AreValid}
+use Rattle.fmp_check.proofs.CheckedTexts.{is_judged, has_one, is_own, is_answered, is_reading_fault}
+use Rattle.fmp_check.proofs.checking.check.Goals as goal
+
+pub returns : goal.returns
+returns c =
+    let valid = subst AreValid c.names.ensures.value c.validity.ensures in
+    record {
+      verdict = is_judged c.args.config.now c.args.text.now valid c.check_within.result c.check_within.ensures;
+      complete = has_one c.args.config.now c.args.text.now valid c.check_within.result c.check_within.ensures;
+      own = is_own c.args.config.now c.args.text.now valid c.check_within.result c.check_within.ensures;
+      answers = is_answered c.args.config.now c.args.text.now valid c.check_within.result c.check_within.ensures c.names.ensures.valid;
+      fault = is_reading_fault c.args.config.now c.args.text.now valid c.check_within.result c.check_within.ensures;
+    }

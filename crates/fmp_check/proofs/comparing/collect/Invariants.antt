@@ -1,0 +1,16 @@
+use Rattle.std.proofs.Common.{◌≡◌, ◌≤◌, ◌+◌, [], length}
+use Rattle.fmp_bytes.specs.Bytes.{pieces_of}
+use Rattle.fmp_machine.specs.Boot.{booted}
+use Rattle.fmp_check.specs.declared.checking.Verdict.TheVariants.{Yes}
+use Rattle.fmp_check.specs.Comparing.{found_from, found_of}
+use Rattle.fmp_check.proofs.comparing.collect.Given as goal
+
+abbrev pub invariant-loop-line : goal.invariant-loop-line
+invariant-loop-line l = record {
+  told : found_from l.shown l.names l.plain.state l.number (found_of l.found) (pieces_of 10 l.rest) ≡ found_from l.shown l.config.names (booted l.config) 1 (Yes, []) (pieces_of 10 l.text);
+  steps : l.plain.steps + 1 ≡ l.number;
+  left : l.number + length l.rest ≤ length l.text + 1;
+}
+
+abbrev pub decreases-loop-line : goal.decreases-loop-line
+decreases-loop-line l = length l.rest

@@ -1,5 +1,0 @@
-use Rattle.fmp_trace.proofs.FittingAnswers.{answers-fit}
-use Rattle.fmp_trace.proofs.laws.answers_fit_the_names.Goals as goal
-
-pub returns : goal.returns
-returns c = answers-fit
