@@ -6,8 +6,7 @@ ghost use Rattle.std.specs.Prelude.{◌≤◌};
 use crate::quiet::{PLAYS, ROUNDS, holds};
 use crate::texts::{MASTER, Play, REMOTE, SPINNING};
 use fmp_smp::run_seeded;
-use fmp_trace::trace_text;
-use fmp_world::Ended;
+use fmp_world::{Ended, SmpRun};
 use std::alloc::Global;
 use std::process::Abort;
 use std::test::Fail;
@@ -117,15 +116,24 @@ const TICKS_OF_THE_MASTER: Case = Case {
     ended: Ended::Quiet,
 };
 
+/// A run in the order of the seed.
+fn run_of(alloc: Global, play: Play, ticks: u32, turns: u32, seed: u64) -> Result<SmpRun, Fail>
+    requires ticks { ticks ≤ 1000000 }
+    requires least { 1 ≤ turns }
+    requires most { turns ≤ 1000000 }
+{
+    let config = play.config(alloc)?;
+    let scripts = play.scripts(alloc, &config)?;
+    Ok(run_seeded(alloc, &config, scripts, ticks, turns, seed)?)
+}
+
 fn goes(rt: &impl Abort, alloc: Global, case: Case) -> Result<(), Fail>
     requires ticks { case.ticks ≤ 1000000 }
     requires least { 1 ≤ case.turns }
     requires most { case.turns ≤ 1000000 }
 {
-    let config = case.play.config(alloc)?;
-    let scripts = case.play.scripts(alloc, &config)?;
-    let run = run_seeded(alloc, &config, scripts, case.ticks, case.turns, case.seed)?;
-    let trace = trace_text(alloc, run.records.as_slice(), config.names())?;
+    let run = run_of(alloc, case.play, case.ticks, case.turns, case.seed)?;
+    let trace = case.play.printed(alloc, &run)?;
     assert_eq!(rt; trace.as_slice(), case.trace.as_bytes());
     assert!(rt; run.ended == case.ended);
     Ok(())
@@ -141,17 +149,20 @@ fn the_seed_gives_the_order(rt: HostRuntime) -> Result<(), Fail> {
     goes(&rt, rt.alloc(), TICKS_OF_THE_MASTER)
 }
 
+/// A hundred seeds.
+fn end_quiet(rt: &impl Abort, alloc: Global, play: Play, processors: &[u8]) -> Result<(), Fail> {
+    for seed in 0..100 {
+        let run = run_of(alloc, play, ROUNDS, 1000, seed)?;
+        holds(rt, alloc, &run, processors)?;
+    }
+    Ok(())
+}
+
 /// Whatever the seed, all that is asked is done.
 #[test]
 fn any_seed_ends_quiet(rt: HostRuntime) -> Result<(), Fail> {
-    let alloc = rt.alloc();
     for (play, processors) in PLAYS {
-        for seed in 0..100 {
-            let config = play.config(alloc)?;
-            let scripts = play.scripts(alloc, &config)?;
-            let run = run_seeded(alloc, &config, scripts, ROUNDS, 1000, seed)?;
-            holds(&rt, alloc, &run, processors)?;
-        }
+        end_quiet(&rt, rt.alloc(), play, processors)?;
     }
     Ok(())
 }

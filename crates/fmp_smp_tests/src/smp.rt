@@ -3,12 +3,11 @@ ghost use Rattle.std.specs.Prelude.{◌≤◌};
 
 use crate::gates::{Crossing, Delays};
 use crate::quiet::{PLAYS, ROUNDS, holds};
-use crate::texts::{BOTH, ENDLESS, SPINNING};
+use crate::texts::{BOTH, ENDLESS, Play, SPINNING};
 use fmp_check::{Verdict, check};
 use fmp_codes::{Answer, Call, Code, Event, Proc, TaskCall};
 use fmp_smp::{Gate, Open, run_smp};
-use fmp_trace::trace_text;
-use fmp_world::Ended;
+use fmp_world::{Ended, SmpRun};
 use std::alloc::Global;
 use std::process::Abort;
 use std::sync::Wait;
@@ -16,21 +15,51 @@ use std::sync::atomic::Ordering;
 use std::test::Fail;
 use std::thread::Threads;
 
+/// A run in threads.
+fn run_of<R: Threads + Wait + Sync, G: Gate + Sync>(
+    rt: &R,
+    alloc: Global,
+    play: Play,
+    ticks: u32,
+    turns: u32,
+    gate: &G,
+) -> Result<SmpRun, Fail>
+    requires ticks { ticks ≤ 1000000 }
+    requires least { 1 ≤ turns }
+    requires most { turns ≤ 1000000 }
+{
+    let config = play.config(alloc)?;
+    let scripts = play.scripts(alloc, &config)?;
+    Ok(run_smp(rt, alloc, &config, scripts, ticks, turns, gate)?)
+}
+
 /// Two threads are in the gate at once, before their turns and behind them.
 #[test]
 fn threads_meet_around_the_lock(rt: HostRuntime) -> Result<(), Fail> {
-    let alloc = rt.alloc();
-    let config = BOTH.config(alloc)?;
-    let scripts = BOTH.scripts(alloc, &config)?;
     let gate = Crossing::new();
-    let run = run_smp(&rt, alloc, &config, scripts, 0, 1000, &gate)?;
+    let run = run_of(&rt, rt.alloc(), BOTH, 0, 1000, &gate)?;
     assert!(&rt; !gate.ran_out.load(Ordering::SeqCst));
     assert!(&rt; run.ended == Ended::Quiet);
     assert!(&rt; run.records.len() == 2);
     Ok(())
 }
 
-/// Runs of the plays that end quiet, so many times each.
+/// Runs of a play that end quiet, so many times.
+fn ends_quiet<R: Threads + Wait + Sync + Abort, G: Gate + Sync>(
+    rt: &R,
+    alloc: Global,
+    gate: &G,
+    times: u32,
+    play: Play,
+    processors: &[u8],
+) -> Result<(), Fail> {
+    for _ in 0..times {
+        let run = run_of(rt, alloc, play, ROUNDS, 1000, gate)?;
+        holds(rt, alloc, &run, processors)?;
+    }
+    Ok(())
+}
+
 fn end_quiet<R: Threads + Wait + Sync + Abort, G: Gate + Sync>(
     rt: &R,
     alloc: Global,
@@ -38,12 +67,7 @@ fn end_quiet<R: Threads + Wait + Sync + Abort, G: Gate + Sync>(
     times: u32,
 ) -> Result<(), Fail> {
     for (play, processors) in PLAYS {
-        for _ in 0..times {
-            let config = play.config(alloc)?;
-            let scripts = play.scripts(alloc, &config)?;
-            let run = run_smp(rt, alloc, &config, scripts, ROUNDS, 1000, gate)?;
-            holds(rt, alloc, &run, processors)?;
-        }
+        ends_quiet(rt, alloc, gate, times, play, processors)?;
     }
     Ok(())
 }
@@ -78,9 +102,7 @@ fn fills<R: Threads + Wait + Sync + Abort>(rt: &R, alloc: Global, turns: u32) ->
     requires least { 1 ≤ turns }
     requires most { turns ≤ 1000000 }
 {
-    let config = ENDLESS.config(alloc)?;
-    let scripts = ENDLESS.scripts(alloc, &config)?;
-    let run = run_smp(rt, alloc, &config, scripts, 0, turns, &Open)?;
+    let run = run_of(rt, alloc, ENDLESS, 0, turns, &Open)?;
     assert!(rt; run.ended == Ended::Limit);
     assert!(rt; run.records.len() == turns as usize);
     for (at, made) in run.records.iter().enumerate() {
@@ -95,16 +117,19 @@ fn a_full_history_ends_a_run(rt: HostRuntime) -> Result<(), Fail> {
     fills(&rt, rt.alloc(), 50)
 }
 
+/// Whether a run is one of the machine.
+fn is_the_machines(alloc: Global, play: Play, run: &SmpRun) -> Result<bool, Fail> {
+    let trace = play.printed(alloc, run)?;
+    let config = play.config(alloc)?;
+    Ok(check(alloc, &config, trace.as_slice())? == Verdict::Yes)
+}
+
 /// Two processors take one spin lock, and the trace of each run is a run of the machine.
 #[test]
 fn a_spin_lock_is_taken_in_turn(rt: HostRuntime) -> Result<(), Fail> {
-    let alloc = rt.alloc();
     for _ in 0..100 {
-        let config = SPINNING.config(alloc)?;
-        let scripts = SPINNING.scripts(alloc, &config)?;
-        let run = run_smp(&rt, alloc, &config, scripts, 0, 100_000, &Open)?;
-        let trace = trace_text(alloc, run.records.as_slice(), config.names())?;
-        assert!(&rt; check(alloc, &config, trace.as_slice())? == Verdict::Yes);
+        let run = run_of(&rt, rt.alloc(), SPINNING, 0, 100_000, &Open)?;
+        assert!(&rt; is_the_machines(rt.alloc(), SPINNING, &run)?);
     }
     Ok(())
 }

@@ -2,6 +2,8 @@
 use fmp_config::read_config;
 use fmp_machine::Config;
 use fmp_scripts::{Scripts, read_scripts};
+use fmp_trace::trace_text;
+use fmp_world::SmpRun;
 use std::alloc::Global;
 use std::test::Fail;
 
@@ -14,11 +16,24 @@ pub struct Play {
 
 impl Play {
     pub fn config(self, alloc: Global) -> Result<Config, Fail> {
-        Ok(read_config(alloc, self.config.as_bytes())?)
+        match read_config(alloc, self.config.as_bytes()) {
+            Ok(config) => Ok(config),
+            Err(fault) => Err(format!(in alloc; "{fault}")?)?,
+        }
     }
 
     pub fn scripts(self, alloc: Global, config: &Config) -> Result<Scripts, Fail> {
         Ok(read_scripts(alloc, self.scripts.as_bytes(), config.names())?)
+    }
+
+    /// The trace of a run of it.
+    pub fn printed(self, alloc: Global, run: &SmpRun) -> Result<Vec<u8>, Fail> {
+        let config = self.config(alloc)?;
+        let records = run.records.as_slice();
+        if records.len() > 1_000_000 {
+            return Err("more records than turns")?;
+        }
+        Ok(trace_text(alloc, records, config.names())?)
     }
 }
 

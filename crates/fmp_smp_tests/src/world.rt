@@ -5,7 +5,7 @@ use fmp_config::read_config;
 use fmp_machine::Config;
 use fmp_scripts::{Scripts, read_scripts};
 use fmp_trace::trace_text;
-use fmp_world::{Ended, Receipt, Seats, SmpRun, Turn, World};
+use fmp_world::{Cpu, Ended, Receipt, Seats, SmpRun, Turn, World};
 use std::alloc::{AllocError, Global};
 use std::process::Abort;
 use std::test::Fail;
@@ -260,13 +260,15 @@ end
     receipts: &[&[1, 2, 3, 4, 5, 6, 7], &[]],
 };
 
-fn take_turn(world: &mut World<'_>, seats: &mut Seats, side: Side) -> Option<Turn> {
-    let p = side.processor();
-    let cpu = seats.cpus.get_mut(p.index())?;
+fn turned(world: &mut World<'_>, cpu: &mut Cpu) -> Option<Turn> {
     if cpu.processor().number > world.processors() {
         return None;
     }
     Some(world.turn(cpu))
+}
+
+fn take_turn(world: &mut World<'_>, seats: &mut Seats, side: Side) -> Option<Turn> {
+    turned(world, seats.cpus.get_mut(side.processor().index())?)
 }
 
 fn take_tick(world: &mut World<'_>, seats: &mut Seats, side: Side) -> Option<Turn> {
@@ -401,8 +403,10 @@ fn judged(
     by_scripts: &Scripts,
 ) -> Result<Option<Ended>, AllocError> {
     let (world, seats) = World::boot(alloc, config, scripts, 0)?;
-    let run = world.finish(seats, by_config, by_scripts, 0, 0);
-    Ok(run.map(|run| run.ended))
+    match world.finish(seats, by_config, by_scripts, 0, 0) {
+        Some(run) => Ok(Some(run.ended)),
+        None => Ok(None),
+    }
 }
 
 #[test]
