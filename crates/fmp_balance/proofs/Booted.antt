@@ -139,19 +139,19 @@ module _ (c : Setup) where
         ∙ queue_sums numbered waiters_wait d [] (booted c) es booted_contents few booted_due booted_sent safe;
   }
 
--- the front of a front is a front
-front_of_front : {X : Type 0} (j n : ℕ) (xs : List X) → (i : ℕ) × (take j (take n xs) ≡ take i xs)
-front_of_front j n xs =
+-- the prefix of a prefix is a prefix
+prefix_of_prefix : {X : Type 0} (j n : ℕ) (xs : List X) → (i : ℕ) × (take j (take n xs) ≡ take i xs)
+prefix_of_prefix j n xs =
     ⊎_elim (λ (h : n < j). (n, take_all j (take n xs) (omega (arith, h, length-take n xs)))) (λ (h : j ≤ n). (j, take-take j n xs h)) (cases_lt n j)
 
--- the records of a front are the front of the records
-front_told : (n : ℕ) (w : State) (es : List Event) → answers numbered w (take n es) ≡ take n (answers numbered w es)
-front_told zero w es = refl
-front_told (suc n) w [] = refl
-front_told (suc n) w (e ∷ es) = ap (λ rs. (step numbered w e).1 ∷ rs) (front_told n (step numbered w e).0 es)
+-- the records of a prefix are a prefix of the records
+prefix_told : (n : ℕ) (w : State) (es : List Event) → answers numbered w (take n es) ≡ take n (answers numbered w es)
+prefix_told zero w es = refl
+prefix_told (suc n) w [] = refl
+prefix_told (suc n) w (e ∷ es) = ap (λ rs. (step numbered w e).1 ∷ rs) (prefix_told n (step numbered w e).0 es)
 
 pub balanced_throughout : (c : Setup) (events : List Event) → AreFew c → IsSafeThroughout (booted c) events → IsBalancedThroughout c events (answers numbered (booted c) events)
 balanced_throughout c events few safe n =
-    let at_front : (j : ℕ) → Safe numbered (replay numbered (booted c) (take j (take n events))) =
-    λ j. let front = front_of_front j n events in subst (λ es. Safe numbered (replay numbered (booted c) es)) (sym front.1) (safe front.0) in
-    subst (λ rs. Balance c rs (replay numbered (booted c) (take n events))) (front_told n (booted c) events) (balanced c (booted_few c few) (take n events) at_front)
+    let at_prefix : (j : ℕ) → Safe numbered (replay numbered (booted c) (take j (take n events))) =
+    λ j. let prefix = prefix_of_prefix j n events in subst (λ es. Safe numbered (replay numbered (booted c) es)) (sym prefix.1) (safe prefix.0) in
+    subst (λ rs. Balance c rs (replay numbered (booted c) (take n events))) (prefix_told n (booted c) events) (balanced c (booted_few c few) (take n events) at_prefix)

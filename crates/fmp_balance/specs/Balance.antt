@@ -17,6 +17,6 @@ pub record Balance {Q : Type 0} (c : Setup) (records : List Record) (w : World Q
   pub pools : (m : Object) (b : ℕ) → PoolBalance records w m b
   pub data_queues : (d : Object) → QueueBalance records w d
 
--- at every front of a run of these events with these records, the records so far and the state balance
+-- at every prefix of a run of these events with these records, the records so far and the state balance
 abbrev pub IsBalancedThroughout : Setup → List Event → List Record → Type 0
 IsBalancedThroughout c events records = (n : ℕ) → Balance c (take n records) (replay numbered (booted c) (take n events))

@@ -9,7 +9,7 @@ ghost use Rattle.fmp_machine.specs.Boot.{booted};
 ghost use Rattle.fmp_safety.specs.Runs.{AreOn};
 ghost use Rattle.fmp_balance.specs.Balance.{IsBalancedThroughout};
 
-/// At every front of every list of events on the processors of a valid configuration, what the records say came in and went
+/// At every prefix of every list of events on the processors of a valid configuration, what the records say came in and went
 /// out agrees with what is there: the count of each semaphore, each block of each pool, and the values of each data queue in
 /// their order.
 pub fn nothing_is_lost_or_doubled()

@@ -21,23 +21,23 @@ value_of-argument_in kinds.Mode _ e = search
 value_of-argument_in _ (values.Number n) e = refl
 value_of-argument_in _ _ e = search
 
-values_in-arguments_after : (kinds : List ArgumentKind) (front rest : List Value) → are_of_kinds kinds rest ≡ true
-    → values_in kinds (arguments_from kinds (length front) (front ++ rest)) ≡ rest
-values_in-arguments_after [] front [] e = refl
-values_in-arguments_after [] front (value ∷ values) e = search
-values_in-arguments_after (kind ∷ kinds) front [] e = search
-values_in-arguments_after (kind ∷ kinds) front (value ∷ rest) e =
+values_in-arguments_after : (kinds : List ArgumentKind) (prefix rest : List Value) → are_of_kinds kinds rest ≡ true
+    → values_in kinds (arguments_from kinds (length prefix) (prefix ++ rest)) ≡ rest
+values_in-arguments_after [] prefix [] e = refl
+values_in-arguments_after [] prefix (value ∷ values) e = search
+values_in-arguments_after (kind ∷ kinds) prefix [] e = search
+values_in-arguments_after (kind ∷ kinds) prefix (value ∷ rest) e =
     let each = and_parts (is_of_kind kind value) (are_of_kinds kinds rest) e in
-    let at : value_at (front ++ value ∷ rest) (length front) ≡ value = get_or-append_seam front value rest (values.Number (pos 0)) in
-    let first : value_of kind (argument_in kind (value_at (front ++ value ∷ rest) (length front))) ≡ value =
+    let at : value_at (prefix ++ value ∷ rest) (length prefix) ≡ value = get_or-append_seam prefix value rest (values.Number (pos 0)) in
+    let first : value_of kind (argument_in kind (value_at (prefix ++ value ∷ rest) (length prefix))) ≡ value =
     ap (λ (v : Value). value_of kind (argument_in kind v)) at ∙ value_of-argument_in kind value each.0 in
-    let others = values_in-arguments_after kinds (front ++ value ∷ []) rest each.1 in
-    let count : length (front ++ value ∷ []) ≡ length front + 1 = length-append front (value ∷ []) in
-    let whole : (front ++ value ∷ []) ++ rest ≡ front ++ value ∷ rest = append_assoc front (value ∷ []) rest in
-    let behind : values_in kinds (arguments_from kinds (length front + 1) (front ++ value ∷ rest)) ≡ rest =
-    subst (λ (n : ℕ). values_in kinds (arguments_from kinds n (front ++ value ∷ rest)) ≡ rest) count
-    (subst (λ (l : List Value). values_in kinds (arguments_from kinds (length (front ++ value ∷ [])) l) ≡ rest) whole others) in
-    ap (λ (v : Value). v ∷ values_in kinds (arguments_from kinds (length front + 1) (front ++ value ∷ rest))) first
+    let others = values_in-arguments_after kinds (prefix ++ value ∷ []) rest each.1 in
+    let count : length (prefix ++ value ∷ []) ≡ length prefix + 1 = length-append prefix (value ∷ []) in
+    let whole : (prefix ++ value ∷ []) ++ rest ≡ prefix ++ value ∷ rest = append_assoc prefix (value ∷ []) rest in
+    let behind : values_in kinds (arguments_from kinds (length prefix + 1) (prefix ++ value ∷ rest)) ≡ rest =
+    subst (λ (n : ℕ). values_in kinds (arguments_from kinds n (prefix ++ value ∷ rest)) ≡ rest) count
+    (subst (λ (l : List Value). values_in kinds (arguments_from kinds (length (prefix ++ value ∷ [])) l) ≡ rest) whole others) in
+    ap (λ (v : Value). v ∷ values_in kinds (arguments_from kinds (length prefix + 1) (prefix ++ value ∷ rest))) first
     ∙ ap (λ (vs : List Value). value ∷ vs) behind
 
 -- values of the right kinds are those of the arguments that are read of them

@@ -1,6 +1,3 @@
--- What the values of arguments are read back as
-pub mod Arguments
--- What is found passes the test
-pub mod Found
--- The table of the calls: calls, their names and their arguments give each other back
-pub mod Matched
+pub mod Arguments  -- Values of the right kinds are what is read of them as arguments.
+pub mod Found  -- What is found in a list.
+pub mod Matched  -- The table of the calls: calls, their names and their arguments give each other back.

@@ -21,12 +21,7 @@ abbrev pub value_of : (kind : ArgumentKind) → ArgumentOf kind → Value
 value_of kinds.Pattern bits = values.Pattern bits
 value_of kinds.Data value = values.Data value
 value_of kinds.Mode mode = values.Mode mode
-value_of (kinds.Object object) number = values.Number number
-value_of kinds.Priority number = values.Number number
-value_of kinds.Processor number = values.Number number
-value_of kinds.Time number = values.Number number
-value_of kinds.Timeout number = values.Number number
-value_of kinds.Block number = values.Number number
+value_of _ number = values.Number number
 
 abbrev pub number_in : Value → ℤ
 number_in (values.Number n) = n
@@ -49,12 +44,7 @@ abbrev pub argument_in : (kind : ArgumentKind) → Value → ArgumentOf kind
 argument_in kinds.Pattern value = pattern_in value
 argument_in kinds.Data value = data_in value
 argument_in kinds.Mode value = mode_in value
-argument_in (kinds.Object object) value = number_in value
-argument_in kinds.Priority value = number_in value
-argument_in kinds.Processor value = number_in value
-argument_in kinds.Time value = number_in value
-argument_in kinds.Timeout value = number_in value
-argument_in kinds.Block value = number_in value
+argument_in _ value = number_in value
 
 -- arguments of these kinds, from left to right
 abbrev pub Arguments : List ArgumentKind → Type 0

@@ -1,4 +1,11 @@
 //! What the service calls are called, and which arguments they have.
+//!
+//! The table has a line for each call, in the file of its family: its name, the kinds of its arguments, and what makes the call
+//! of them. Reading, printing and listing calls go by this table, so no other crate names a call's text.
+//!
+//! [`find_call`] finds a call by its name; [`form`] and [`values`] take one apart, and [`with_values`] puts it together again.
+//! The law `tables_agree` says that these give each other back, and that each call stands in the table once. The definitions
+//! are the same lines in `specs/Tables`.
 #![tactic(auto)]
 
 mod kinds;

@@ -154,10 +154,10 @@ fault_parts c text fault (Ok records) valid is_read e =
     let v = has_verdict c text records valid (read_prints c.names text records valid is_read) in
     absurd (let ok = v.is_checked in cc)
 
-front_get : (xs ys : List (List ℕ)) (i : ℕ) → i < length xs → slice_get (xs ++ ys) i ≡ slice_get xs i
-front_get [] ys i lt = absurd (omega (arith, lt))
-front_get (x ∷ xs) ys zero lt = refl
-front_get (x ∷ xs) ys (suc i) lt = front_get xs ys i (omega (arith, lt))
+prefix_get : (xs ys : List (List ℕ)) (i : ℕ) → i < length xs → slice_get (xs ++ ys) i ≡ slice_get xs i
+prefix_get [] ys i lt = absurd (omega (arith, lt))
+prefix_get (x ∷ xs) ys zero lt = refl
+prefix_get (x ∷ xs) ys (suc i) lt = prefix_get xs ys i (omega (arith, lt))
 
 -- the lines of its own answers are the text's
 own_is_yes : (c : Setup) (text : List ℕ) (records : List Record) (verdict : Verdict) → AreValid c.names → text ≡ own_text c records → Compares c text records verdict → verdict ≡ Yes
@@ -165,7 +165,7 @@ own_is_yes c text records Yes valid own known = refl
 own_is_yes c text records (No k) valid own known =
     let lines : pieces_of 10 text ≡ own_lines c records ++ [] ∷ [] = ap (pieces_of 10) own ∙ cores_pieces c.names 1 (told (booted c) records) valid in
     let least = known.least in let most = known.most in
-    absurd (known.here (ap (λ (ls : List (List ℕ)). slice_get ls (k - 1)) lines ∙ front_get (own_lines c records) ([] ∷ []) (k - 1) (omega (arith, least, most))))
+    absurd (known.here (ap (λ (ls : List (List ℕ)). slice_get ls (k - 1)) lines ∙ prefix_get (own_lines c records) ([] ∷ []) (k - 1) (omega (arith, least, most))))
 
 module _ (c : Setup) (text : List ℕ) (valid : AreValid c.names) where
   pub is_judged : (result : Result Verdict TextFault) → GivesOrFails (λ v. v) result (checked c text) → IfOk result (Judges c text)

@@ -15,7 +15,7 @@ use Rattle.fmp_statements.specs.Table.{allowed_of}
 use Rattle.fmp_config.specs.declared.draft.OpenClass.{OpenClass}
 use Rattle.fmp_config.specs.declared.numbers.Numbers.{Numbers}
 use Rattle.fmp_config.specs.Drafts.{Draft}
-use Rattle.fmp_config.specs.Judging.{counts_fit, create, create_in, fields_in, fields_of, fitting_counts, is_handled, is_served, new_name, same, served}
+use Rattle.fmp_config.specs.Objects.{counts_fit, create, create_in, fields_in, fields_of, fitting_counts, is_handled, is_served, new_name, same, served}
 use Rattle.fmp_config.specs.Numbers.{AreInRanges, numbers_of}
 use Rattle.fmp_config.specs.Sound.{IsSound, IsSoundOpen}
 use Rattle.fmp_config.proofs.Defined.{new_and_room, still_open}

@@ -11,7 +11,9 @@ use Rattle.fmp_statements.specs.Faults.{fault_at, fault_in, fault_of_line, ◌>>
 use Rattle.fmp_statements.specs.Words.{Word}
 use Rattle.fmp_config.specs.declared.draft.OpenClass.{OpenClass}
 use Rattle.fmp_config.specs.Drafts.{Draft, is_body}
-use Rattle.fmp_config.specs.Judging.{define, ended, new_name, place_fault}
+use Rattle.fmp_config.specs.Judging.{define, ended}
+use Rattle.fmp_config.specs.Objects.{new_name}
+use Rattle.fmp_config.specs.Places.{place_fault}
 use Rattle.fmp_config.specs.Sound.{IsSound, IsSoundOpen}
 use Rattle.fmp_config.proofs.Places.{place_beside}
 use Rattle.fmp_config.proofs.Steps.{bound, not_ok, ok_is, passed, refused}

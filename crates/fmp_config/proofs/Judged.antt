@@ -16,7 +16,9 @@ use Rattle.fmp_statements.specs.Words.{Word}
 use Rattle.fmp_config.specs.declared.draft.OpenClass.{OpenClass}
 use Rattle.fmp_config.specs.declared.draft.Phase.TheVariants as phases
 use Rattle.fmp_config.specs.Drafts.{Draft, is_start, is_body}
-use Rattle.fmp_config.specs.Judging.{begin_class, choose_timer, count_processors, define_class, judged, new_name, place_fault, set_limits, timer_of}
+use Rattle.fmp_config.specs.Judging.{begin_class, choose_timer, count_processors, define_class, judged, set_limits, timer_of}
+use Rattle.fmp_config.specs.Objects.{new_name}
+use Rattle.fmp_config.specs.Places.{place_fault}
 use Rattle.fmp_config.specs.Numbers.{all_numbers, class_of, members_in, number_within, numbers_of, processor_at, sound_class, value_at}
 use Rattle.fmp_config.specs.Sound.{IsNamedAs, IsSound, IsSoundOpen}
 use Rattle.fmp_config.proofs.Created.{create_sound}

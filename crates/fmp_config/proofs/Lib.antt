@@ -6,7 +6,7 @@ pub mod Words  -- Which bytes are a text.
 pub mod Defined  -- What was read stays sound where a name is defined.
 pub mod Created  -- What was read stays sound where an object is created.
 pub mod Turned  -- Reading token after token, as a loop does.
-pub mod Fronts  -- The first fault of a text that is too long is that of its front, so no more of it need be read.
+pub mod Prefixes  -- The first fault of a text that is too long is that of its prefix, so no more of it need be read.
 pub mod Judged  -- What was read stays sound where a whole statement is taken in.
 pub mod Taken  -- What a token that is read was.
 pub mod Started  -- Before the first statement all is sound.

@@ -10,7 +10,7 @@ use Rattle.fmp_config.specs.declared.draft.OpenClass.{OpenClass}
 use Rattle.fmp_config.specs.declared.draft.Phase.{Phase}
 use Rattle.fmp_config.specs.declared.draft.Phase.TheVariants as phases
 use Rattle.fmp_config.specs.Drafts.{Draft, is_start, is_body}
-use Rattle.fmp_config.specs.Judging.{place_fault}
+use Rattle.fmp_config.specs.Places.{place_fault}
 use Rattle.fmp_machine.specs.Setup.{Setup}
 
 -- the same in another configuration

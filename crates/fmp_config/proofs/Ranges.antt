@@ -14,7 +14,7 @@ use Rattle.fmp_statements.specs.Pieces.{Pieces}
 use Rattle.fmp_statements.specs.Table.{first_range, second_range}
 use Rattle.fmp_statements.specs.Words.{Word}
 use Rattle.fmp_config.specs.declared.numbers.Numbers.{Numbers}
-use Rattle.fmp_config.specs.Judging.{counts_fit}
+use Rattle.fmp_config.specs.Objects.{counts_fit}
 use Rattle.fmp_config.specs.Numbers.{AreInRanges, IsInRange, is_within, number_at, number_within, numbers_of, value_at}
 use Rattle.fmp_config.specs.Sound.{Fit}
 use Rattle.fmp_config.proofs.Steps.{bound, ok_is, passed}

@@ -17,7 +17,7 @@ use Rattle.fmp_statements.specs.Numbers.{numeral}
 use Rattle.fmp_statements.specs.Words.{Word, word_of, is_identifier_kind}
 use Rattle.fmp_statements.proofs.Promised.{begun_is_promised, step_keeps_name, step_keeps_promise}
 use Rattle.fmp_config.specs.Drafts.{Draft}
-use Rattle.fmp_config.specs.Judging.{place_fault}
+use Rattle.fmp_config.specs.Places.{place_fault}
 use Rattle.fmp_config.specs.Reading.{State, take_token}
 use Rattle.fmp_config.specs.Sound.{IsSoundDirective, IsSoundForm, IsSoundState}
 use Rattle.fmp_config.proofs.Defined.{ended_sound}

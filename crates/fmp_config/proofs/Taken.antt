@@ -10,7 +10,8 @@ use Rattle.fmp_statements.specs.Faults.{fault_at, ◌>>=◌}
 use Rattle.fmp_statements.specs.Forms.{Form, begun, form_step, is_complete}
 use Rattle.fmp_statements.specs.Words.{word_of, is_directive_kind, is_end_kind}
 use Rattle.fmp_config.specs.Drafts.{Draft}
-use Rattle.fmp_config.specs.Judging.{place_fault, ended, judged}
+use Rattle.fmp_config.specs.Places.{place_fault}
+use Rattle.fmp_config.specs.Judging.{ended, judged}
 use Rattle.fmp_config.specs.Reading.{State, code_token, directive_token, ends_class, first_token, form_read, form_token, placed, statement_at, take_token, token_in}
 use Rattle.fmp_config.proofs.Steps.{allowed, bound, ok_is}
 

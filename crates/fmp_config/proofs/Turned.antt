@@ -1,14 +1,12 @@
 -- Reading token after token, as a loop does.
-use Rattle.std.proofs.Common.{◌≡◌, ℕ, ◌+◌, List, [], ◌∷◌, length, Result, Ok, Err, sym, ap, ◌∙◌, refl, arith}
+use Rattle.std.proofs.Common.{◌≡◌, List, [], ◌∷◌, Result, Ok, Err, sym, ◌∙◌, refl}
 use Rattle.fmp_tokens.specs.Lexing.{Lexeme}
-use Rattle.fmp_tokens.specs.declared.tokens.End.{End}
 use Rattle.fmp_statements.specs.declared.fault.ReadError.{ReadError}
 use Rattle.fmp_statements.specs.declared.fault.ReadError.TheVariants as errors
 use Rattle.fmp_statements.specs.Faults.{Fault, ◌>>=◌}
 use Rattle.fmp_statements.specs.Folds.{each}
-use Rattle.fmp_statements.specs.Outcomes.{Stops, Gives}
-use Rattle.fmp_config.specs.Reading.{State, take_token, finished}
-use Rattle.fmp_machine.specs.Setup.{Setup}
+use Rattle.fmp_statements.specs.Outcomes.{Stops}
+use Rattle.fmp_config.specs.Reading.{State, take_token}
 
 module _ (s : State) (t : Lexeme) (ts rest : List Lexeme) (total : Result State Fault) where
   pub reads_on : (next : State) → ts ≡ t ∷ rest → take_token s t ≡ Ok next → each take_token s ts ≡ total → each take_token next rest ≡ total

@@ -1,5 +1,5 @@
 -- What a reader returns, beside what reading gives, and how it is told.
-use Rattle.std.specs.Prelude.{◌≡◌, ℕ, ◌⊎◌, Bool, List, [], ◌∷◌, ◌++◌, ◌&&◌, length, nat_le, if◌then◌else◌, Result, Ok, Err, codes, decimal}
+use Rattle.std.specs.Prelude.{◌≡◌, ℕ, ◌⊎◌, Bool, List, [], ◌∷◌, ◌++◌, length, nat_le, if◌then◌else◌, Result, Ok, Err, codes, decimal}
 use Rattle.std.specs.Str.{is_utf8}
 use Rattle.fmp_bytes.specs.Bytes.{is_identifier}
 use Rattle.fmp_statements.specs.declared.fault.ConfigKind.TheVariants.{Memory}

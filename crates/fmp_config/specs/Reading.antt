@@ -15,9 +15,9 @@ use Rattle.fmp_statements.specs.Forms.{Form, begun, form_step, is_complete}
 use Rattle.fmp_statements.specs.Parts.{depth_of}
 use Rattle.fmp_statements.specs.Table.{statement_of}
 use Rattle.fmp_statements.specs.Words.{word_of, is_mark, is_identifier_kind, is_directive_kind, is_end_kind}
-use Rattle.fmp_config.specs.declared.draft.OpenClass.{OpenClass}
 use Rattle.fmp_config.specs.Drafts.{Draft, blank_draft, is_start}
-use Rattle.fmp_config.specs.Judging.{place_fault, ended, judged}
+use Rattle.fmp_config.specs.Places.{place_fault}
+use Rattle.fmp_config.specs.Judging.{ended, judged}
 use Rattle.fmp_config.specs.Limits.{most_bytes}
 use Rattle.fmp_machine.specs.Setup.{Setup}
 

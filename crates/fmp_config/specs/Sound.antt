@@ -13,7 +13,7 @@ use Rattle.fmp_statements.specs.Words.{Word}
 use Rattle.fmp_config.specs.declared.draft.OpenClass.{OpenClass}
 use Rattle.fmp_config.specs.declared.numbers.Numbers.{Numbers}
 use Rattle.fmp_config.specs.Drafts.{Draft, is_start, is_body}
-use Rattle.fmp_config.specs.Judging.{place_fault}
+use Rattle.fmp_config.specs.Places.{place_fault}
 use Rattle.fmp_config.specs.Reading.{State}
 use Rattle.fmp_machine.specs.declared.setup.Timer.TheVariants as timer
 use Rattle.fmp_machine.specs.Building.{IsSoundClass, has_function}

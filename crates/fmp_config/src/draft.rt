@@ -4,6 +4,8 @@ ghost use Rattle.fmp_machine.specs.Building.{is_refused, kind_of};
 ghost use Rattle.fmp_names.specs.Names.{has_room};
 ghost use Rattle.fmp_calls.specs.declared.kinds.NameKind.TheVariants.{Object};
 ghost use Rattle.fmp_config.specs.Judging as spec;
+ghost use Rattle.fmp_config.specs.Objects as objects;
+ghost use Rattle.fmp_config.specs.Places as places;
 ghost use Rattle.fmp_config.specs.Sound.{Fit};
 ghost use Rattle.fmp_machine.specs.Parts.{setup_of};
 
@@ -52,9 +54,9 @@ pub struct Draft {
 }
 
 /// A name that is to be new, where there is room for one more.
-#[tactic(auto, unfolding(crate::specs::Judging::new_name))]
+#[tactic(auto, unfolding(crate::specs::Objects::new_name))]
 fn new_name<'a>(parts: &Parts, room: bool, line: u32, name: &Word<'a>) -> Result<(), Fault<'a>>
-    ensures value { result ≡ spec.new_name (setup_of parts.now) room line name.now }
+    ensures value { result ≡ objects.new_name (setup_of parts.now) room line name.now }
     ensures new { OnOk result (is_refused (setup_of parts.now) name.now.text ≡ false) }
     ensures room { OnOk result (room ≡ true) }
 {
@@ -68,7 +70,7 @@ fn new_name<'a>(parts: &Parts, room: bool, line: u32, name: &Word<'a>) -> Result
 }
 
 fn counts_fit(kind: ObjectKind, numbers: Numbers) -> bool
-    ensures { result ≡ spec.counts_fit kind numbers }
+    ensures { result ≡ objects.counts_fit kind numbers }
 {
     match kind {
         ObjectKind::Semaphore => numbers.first <= numbers.second,
@@ -76,10 +78,10 @@ fn counts_fit(kind: ObjectKind, numbers: Numbers) -> bool
     }
 }
 
-#[tactic(auto, unfolding(crate::specs::Judging::fitting_counts))]
+#[tactic(auto, unfolding(crate::specs::Objects::fitting_counts))]
 fn fitting_counts<'a>(kind: ObjectKind, numbers: Numbers, first: &Word<'a>) -> Result<(), Fault<'a>>
-    ensures value { result ≡ spec.fitting_counts kind numbers first.now }
-    ensures fit { OnOk result (spec.counts_fit kind numbers ≡ true) }
+    ensures value { result ≡ objects.fitting_counts kind numbers first.now }
+    ensures fit { OnOk result (objects.counts_fit kind numbers ≡ true) }
 {
     if counts_fit(kind, numbers) {
         Ok(())
@@ -90,7 +92,7 @@ fn fitting_counts<'a>(kind: ObjectKind, numbers: Numbers, first: &Word<'a>) -> R
 
 /// Whether a class has this processor alone.
 fn is_alone(master: Proc, class: &Class) -> bool
-    ensures { result ≡ spec.is_alone master class.now }
+    ensures { result ≡ objects.is_alone master class.now }
 {
     let mut members = [false; 8];
     members[master.index()] = true;
@@ -99,7 +101,7 @@ fn is_alone(master: Proc, class: &Class) -> bool
 
 /// Whether two lists are the same.
 fn same(a: &[bool], b: &[bool]) -> bool
-    ensures { result ≡ spec.same a.now b.now }
+    ensures { result ≡ objects.same a.now b.now }
 {
     match a {
         [] => b.is_empty(),
@@ -111,7 +113,7 @@ fn same(a: &[bool], b: &[bool]) -> bool
 }
 
 fn is_served(timer: Timer, class: &Class) -> bool
-    ensures { result ≡ spec.is_served timer class.now }
+    ensures { result ≡ objects.is_served timer class.now }
 {
     match timer {
         Timer::Local => true,
@@ -120,7 +122,7 @@ fn is_served(timer: Timer, class: &Class) -> bool
 }
 
 fn is_handled(timer: Timer, class: &Class, kind: ObjectKind) -> bool
-    ensures { result ≡ spec.is_handled timer class.now kind }
+    ensures { result ≡ objects.is_handled timer class.now kind }
 {
     match kind {
         ObjectKind::Cyclic | ObjectKind::Alarm => is_served(timer, class),
@@ -129,7 +131,7 @@ fn is_handled(timer: Timer, class: &Class, kind: ObjectKind) -> bool
 }
 
 /// Refuses a handler of a class that has other processors than the one whose ticks count.
-#[tactic(auto, unfolding(crate::specs::Judging::served))]
+#[tactic(auto, unfolding(crate::specs::Objects::served))]
 fn served<'a>(
     timer: Timer,
     class: &Class,
@@ -137,7 +139,7 @@ fn served<'a>(
     line: u32,
     name: &Word<'a>,
 ) -> Result<(), Fault<'a>>
-    ensures { result ≡ spec.served timer class.now kind line name.now }
+    ensures { result ≡ objects.served timer class.now kind line name.now }
 {
     if is_handled(timer, class, kind) {
         Ok(())
@@ -147,7 +149,7 @@ fn served<'a>(
 }
 
 fn order_of(attributes: Attributes) -> Order
-    ensures { result ≡ spec.order_of attributes }
+    ensures { result ≡ objects.order_of attributes }
 {
     if attributes.by_priority {
         Order::Priority
@@ -159,7 +161,7 @@ fn order_of(attributes: Attributes) -> Order
 /// What the attributes and numbers of an object say.
 fn fields_of(kind: ObjectKind, attributes: Attributes, numbers: Numbers) -> Fields
     requires { Fit kind numbers }
-    ensures value { result ≡ spec.fields_of kind attributes numbers }
+    ensures value { result ≡ objects.fields_of kind attributes numbers }
     ensures kind { kind_of result ≡ kind }
 {
     let order = order_of(attributes);
@@ -198,7 +200,7 @@ fn fields_of(kind: ObjectKind, attributes: Attributes, numbers: Numbers) -> Fiel
 }
 
 /// The fields of an object that is created in a class, or the first fault.
-#[tactic(auto, using(crate::proofs::Ranges::fit), unfolding(crate::specs::Judging::fields_in))]
+#[tactic(auto, using(crate::proofs::Ranges::fit), unfolding(crate::specs::Objects::fields_in))]
 fn fields_in<'a>(
     parts: &Parts,
     class: &Class,
@@ -206,7 +208,7 @@ fn fields_in<'a>(
     form: &Form<'a>,
 ) -> Result<Fields, Fault<'a>>
     requires { (setup_of parts.now).limits.priorities ≤ 32 }
-    ensures value { result ≡ spec.fields_in (setup_of parts.now) class.now kind form.now }
+    ensures value { result ≡ objects.fields_in (setup_of parts.now) class.now kind form.now }
     ensures new { OnOk result (is_refused (setup_of parts.now) form.now.pieces.name.text ≡ false) }
     ensures room { OnOk result (has_room (setup_of parts.now).names (Object kind) ≡ true) }
     ensures kind { IfOk result (λ f. kind_of f ≡ kind) }
@@ -246,8 +248,10 @@ impl Draft {
     ghost use Rattle.fmp_config.specs.Drafts as drafts;
     ghost use Rattle.fmp_config.specs.Drafts.{draft_of};
     ghost use Rattle.fmp_config.specs.Judging as spec;
+    ghost use Rattle.fmp_config.specs.Objects as objects;
+    ghost use Rattle.fmp_config.specs.Places as places;
     ghost use Rattle.fmp_config.specs.Sound.{IsSound, IsSoundDirective, IsWhole, MayStandFor};
-    ghost use Rattle.fmp_machine.specs.Building.{IsSoundClass, has_function};
+    ghost use Rattle.fmp_machine.specs.Building.{has_function};
     ghost use Rattle.fmp_names.specs.Names.{is_name};
     ghost use Rattle.fmp_statements.specs.Outcomes.{Leads};
 
@@ -273,7 +277,7 @@ impl Draft {
 
     /// Outside a class, behind the number of processors: the kind of fault of a statement that may not stand there.
     fn fault_outside(&self, name: StatementName) -> Option<ConfigKind>
-        ensures { result ≡ spec.fault_outside (draft_of self.now) name }
+        ensures { result ≡ places.fault_outside (draft_of self.now) name }
     {
         let in_body = matches!(self.phase, Phase::Body);
         match name {
@@ -287,9 +291,9 @@ impl Draft {
     }
 
     /// The kind of fault of a statement that may not stand where it stands.
-    #[tactic(auto, unfolding(crate::specs::Judging::place_fault))]
+    #[tactic(auto, unfolding(crate::specs::Places::place_fault))]
     pub fn place_fault(&self, name: StatementName) -> Option<ConfigKind>
-        ensures { result ≡ spec.place_fault (draft_of self.now) name }
+        ensures { result ≡ places.place_fault (draft_of self.now) name }
     {
         if self.is_at_start() {
             fault_before(name)
@@ -331,7 +335,7 @@ impl Draft {
         }
     }
 
-    #[tactic(auto, unfolding(crate::specs::Judging::create_in))]
+    #[tactic(auto, unfolding(crate::specs::Objects::create_in))]
     fn create_in<'a>(
         &mut self,
         class: Class,
@@ -341,7 +345,7 @@ impl Draft {
         requires sound { IsSound (draft_of self.old) }
         requires name { is_name form.now.pieces.name.text ≡ true }
         requires function { has_function kind ≡ true → is_name form.now.pieces.function.text ≡ true }
-        ensures { Leads result (draft_of self.new) (spec.create_in (draft_of self.old) class kind form.now) }
+        ensures { Leads result (draft_of self.new) (objects.create_in (draft_of self.old) class kind form.now) }
     {
         let fields = fields_in(&self.parts, &class, kind, form)?;
         let (name, function) = (form.pieces().name().text(), form.pieces().function().text());
@@ -349,12 +353,12 @@ impl Draft {
         Ok(())
     }
 
-    #[tactic(auto, unfolding(crate::specs::Judging::create))]
+    #[tactic(auto, unfolding(crate::specs::Objects::create))]
     fn create<'a>(&mut self, kind: ObjectKind, form: &Form<'a>) -> Result<(), ReadError<'a>>
         requires sound { IsSound (draft_of self.old) }
         requires name { is_name form.now.pieces.name.text ≡ true }
         requires function { has_function kind ≡ true → is_name form.now.pieces.function.text ≡ true }
-        ensures { Leads result (draft_of self.new) (spec.create (draft_of self.old) kind form.now) }
+        ensures { Leads result (draft_of self.new) (objects.create (draft_of self.old) kind form.now) }
     {
         match self.open_class {
             Some(open) => self.create_in(open.class, kind, form),
@@ -442,7 +446,7 @@ impl Draft {
 
 /// In a class: the kind of fault of a statement that may not stand there.
 fn fault_inside(name: StatementName) -> Option<ConfigKind>
-    ensures { result ≡ spec.fault_inside name }
+    ensures { result ≡ places.fault_inside name }
 {
     match name {
         StatementName::Include | StatementName::Create(_) => None,
@@ -452,7 +456,7 @@ fn fault_inside(name: StatementName) -> Option<ConfigKind>
 
 /// Before the number of processors: the kind of fault of a statement that may not stand there.
 fn fault_before(name: StatementName) -> Option<ConfigKind>
-    ensures { result ≡ spec.fault_before name }
+    ensures { result ≡ places.fault_before name }
 {
     match name {
         StatementName::Include | StatementName::Processors => None,

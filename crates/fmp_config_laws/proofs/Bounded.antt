@@ -2,14 +2,15 @@
 use Rattle.std.proofs.Common.{true, ◌≡◌, inl, inr, sym, subst, arith}
 use Rattle.fmp_statements.specs.declared.table.StatementName.{StatementName}
 use Rattle.fmp_statements.specs.declared.table.StatementName.TheVariants as statements
-use Rattle.fmp_config.specs.Judging.{fields_of}
+use Rattle.fmp_config.specs.Objects.{fields_of}
 use Rattle.fmp_statements.specs.Attributes.{no_attributes}
 use Rattle.fmp_names.specs.Names.{is_name}
 use Rattle.fmp_machine.specs.Building.{with_defined}
 use Rattle.fmp_machine.specs.Setup.{Setup}
 use Rattle.fmp_config_laws.specs.Elements.{Definition}
 use Rattle.fmp_config_laws.specs.Phrases.{Phrase}
-use Rattle.fmp_config_laws.specs.Meaning.{Stage, Adds, Says, members_of, together}
+use Rattle.fmp_config_laws.specs.Stages.{Stage, Adds}
+use Rattle.fmp_config_laws.specs.Meaning.{Says, members_of, together}
 use Rattle.fmp_codes.specs.Numbers.{as_proc}
 use Rattle.fmp_config_laws.proofs.Stages.{IsBounded}
 use Rattle.fmp_config_laws.proofs.Kept.{Keeps, object_keeps, class_keeps, counted, counting_keeps, same_names, counted_names, definition_processors, definition_priorities, definition_names}

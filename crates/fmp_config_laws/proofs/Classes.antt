@@ -15,7 +15,8 @@ use Rattle.fmp_config.specs.Numbers.{value_at, processor_of, processor_at, numbe
 use Rattle.fmp_machine.specs.declared.setup.Class.{Class}
 use Rattle.fmp_machine.specs.Setup.{Setup}
 use Rattle.fmp_machine.specs.Valid.{is_class_of}
-use Rattle.fmp_config_laws.specs.Meaning.{SpellsNumber, SpellNumbers, is_processor, members_of}
+use Rattle.fmp_config_laws.specs.Stages.{SpellsNumber, SpellNumbers, is_processor}
+use Rattle.fmp_config_laws.specs.Meaning.{members_of}
 use Rattle.fmp_config_laws.proofs.Results.{ok_is, bind_parts, passed, ok_or_parts, tested_some, each-cons, each_parts, each-none}
 use Rattle.fmp_config_laws.proofs.Numerals.{AreNames, is_signed, most_numeral, value_at-spelled, value_at_is_spelled}
 use Rattle.fmp_config_laws.proofs.Members.{marked, same_place, marked-members, class-begins}

@@ -21,7 +21,7 @@ use Rattle.fmp_token_laws.proofs.Reading.{tokens_are_read}
 use Rattle.fmp_token_laws.proofs.Spelled.{tokens_are_spelled}
 use Rattle.fmp_config_laws.specs.Elements.{SpellsElements}
 use Rattle.fmp_config_laws.specs.Grammar.{Configures}
-use Rattle.fmp_config_laws.specs.Meaning.{Stage}
+use Rattle.fmp_config_laws.specs.Stages.{Stage}
 use Rattle.fmp_config_laws.proofs.Results.{ok_is, err_is, bind_parts, refused, none_is}
 use Rattle.fmp_config_laws.proofs.Numerals.{AreNames}
 use Rattle.fmp_config_laws.proofs.Stages.{stage_of, IsBounded}

@@ -15,7 +15,8 @@ use Rattle.fmp_token_laws.specs.Tokens.{Glyph, glyph_of}
 use Rattle.fmp_config_laws.specs.Elements.{Element, Plain, Defined, Skipped, is_plain, identifier, symbol, plain_of, Definition, definitions_of}
 use Rattle.fmp_config_laws.specs.Phrases.{Phrase}
 use Rattle.fmp_config_laws.specs.Clauses.{Clause, Statement, EndOfClass, Defining, Skipping, SpellsClause, SpellsClauses}
-use Rattle.fmp_config_laws.specs.Meaning.{Stage, Adds, AddsAll, Says, SaysClause, SayClauses}
+use Rattle.fmp_config_laws.specs.Stages.{Stage, Adds, AddsAll}
+use Rattle.fmp_config_laws.specs.Meaning.{Says, SaysClause, SayClauses}
 use Rattle.fmp_config_laws.proofs.Results.{each-cons, each-none, each-append}
 use Rattle.fmp_config_laws.proofs.Stages.{phrase_of, stage_of, IsBounded}
 use Rattle.fmp_config_laws.proofs.Judged.{defined-says}
@@ -188,35 +189,35 @@ clause_reaches Skipping elements entries d to bounded e are s says =
 -- ---- all clauses
 
 pub record Parted (entries : List Entry) (first rest : List Element) : Type 0 where
-  pub front : List Entry
+  pub prefix : List Entry
   pub back : List Entry
-  pub parts : entries ≡ front ++ back
-  pub front_are : map element_of front ≡ first
+  pub parts : entries ≡ prefix ++ back
+  pub prefix_are : map element_of prefix ≡ first
   pub back_are : map element_of back ≡ rest
-  pub front_tokens : AreTokens front
+  pub prefix_tokens : AreTokens prefix
   pub back_tokens : AreTokens back
 
-front_more : (entry : Entry) (entries : List Entry) → AreTokens (entry ∷ entries) → AreTokens entries × ((others : List Entry) → AreTokens others → AreTokens (entry ∷ others))
-front_more (Token t) entries are = (are.1, λ others a. (are.0, a))
-front_more (Define line word number) entries are = (are.1, λ others a. (are.0, a))
-front_more Skip entries are = (are, λ others a. a)
+prefix_more : (entry : Entry) (entries : List Entry) → AreTokens (entry ∷ entries) → AreTokens entries × ((others : List Entry) → AreTokens others → AreTokens (entry ∷ others))
+prefix_more (Token t) entries are = (are.1, λ others a. (are.0, a))
+prefix_more (Define line word number) entries are = (are.1, λ others a. (are.0, a))
+prefix_more Skip entries are = (are, λ others a. a)
 
 parted : (first rest : List Element) (entries : List Entry) → map element_of entries ≡ first ++ rest → AreTokens entries → Parted entries first rest
-parted [] rest entries e are = record { front = []; back = entries; parts = refl; front_are = refl; back_are = e; front_tokens = tt; back_tokens = are }
+parted [] rest entries e are = record { prefix = []; back = entries; parts = refl; prefix_are = refl; back_are = e; prefix_tokens = tt; back_tokens = are }
 parted (element ∷ first) rest [] e are = absurd cc
 parted (element ∷ first) rest (entry ∷ entries) e are =
     let here : element_of entry ≡ element = cc in
     let behind : map element_of entries ≡ first ++ rest = cc in
-    let more = front_more entry entries are in
+    let more = prefix_more entry entries are in
     let p = parted first rest entries behind more.0 in
-    let first_are = p.front_are in
+    let first_are = p.prefix_are in
     record {
-      front = entry ∷ p.front;
+      prefix = entry ∷ p.prefix;
       back = p.back;
       parts = ap (λ (es : List Entry). entry ∷ es) p.parts;
-      front_are = rw (here, first_are) refl;
+      prefix_are = rw (here, first_are) refl;
       back_are = p.back_are;
-      front_tokens = more.1 p.front p.front_tokens;
+      prefix_tokens = more.1 p.prefix p.prefix_tokens;
       back_tokens = p.back_tokens;
     }
 
@@ -224,8 +225,8 @@ pub clauses_reach : (clauses : List Clause) (elements : List Element) (entries :
 clauses_reach [] elements entries d to bounded e are s say = ends_at entries d to bounded (e ∙ s) say
 clauses_reach (clause ∷ clauses) elements entries d to bounded e are s say =
     let p = parted s.0 s.1 entries (e ∙ s.2) are in
-    let r = clause_reaches clause s.0 p.front d say.0 bounded p.front_are p.front_tokens s.3 say.1 in
+    let r = clause_reaches clause s.0 p.prefix d say.0 bounded p.prefix_are p.prefix_tokens s.3 say.1 in
     let rest = clauses_reach clauses s.1 p.back r.0 to r.3 p.back_are p.back_tokens s.4 (subst (λ (x : Stage). SayClauses x clauses to) r.2 say.2) in
     let here = r.1 in
-    let joined = each-append entry_in (outside d None) p.front p.back in
+    let joined = each-append entry_in (outside d None) p.prefix p.back in
     (rest.0, ap (λ (es : List Entry). each entry_in (outside d None) es) p.parts ∙ joined ∙ rw here rest.1, rest.2, rest.3)

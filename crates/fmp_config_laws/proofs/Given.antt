@@ -77,7 +77,7 @@ split (w ∷ words) rest (t ∷ tokens) e =
     let words_are = s.first_are in
     record { first = t ∷ s.first; end = s.end; others = s.others; parts = ap (λ (ts : List Lexeme). t ∷ ts) s.parts; first_are = rw (here, words_are) refl; end_is = s.end_is; others_are = s.others_are }
 
--- a directive at the front of some tokens
+-- a directive at the beginning of some tokens
 pub record Leads (tokens : List Lexeme) (words rest : List Glyph) : Type 0 where
   pub hash : Lexeme
   pub first : List Lexeme

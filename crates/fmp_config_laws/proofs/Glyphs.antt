@@ -7,7 +7,7 @@ use Rattle.std.proofs.lemmas.Bool.{cases_Bool, false≢true, eqb-true, eq-eqb, a
 use Rattle.std.proofs.lemmas.Bool.Decides.{nat_tests}
 use Rattle.std.proofs.lemmas.Slice.Eq.{bytes_eq-Decides}
 use Rattle.fmp_bytes.specs.declared.classes.Class.TheVariants.{Word, Letter, Digit}
-use Rattle.fmp_bytes.proofs.Fronts.{not_true}
+use Rattle.fmp_bytes.proofs.Prefixes.{not_true}
 use Rattle.fmp_bytes.specs.Bytes.{is_of, is_identifier}
 use Rattle.fmp_tokens.specs.declared.tokens.TokenKind.{TokenKind}
 use Rattle.fmp_tokens.specs.declared.tokens.TokenKind.TheVariants.{Identifier, Digits, Symbol, Text, Directive, DirectiveEnd}

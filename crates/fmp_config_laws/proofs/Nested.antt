@@ -26,25 +26,25 @@ closes tokens = times (codes ")") (texts tokens)
 -- balanced in so many parentheses that are open before
 pub record Nested (depth : ℕ) (tokens : List Glyph) : Type 0 where
   pub allowed : list_all may_be_free tokens ≡ true
-  pub fronts : (front rest : List Glyph) → tokens ≡ front ++ rest → closes front ≤ depth + opens front
+  pub prefixes : (prefix rest : List Glyph) → tokens ≡ prefix ++ rest → closes prefix ≤ depth + opens prefix
   pub balanced : depth + opens tokens ≡ closes tokens
-  pub commas : (front rest : List Glyph) → tokens ≡ front ++ (symbol 44 ∷ rest) → closes front < depth + opens front
+  pub commas : (prefix rest : List Glyph) → tokens ≡ prefix ++ (symbol 44 ∷ rest) → closes prefix < depth + opens prefix
 
 pub nested : (tokens : List Glyph) → IsFree tokens → Nested 0 tokens
 nested tokens s = record {
   allowed = s.allowed;
-  fronts = λ front rest e. let h = s.fronts front rest e in omega (arith, h);
+  prefixes = λ prefix rest e. let h = s.prefixes prefix rest e in omega (arith, h);
   balanced = let h = s.balanced in omega (arith, h);
-  commas = λ front rest e. let h = s.commas front rest e in omega (arith, h);
+  commas = λ prefix rest e. let h = s.commas prefix rest e in omega (arith, h);
 }
 
 pub free : (tokens : List Glyph) → 1 ≤ length tokens → Nested 0 tokens → IsFree tokens
 free tokens some s = record {
   some = some;
   allowed = s.allowed;
-  fronts = λ front rest e. let h = s.fronts front rest e in omega (arith, h);
+  prefixes = λ prefix rest e. let h = s.prefixes prefix rest e in omega (arith, h);
   balanced = let h = s.balanced in omega (arith, h);
-  commas = λ front rest e. let h = s.commas front rest e in omega (arith, h);
+  commas = λ prefix rest e. let h = s.commas prefix rest e in omega (arith, h);
 }
 
 -- how a token changes the depth
@@ -65,32 +65,32 @@ module _ (depth behind opened closed : ℕ) (token : Glyph) (tokens : List Glyph
   pub nested_behind : Nested depth (token ∷ tokens) → Nested behind tokens
   nested_behind s = record {
     allowed = (and_parts (may_be_free token) (list_all may_be_free tokens) s.allowed).1;
-    fronts = λ front rest e. let h = s.fronts (token ∷ front) rest (ap (λ (ts : List Glyph). token ∷ ts) e) in omega (arith, h, turn.open_count front, turn.close_count front, moves);
+    prefixes = λ prefix rest e. let h = s.prefixes (token ∷ prefix) rest (ap (λ (ts : List Glyph). token ∷ ts) e) in omega (arith, h, turn.open_count prefix, turn.close_count prefix, moves);
     balanced = let h = s.balanced in omega (arith, h, turn.open_count tokens, turn.close_count tokens, moves);
-    commas = λ front rest e. let h = s.commas (token ∷ front) rest (ap (λ (ts : List Glyph). token ∷ ts) e) in omega (arith, h, turn.open_count front, turn.close_count front, moves);
+    commas = λ prefix rest e. let h = s.commas (token ∷ prefix) rest (ap (λ (ts : List Glyph). token ∷ ts) e) in omega (arith, h, turn.open_count prefix, turn.close_count prefix, moves);
   }
 
-  fronts_before : Nested behind tokens → (front rest : List Glyph) → token ∷ tokens ≡ front ++ rest → closes front ≤ depth + opens front
-  fronts_before s [] rest e = omega arith
-  fronts_before s (t ∷ front) rest e =
+  prefixes_before : Nested behind tokens → (prefix rest : List Glyph) → token ∷ tokens ≡ prefix ++ rest → closes prefix ≤ depth + opens prefix
+  prefixes_before s [] rest e = omega arith
+  prefixes_before s (t ∷ prefix) rest e =
       let same : token ≡ t = cc in
-      let others : tokens ≡ front ++ rest = cc in
-      let h = s.fronts front rest others in
-      rw (← same) (omega (arith, h, turn.open_count front, turn.close_count front, moves))
+      let others : tokens ≡ prefix ++ rest = cc in
+      let h = s.prefixes prefix rest others in
+      rw (← same) (omega (arith, h, turn.open_count prefix, turn.close_count prefix, moves))
 
-  commas_before : Nested behind tokens → (token ≡ symbol 44 → 1 ≤ depth) → (front rest : List Glyph) → token ∷ tokens ≡ front ++ (symbol 44 ∷ rest) → closes front < depth + opens front
+  commas_before : Nested behind tokens → (token ≡ symbol 44 → 1 ≤ depth) → (prefix rest : List Glyph) → token ∷ tokens ≡ prefix ++ (symbol 44 ∷ rest) → closes prefix < depth + opens prefix
   commas_before s inside [] rest e = let same : token ≡ symbol 44 = cc in let h = inside same in omega (arith, h)
-  commas_before s inside (t ∷ front) rest e =
+  commas_before s inside (t ∷ prefix) rest e =
       let same : token ≡ t = cc in
-      let others : tokens ≡ front ++ (symbol 44 ∷ rest) = cc in
-      let h = s.commas front rest others in
-      rw (← same) (omega (arith, h, turn.open_count front, turn.close_count front, moves))
+      let others : tokens ≡ prefix ++ (symbol 44 ∷ rest) = cc in
+      let h = s.commas prefix rest others in
+      rw (← same) (omega (arith, h, turn.open_count prefix, turn.close_count prefix, moves))
 
   -- and before it
   pub nested_before : may_be_free token ≡ true → (token ≡ symbol 44 → 1 ≤ depth) → Nested behind tokens → Nested depth (token ∷ tokens)
   nested_before allowed inside s = record {
     allowed = and_from (may_be_free token) (list_all may_be_free tokens) allowed s.allowed;
-    fronts = fronts_before s;
+    prefixes = prefixes_before s;
     balanced = let h = s.balanced in omega (arith, h, turn.open_count tokens, turn.close_count tokens, moves);
     commas = commas_before s inside;
   }
@@ -149,7 +149,7 @@ module _ (depth : ℕ) (line : ℕ) (tokens : List Glyph) where
   close_steps : Nested depth (symbol 41 ∷ tokens) → Steps depth (symbol 41) line tokens
   unfolding next_free is_barred is_stop is_of
   close_steps s =
-      let some : 1 ≤ depth = (let h = s.fronts (symbol 41 ∷ []) tokens refl in omega (arith, h, (turns (symbol 41)).open_count [], (turns (symbol 41)).close_count [])) in
+      let some : 1 ≤ depth = (let h = s.prefixes (symbol 41 ∷ []) tokens refl in omega (arith, h, (turns (symbol 41)).open_count [], (turns (symbol 41)).close_count [])) in
       let test : eqb depth 0 ≡ false = ne_eqb depth 0 (λ e. omega (arith, e, some)) in
       (depth - 1, rw test refl, nested_behind depth (depth - 1) 0 1 (symbol 41) tokens (turns (symbol 41)) (omega (arith, some)) s)
 

@@ -1,6 +1,6 @@
 -- The tokens of a text: those between the beginning and the end of a directive, and the others.
 use Rattle.std.proofs.Common.{◌≡◌, ℕ, Bool, true, false, not, ◌&&◌, ◌||◌, ◌⊎◌, cond, eqb, inl, inr, List, [], ◌∷◌, ◌++◌, map, flat_map, refl, sym, ap, subst, ◌∙◌}
-use Rattle.fmp_bytes.proofs.Fronts.{not_true}
+use Rattle.fmp_bytes.proofs.Prefixes.{not_true}
 use Rattle.std.specs.List.{list_all}
 use Rattle.std.proofs.lemmas.Bool.{cases_Bool, false≢true, and_parts, and_from}
 use Rattle.fmp_bytes.specs.declared.classes.Class.TheVariants.{Space, Word}

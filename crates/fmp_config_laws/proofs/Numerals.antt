@@ -13,7 +13,7 @@ use Rattle.fmp_statements.specs.Faults.{fault_at}
 use Rattle.fmp_statements.specs.Numbers.{numeral}
 use Rattle.fmp_statements.specs.Words.{Word}
 use Rattle.fmp_config.specs.Numbers.{value_of, value_at, is_within, number_within, number_at}
-use Rattle.fmp_config_laws.specs.Meaning.{SpellsNumber, SaysNumber}
+use Rattle.fmp_config_laws.specs.Stages.{SpellsNumber, SaysNumber}
 use Rattle.fmp_config_laws.proofs.Results.{none_is, some_is, bind_parts, passed, and_then_parts, ok_or_parts, ok_is}
 
 -- a `-` and more

@@ -10,13 +10,15 @@ use Rattle.fmp_statements.specs.Table.{text_of}
 use Rattle.fmp_statements.specs.Words.{Word, is_mark}
 use Rattle.fmp_config.specs.declared.draft.OpenClass.{OpenClass}
 use Rattle.fmp_config.specs.Drafts.{Draft}
-use Rattle.fmp_config.specs.Judging.{place_fault, define}
+use Rattle.fmp_config.specs.Places.{place_fault}
+use Rattle.fmp_config.specs.Judging.{define}
 use Rattle.fmp_config.specs.Reading.{State, ends_class}
 use Rattle.fmp_token_laws.specs.Tokens.{Glyph, glyph_of}
 use Rattle.fmp_config_laws.specs.Elements.{Element, Plain, Defined, Skipped, is_plain, identifier, plain_of, definitions_of, symbol}
 use Rattle.fmp_config_laws.specs.Phrases.{Phrase}
 use Rattle.fmp_config_laws.specs.Clauses.{Clause, Statement, EndOfClass, Defining, Skipping, SpellsStatement, SpellsClause, SpellsClauses}
-use Rattle.fmp_config_laws.specs.Meaning.{Stage, AddsAll, Says, SaysClause, SayClauses}
+use Rattle.fmp_config_laws.specs.Stages.{Stage, AddsAll}
+use Rattle.fmp_config_laws.specs.Meaning.{Says, SaysClause, SayClauses}
 use Rattle.fmp_config_laws.proofs.Results.{ok_is, bind_parts, each_parts, each-none, none_is}
 use Rattle.fmp_config_laws.proofs.Stages.{phrase_of, stage_of, AreUnsigned, IsBounded}
 use Rattle.fmp_config_laws.proofs.Judged.{defined_adds}

@@ -48,7 +48,7 @@ SpellsScan Nothing Follows before glyphs = Follows before glyphs
 abbrev pub SpellsForm : Scan → List Part → Phrase → Phrase → List Glyph → Type 0
 SpellsForm scan rest before after glyphs = SpellsScan scan (λ words others. SpellsParts rest words after others) before glyphs
 
--- ---- at the front of a part
+-- ---- at the beginning of a part
 
 pub part_from : (part : Part) (rest : List Part) (before after : Phrase) (glyphs : List Glyph) → SpellsForm (scan_of part) rest before after glyphs → SpellsParts (part ∷ rest) before after glyphs
 part_from (parts.Mark byte) rest before after glyphs s = s
@@ -168,16 +168,16 @@ module _ (Follows : Phrase → List Glyph → Type 0) (t : Lexeme) (is : is_glyp
 
 -- ---- where a part may end
 
-no_front : (depth : ℕ) (front rest : List Glyph) → [] ≡ front ++ rest → closes front ≤ depth + opens front
-no_front depth [] rest e = omega arith
-no_front depth (g ∷ front) rest e = absurd cc
+no_prefix : (depth : ℕ) (prefix rest : List Glyph) → [] ≡ prefix ++ rest → closes prefix ≤ depth + opens prefix
+no_prefix depth [] rest e = omega arith
+no_prefix depth (g ∷ prefix) rest e = absurd cc
 
-no_comma : (front rest : List Glyph) → [] ≡ front ++ (symbol 44 ∷ rest) → ⊥
+no_comma : (prefix rest : List Glyph) → [] ≡ prefix ++ (symbol 44 ∷ rest) → ⊥
 no_comma [] rest e = absurd cc
-no_comma (g ∷ front) rest e = absurd cc
+no_comma (g ∷ prefix) rest e = absurd cc
 
 nested_none : (depth : ℕ) → depth ≡ 0 → Nested depth []
-nested_none depth none = record { allowed = refl; fronts = no_front depth; balanced = omega (arith, none); commas = λ front rest e. absurd (no_comma front rest e) }
+nested_none depth none = record { allowed = refl; prefixes = no_prefix depth; balanced = omega (arith, none); commas = λ prefix rest e. absurd (no_comma prefix rest e) }
 
 pub ends : (Follows : Phrase → List Glyph → Type 0) (scan : Scan) (before : Phrase) (glyphs : List Glyph) → may_end scan ≡ true → Follows before glyphs → SpellsScan scan Follows before glyphs
 ends Follows (Mark byte) before glyphs e k = absurd (false≢true e)

@@ -13,10 +13,10 @@ use Rattle.fmp_statements.specs.Table.{first_range, second_range}
 use Rattle.fmp_statements.specs.Words.{Word}
 use Rattle.fmp_config.specs.declared.numbers.Numbers.{Numbers}
 use Rattle.fmp_config.specs.Drafts.{Draft}
-use Rattle.fmp_config.specs.Judging.{counts_fit}
+use Rattle.fmp_config.specs.Objects.{counts_fit}
 use Rattle.fmp_config.specs.Numbers.{number_at, numbers_of}
 use Rattle.fmp_machine.specs.Setup.{Setup}
-use Rattle.fmp_config_laws.specs.Meaning.{Stage, SayNumbers}
+use Rattle.fmp_config_laws.specs.Stages.{Stage, SayNumbers}
 use Rattle.fmp_config_laws.specs.Phrases.{Phrase}
 use Rattle.fmp_config_laws.proofs.Results.{ok_is, bind_parts}
 use Rattle.fmp_config_laws.proofs.Numerals.{AreNames, is_signed, most_numeral, number_within_parts, number_at-spelled, number_at_is_spelled}

@@ -12,14 +12,16 @@ use Rattle.fmp_statements.specs.Forms.{Form}
 use Rattle.fmp_statements.specs.Words.{Word}
 use Rattle.fmp_config.specs.declared.draft.Phase.TheVariants as phases
 use Rattle.fmp_config.specs.Drafts.{Draft}
-use Rattle.fmp_config.specs.Judging.{new_name, count_processors, timer_of, choose_timer, set_limits, define_class, begin_class, judged}
+use Rattle.fmp_config.specs.Objects.{new_name}
+use Rattle.fmp_config.specs.Judging.{count_processors, timer_of, choose_timer, set_limits, define_class, begin_class, judged}
 use Rattle.fmp_config.specs.Numbers.{number_within, numbers_of, class_of}
 use Rattle.fmp_machine.specs.declared.setup.Class.{Class}
 use Rattle.fmp_machine.specs.declared.setup.Timer.{Timer}
 use Rattle.fmp_machine.specs.declared.setup.Timer.TheVariants as timer
 use Rattle.fmp_machine.specs.Building.{class_named, with_class, with_timer, with_limits, with_processors}
 use Rattle.fmp_machine.specs.Setup.{Setup}
-use Rattle.fmp_config_laws.specs.Meaning.{Stage, SpellsNumber, is_processor, DefinesClass, ChoosesTimer, Says}
+use Rattle.fmp_config_laws.specs.Stages.{Stage, SpellsNumber, is_processor}
+use Rattle.fmp_config_laws.specs.Meaning.{DefinesClass, ChoosesTimer, Says}
 use Rattle.fmp_config_laws.proofs.Results.{ok_is, bind_parts, ok_or_parts}
 use Rattle.fmp_config_laws.proofs.Numerals.{number_some, is_signed, value_at_is_spelled, number_within-spelled, number_within_parts}
 use Rattle.fmp_config_laws.proofs.Classes.{class_of-spelled, class_of_is_spelled}

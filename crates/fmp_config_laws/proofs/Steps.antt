@@ -18,7 +18,8 @@ use Rattle.fmp_statements.specs.Table.{text_of, statement_of}
 use Rattle.fmp_statements.specs.Words.{word_of, is_identifier_kind, is_directive_kind, is_end_kind}
 use Rattle.fmp_statements.proofs.Found.{statement_of-text_of}
 use Rattle.fmp_config.specs.Drafts.{Draft}
-use Rattle.fmp_config.specs.Judging.{place_fault, judged}
+use Rattle.fmp_config.specs.Places.{place_fault}
+use Rattle.fmp_config.specs.Judging.{judged}
 use Rattle.fmp_config.specs.Reading.{State, statement_at, placed, ends_class, first_token, form_read, form_token, code_token}
 use Rattle.fmp_token_laws.specs.Tokens.{Glyph, glyph_of}
 use Rattle.fmp_config_laws.specs.Elements.{identifier, is_plain}

@@ -90,9 +90,9 @@ none_barred (parts.Series c item ∷ rest) before after b s = false≢true b
 none_barred (parts.Free ∷ rest) before after b s = false≢true b
 none_barred (parts.Method ∷ rest) before after b s = false≢true b
 
-no_front : (front others : List Glyph) → [] ≡ front ++ others → others ≡ []
-no_front [] others e = sym e
-no_front (g ∷ front) others e = absurd cc
+no_prefix : (prefix others : List Glyph) → [] ≡ prefix ++ others → others ≡ []
+no_prefix [] others e = sym e
+no_prefix (g ∷ prefix) others e = absurd cc
 
 no_separated : (mark : Glyph) (words others : List Glyph) → [] ≡ separated mark words ++ others → 1 ≤ length words → ⊥
 no_separated mark [] others e some = omega (arith, some)
@@ -106,7 +106,7 @@ none_parted (parts.One item ∷ rest) before after sound s = let e = s.2 in absu
 none_parted (parts.Series c item ∷ rest) before after sound s = absurd (no_separated _ s.0 s.1 s.2 s.3)
 none_parted (parts.Free ∷ rest) before after sound s =
     let both = and_parts (is_barrier rest) (is_sound rest) sound in
-    absurd (none_barred rest before after both.0 (subst (λ (gs : List Glyph). SpellsParts rest before after gs) (no_front s.0 s.1 s.2) s.4))
+    absurd (none_barred rest before after both.0 (subst (λ (gs : List Glyph). SpellsParts rest before after gs) (no_prefix s.0 s.1 s.2) s.4))
 none_parted (parts.Method ∷ rest) before after sound s = elim s [ inl local ↦ absurd (let e = local.2 in cc) | inr global ↦ absurd (let e = global.3 in cc) ]
 
 none_left : (scan : Scan) (rest : List Part) (before after : Phrase) → is_behind scan rest ≡ true → is_sound rest ≡ true → SpellsForm scan rest before after [] → Ends scan rest before after
@@ -114,9 +114,9 @@ none_left (Mark byte) rest before after behind sound s = absurd (let e = s.1 in 
 none_left (One item) rest before after behind sound s = absurd (let e = s.2 in cc)
 none_left (Next byte item) rest before after behind sound s = absurd (no_separated _ s.0 s.1 s.2 s.3)
 none_left (More byte item) rest before after behind sound s =
-    absurd (none_apart byte rest (with_words item s.0 before) after behind (subst (λ (gs : List Glyph). SpellsParts rest (with_words item s.0 before) after gs) (no_front _ s.1 s.2) s.4))
+    absurd (none_apart byte rest (with_words item s.0 before) after behind (subst (λ (gs : List Glyph). SpellsParts rest (with_words item s.0 before) after gs) (no_prefix _ s.1 s.2) s.4))
 none_left (Free depth taken) rest before after behind sound s =
-    absurd (none_barred rest before after behind (subst (λ (gs : List Glyph). SpellsParts rest before after gs) (no_front s.0 s.1 s.2) s.5))
+    absurd (none_barred rest before after behind (subst (λ (gs : List Glyph). SpellsParts rest before after gs) (no_prefix s.0 s.1 s.2) s.5))
 none_left Method rest before after behind sound s = elim s [ inl local ↦ absurd (let e = local.2 in cc) | inr global ↦ absurd (let e = global.3 in cc) ]
 none_left Master rest before after behind sound s = absurd (let e = s.2 in cc)
 none_left Nothing rest before after behind sound s = none_parted rest before after sound s

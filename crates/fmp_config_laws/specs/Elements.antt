@@ -55,8 +55,7 @@ SpellsElements (Skipped ∷ elements) glyphs =
 abbrev pub plain_of : List Element → List Glyph
 plain_of [] = []
 plain_of (Plain g ∷ elements) = g ∷ plain_of elements
-plain_of (Defined name number ∷ elements) = plain_of elements
-plain_of (Skipped ∷ elements) = plain_of elements
+plain_of (_ ∷ elements) = plain_of elements
 
 -- a name and its number
 pub record Definition : Type 0 where
@@ -66,6 +65,5 @@ pub record Definition : Type 0 where
 -- the definitions among them
 abbrev pub definitions_of : List Element → List Definition
 definitions_of [] = []
-definitions_of (Plain g ∷ elements) = definitions_of elements
 definitions_of (Defined name number ∷ elements) = record { name = name; number = number } ∷ definitions_of elements
-definitions_of (Skipped ∷ elements) = definitions_of elements
+definitions_of (_ ∷ elements) = definitions_of elements

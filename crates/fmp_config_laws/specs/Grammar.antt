@@ -5,7 +5,8 @@ use Rattle.fmp_machine.specs.Setup.{Setup}
 use Rattle.fmp_token_laws.specs.Tokens.{Glyph, SpellsTokens}
 use Rattle.fmp_config_laws.specs.Elements.{Element, SpellsElements}
 use Rattle.fmp_config_laws.specs.Clauses.{Clause, SpellsClauses}
-use Rattle.fmp_config_laws.specs.Meaning.{Stage, no_stage, SayClauses}
+use Rattle.fmp_config_laws.specs.Stages.{Stage, no_stage}
+use Rattle.fmp_config_laws.specs.Meaning.{SayClauses}
 
 -- a text of tokens that are directives and clauses, which lead to the configuration, with the number of processors among them and no class left open
 pub record Configures (text : List ℕ) (c : Setup) : Type 0 where

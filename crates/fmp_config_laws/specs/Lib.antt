@@ -1,5 +1,6 @@
 pub mod Elements  -- Directives, apart from how they are read
 pub mod Phrases  -- The parts of statements, apart from how they are read: which tokens may stand in them.
 pub mod Clauses  -- What a text says, one after the other, apart from how it is read.
+pub mod Stages  -- How far a text has come, the names that stand for numbers, and the numbers for which words stand.
 pub mod Meaning  -- What statements say: how a configuration grows by them, and which may follow it.
 pub mod Grammar  -- The grammar of configuration texts, apart from how they are read: which texts say which configuration.

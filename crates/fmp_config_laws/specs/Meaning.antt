@@ -1,90 +1,32 @@
 -- What statements say: how a configuration grows by them, and which may follow it.
-use Rattle.std.specs.Prelude.{◌≡◌, ℕ, ◌≤◌, ◌<◌, ◌⊎◌, Bool, true, false, not, ◌&&◌, ◌||◌, List, [], ◌∷◌, length, map, Option, Some, None, is_some, nat_le, ◌==◌, All, Contains}
+use Rattle.std.specs.Prelude.{ℕ, ◌≡◌, ◌<◌, ◌⊎◌, Bool, true, false, not, ◌&&◌, ◌||◌, List, [], ◌∷◌, length, map, Some, None, is_some, ◌==◌, All, Contains}
 use Rattle.std.specs.List.{list_all, list_any}
-use Rattle.fmp_bytes.specs.Spelling.{SpellsUnsigned}
 use Rattle.fmp_codes.specs.Numbers.{as_proc}
 use Rattle.fmp_calls.specs.declared.kinds.NameKind.TheVariants.{Object}
 use Rattle.fmp_calls.specs.declared.kinds.ObjectKind.{ObjectKind}
-use Rattle.fmp_names.specs.Names.{NameLists, is_name, number_defined, has_room, has_room_to_define}
+use Rattle.fmp_names.specs.Names.{has_room}
 use Rattle.fmp_statements.specs.declared.attributes.Attribute.{Attribute}
 use Rattle.fmp_statements.specs.declared.attributes.Attributes.{Attributes}
-use Rattle.fmp_statements.specs.declared.table.Range.{Range}
 use Rattle.fmp_statements.specs.declared.table.StatementName.{StatementName}
 use Rattle.fmp_statements.specs.declared.table.StatementName.TheVariants as statements
 use Rattle.fmp_statements.specs.Attributes.{text_of, no_attributes, with_attribute}
-use Rattle.fmp_statements.specs.Table.{allowed_of, first_range, second_range}
-use Rattle.fmp_config.specs.declared.draft.Phase.{Phase}
+use Rattle.fmp_statements.specs.Table.{allowed_of}
 use Rattle.fmp_config.specs.declared.draft.Phase.TheVariants as phases
 use Rattle.fmp_config.specs.declared.numbers.Numbers.{Numbers}
 use Rattle.fmp_config.specs.Drafts.{is_start}
-use Rattle.fmp_config.specs.Judging.{counts_fit, is_handled, fields_of}
+use Rattle.fmp_config.specs.Objects.{counts_fit, is_handled, fields_of}
 use Rattle.fmp_machine.specs.declared.setup.Class.{Class}
 use Rattle.fmp_machine.specs.declared.setup.Timer.TheVariants as timer
-use Rattle.fmp_machine.specs.Building.{of_processors, class_named, is_refused, with_class, with_object, with_defined, with_timer, with_limits, with_processors}
-use Rattle.fmp_machine.specs.Setup.{Setup}
-use Rattle.fmp_config_laws.specs.Elements.{Definition}
+use Rattle.fmp_machine.specs.Building.{class_named, is_refused, with_class, with_object, with_timer, with_limits, with_processors}
 use Rattle.fmp_config_laws.specs.Phrases.{Phrase}
 use Rattle.fmp_config_laws.specs.Clauses.{Clause, Statement, EndOfClass, Defining, Skipping}
-
--- the configuration so far, the class whose statements follow, how far the text has come, and which statements stood
-pub record Stage : Type 0 where
-  pub setup : Setup
-  pub class : Option Class
-  pub phase : Phase
-  pub timer_stood : Bool
-  pub limits_stood : Bool
-
--- nothing is said yet
-abbrev pub no_stage : Stage
-no_stage = record { setup = of_processors 1; class = None; phase = phases.Start; timer_stood = false; limits_stood = false }
-
--- behind the number of processors, before the first class is opened
-abbrev pub is_head : Phase → Bool
-is_head phases.Head = true
-is_head _ = false
-
--- ---- definitions
-
--- a name with the same number says nothing; else the name is new, and one of at most 1024
-abbrev pub Adds : Stage → Definition → Stage → Type 0
-Adds s d next =
-    ((number_defined s.setup.names d.name ≡ Some d.number) × (next ≡ s))
-    ⊎ ((number_defined s.setup.names d.name ≡ None) × (is_refused s.setup d.name ≡ false) × (has_room_to_define s.setup.names ≡ true)
-    × (next ≡ record s { setup = with_defined s.setup d.name d.number }))
-
-abbrev pub AddsAll : Stage → List Definition → Stage → Type 0
-AddsAll s [] next = next ≡ s
-AddsAll s (d ∷ definitions) next = (between : Stage) × Adds s d between × AddsAll between definitions next
-
--- ---- numbers
-
--- a numeral, or a name that stands for the number
-abbrev pub SpellsNumber : NameLists → List ℕ → ℕ → Type 0
-SpellsNumber names word n = SpellsUnsigned word n ⊎ ((is_name word ≡ true) × (number_defined names word ≡ Some n))
-
--- a number of the range, or 0 where there is none
-abbrev pub SaysNumber : NameLists → Option Range → List ℕ → ℕ → Type 0
-SaysNumber names None word n = n ≡ 0
-SaysNumber names (Some range) word n = SpellsNumber names word n × (range.least ≤ n) × (n ≤ range.most)
-
-pub record SayNumbers (c : Setup) (name : StatementName) (phrase : Phrase) (n : Numbers) : Type 0 where
-  pub first : SaysNumber c.names (first_range name c.processors c.limits.priorities) phrase.first n.first
-  pub second : SaysNumber c.names (second_range name) phrase.second n.second
-
--- each word stands for its number
-abbrev pub SpellNumbers : NameLists → List (List ℕ) → List ℕ → Type 0
-SpellNumbers names [] [] = Unit {0}
-SpellNumbers names (word ∷ words) (n ∷ numbers) = SpellsNumber names word n × SpellNumbers names words numbers
-SpellNumbers names _ _ = ⊥
+use Rattle.fmp_config_laws.specs.Stages.{Stage, is_head, Adds, AddsAll, SpellsNumber, SayNumbers, SpellNumbers, is_processor}
 
 -- ---- classes
 
 -- which of the eight processors are among these
 abbrev pub members_of : List ℕ → List Bool
 members_of numbers = map (λ p. list_any (λ n. n == p) numbers) (1 ∷ 2 ∷ 3 ∷ 4 ∷ 5 ∷ 6 ∷ 7 ∷ 8 ∷ [])
-
-abbrev pub is_processor : ℕ → ℕ → Bool
-is_processor processors n = nat_le 1 n && nat_le n processors
 
 -- a class may follow: its name is new, it is one of at most 32, its processors are of this machine, and it begins on one of them
 pub record DefinesClass (s : Stage) (phrase : Phrase) (next : Stage) : Type 0 where

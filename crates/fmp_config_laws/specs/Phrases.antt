@@ -65,14 +65,14 @@ texts glyphs = map (λ g. g.text) glyphs
 abbrev pub may_be_free : Glyph → Bool
 may_be_free g = not (bytes_eq g.text (codes "{") || bytes_eq g.text (codes "}")) && (not (is_identifier g.text) || is_name g.text)
 
--- one or more tokens with balanced parentheses: no front closes more than it opens, and all of them close as many as they open.
+-- one or more tokens with balanced parentheses: no prefix closes more than it opens, and all of them close as many as they open.
 -- A comma stands inside parentheses alone: before it more are open than closed
 pub record IsFree (glyphs : List Glyph) : Type 0 where
   pub some : 1 ≤ length glyphs
   pub allowed : list_all may_be_free glyphs ≡ true
-  pub fronts : (front rest : List Glyph) → glyphs ≡ front ++ rest → times (codes ")") (texts front) ≤ times (codes "(") (texts front)
+  pub prefixes : (prefix rest : List Glyph) → glyphs ≡ prefix ++ rest → times (codes ")") (texts prefix) ≤ times (codes "(") (texts prefix)
   pub balanced : times (codes "(") (texts glyphs) ≡ times (codes ")") (texts glyphs)
-  pub commas : (front rest : List Glyph) → glyphs ≡ front ++ (symbol 44 ∷ rest) → times (codes ")") (texts front) < times (codes "(") (texts front)
+  pub commas : (prefix rest : List Glyph) → glyphs ≡ prefix ++ (symbol 44 ∷ rest) → times (codes ")") (texts prefix) < times (codes "(") (texts prefix)
 
 -- `LOCAL`, or `GLOBAL`, a comma and a number
 abbrev pub SpellsMethod : (Phrase → List Glyph → Type 0) → Phrase → List Glyph → Type 0

@@ -1,5 +1,5 @@
 -- What is read of a line leaves an end of it.
-use Rattle.std.proofs.Common.{◌≡◌, ℕ, zero, suc, ◌+◌, ◌==◌, Bool, true, false, List, [], ◌∷◌, ◌++◌, take, drop, Option, Some, None, refl, sym, ap, ◌∙◌, append_assoc, codes}
+use Rattle.std.proofs.Common.{ℕ, zero, suc, ◌+◌, ◌==◌, Bool, true, false, List, [], ◌∷◌, ◌++◌, take, Option, Some, None, refl, sym, ap, ◌∙◌, append_assoc, codes}
 use Rattle.std.specs.Prelude.{◌||◌, is_err, if◌then◌else◌}
 use Rattle.std.specs.List.{list_all, prefix_len}
 use Rattle.std.specs.Option.{option_map_or}
@@ -7,7 +7,7 @@ use Rattle.std.specs.Str.{bytes_eq}
 use Rattle.std.proofs.lemmas.List.{append-nil, take-append-drop}
 use Rattle.fmp_bytes.specs.declared.classes.Class.{Class}
 use Rattle.fmp_bytes.specs.declared.classes.Class.TheVariants.{Blank, Word, Argument, Line}
-use Rattle.fmp_bytes.specs.Bytes.{is_of, front, after, behind}
+use Rattle.fmp_bytes.specs.Bytes.{is_of, prefix, after, behind}
 use Rattle.fmp_calls.specs.declared.kinds.ArgumentKind.{ArgumentKind}
 use Rattle.fmp_calls.specs.Table.{is_bare, kinds_of, named}
 use Rattle.fmp_codes.specs.declared.calls.Call.{Call}
@@ -57,7 +57,7 @@ mark_within call byte w l p =
 
 filled_within : (names : NameLists) (judged : Bool) (call : Call) (kind : ArgumentKind) (text : List ℕ) → IsEnd (filled names judged call kind text).rest text
 filled_within names judged call kind text =
-    chosen (fits names judged kind (front Argument text)) (going (after Argument text)) (stuck text (wants.Argument call kind)) text (skipped Argument text) (whole text)
+    chosen (fits names judged kind (prefix Argument text)) (going (after Argument text)) (stuck text (wants.Argument call kind)) text (skipped Argument text) (whole text)
 
 argument_within : (names : NameLists) (judged : Bool) (call : Call) (kind : ArgumentKind) (w : Walk) (l : List ℕ) → IsEnd w.rest l → IsEnd (argument names judged call kind w).rest l
 unfolding argument
@@ -102,16 +102,16 @@ behind_within names call text =
 happening_within : (names : NameLists) (text : List ℕ) → IsEnd (happening names text).rest text
 unfolding happening
 happening_within names text =
-    chosen (bytes_eq (front Word text) (codes "tick") || bytes_eq (front Word text) (codes "ipi")) (ending wants.LineEnd (going (after Word text))) _ text
+    chosen (bytes_eq (prefix Word text) (codes "tick") || bytes_eq (prefix Word text) (codes "ipi")) (ending wants.LineEnd (going (after Word text))) _ text
     (ending_within wants.LineEnd (going (after Word text)) text (skipped Word text))
-    (given (named (front Word text)) (λ call. behind_name names call (after Word text)) (stuck text wants.Happening) text
+    (given (named (prefix Word text)) (λ call. behind_name names call (after Word text)) (stuck text wants.Happening) text
     (λ call. chained _ (after Word text) text (behind_within names call (after Word text)) (skipped Word text)) (whole text))
 
 on_within : (names : NameLists) (text : List ℕ) → IsEnd (on_processor names text).rest text
 unfolding on_processor
 on_within names text =
     let rest = after Blank (after Word text) in
-    chosen (is_err (processor_in names (front Word text))) (stuck text wants.Processor) (happening names rest) text (whole text)
+    chosen (is_err (processor_in names (prefix Word text))) (stuck text wants.Processor) (happening names rest) text (whole text)
     (chained _ rest text (happening_within names rest) (chained rest (after Word text) text (skipped Blank (after Word text)) (skipped Word text)))
 
 line_within : (names : NameLists) (line : List ℕ) → IsEnd (line_place names line).rest line

@@ -4,7 +4,7 @@ use Rattle.std.specs.List.{list_all}
 use Rattle.std.specs.Option.{option_map_or}
 use Rattle.std.specs.Str.{bytes_eq}
 use Rattle.fmp_bytes.specs.declared.classes.Class.TheVariants.{Blank, Word, Argument, Line}
-use Rattle.fmp_bytes.specs.Bytes.{is_of, front, after, behind}
+use Rattle.fmp_bytes.specs.Bytes.{is_of, prefix, after, behind}
 use Rattle.fmp_calls.specs.declared.kinds.ArgumentKind.{ArgumentKind}
 use Rattle.fmp_calls.specs.Table.{is_bare, kinds_of, named}
 use Rattle.fmp_codes.specs.declared.calls.Call.{Call}
@@ -14,7 +14,7 @@ use Rattle.fmp_names.specs.Names.{NameLists}
 use Rattle.fmp_text.specs.Argument.{is_argument, value_at}
 use Rattle.fmp_text.specs.Lines.{is_skipped, processor_in, without_return}
 
--- where reading stands: the rest of the line, and what is wanted at its front where it does not go on so
+-- where reading stands: the rest of the line, and what is wanted at its beginning where it does not go on so
 pub record Walk : Type 0 where
   pub rest : List ℕ
   pub wanted : Option Wanted
@@ -46,7 +46,7 @@ fits names judged kind token = is_argument token && (not judged || is_ok (value_
 -- what follows an argument
 abbrev pub filled : NameLists → Bool → Call → ArgumentKind → List ℕ → Walk
 filled names judged call kind text =
-    if fits names judged kind (front Argument text) then going (after Argument text) else stuck text (wants.Argument call kind)
+    if fits names judged kind (prefix Argument text) then going (after Argument text) else stuck text (wants.Argument call kind)
 
 -- blanks, and an argument
 unfoldable pub argument : NameLists → Bool → Call → ArgumentKind → Walk → Walk
@@ -88,13 +88,13 @@ behind_name names call text =
 -- what happens on a processor
 unfoldable pub happening : NameLists → List ℕ → Walk
 happening names text =
-    if bytes_eq (front Word text) (codes "tick") || bytes_eq (front Word text) (codes "ipi") then ending wants.LineEnd (going (after Word text))
-    else option_map_or (λ call. behind_name names call (after Word text)) (named (front Word text)) (stuck text wants.Happening)
+    if bytes_eq (prefix Word text) (codes "tick") || bytes_eq (prefix Word text) (codes "ipi") then ending wants.LineEnd (going (after Word text))
+    else option_map_or (λ call. behind_name names call (after Word text)) (named (prefix Word text)) (stuck text wants.Happening)
 
 -- a line that begins with no blank
 unfoldable pub on_processor : NameLists → List ℕ → Walk
 on_processor names text =
-    if is_err (processor_in names (front Word text)) then stuck text wants.Processor
+    if is_err (processor_in names (prefix Word text)) then stuck text wants.Processor
     else happening names (after Blank (after Word text))
 
 -- a line that is not to be skipped

@@ -4,7 +4,7 @@ use Rattle.std.specs.List.{list_all}
 use Rattle.std.specs.Option.{option_map_or}
 use Rattle.std.specs.Str.{bytes_eq}
 use Rattle.fmp_bytes.specs.declared.classes.Class.TheVariants.{Blank, Word, Line, Printed}
-use Rattle.fmp_bytes.specs.Bytes.{is_of, is_identifier, front, after}
+use Rattle.fmp_bytes.specs.Bytes.{is_of, is_identifier, prefix, after}
 use Rattle.fmp_calls.specs.Table.{named}
 use Rattle.fmp_context.specs.declared.text.TextForm.{TextForm}
 use Rattle.fmp_context.specs.declared.text.TextForm.TheVariants as forms
@@ -22,15 +22,15 @@ use Rattle.fmp_text.specs.Lines.{without_return}
 -- a function's name, or what stands behind it
 unfoldable pub function_place : List ℕ → Walk
 function_place text =
-    if is_identifier (front Word text) && not (list_all (is_of Blank) (after Word text)) then stuck (after Blank (after Word text)) wants.LineEnd
+    if is_identifier (prefix Word text) && not (list_all (is_of Blank) (after Word text)) then stuck (after Blank (after Word text)) wants.LineEnd
     else stuck text wants.Function
 
 -- a line of a script by its first word: behind `script` and `end`, in the arguments of a call, or at a word that is no call
 unfoldable pub step_place : NameLists → List ℕ → Walk
 step_place names text =
-    if bytes_eq (front Word text) (codes "script") then function_place (after Blank (after Word text))
-    else (if bytes_eq (front Word text) (codes "end") then ending wants.LineEnd (going (after Word text))
-    else option_map_or (λ call. behind_name names call (after Word text)) (named (front Word text)) (stuck text wants.Step))
+    if bytes_eq (prefix Word text) (codes "script") then function_place (after Blank (after Word text))
+    else (if bytes_eq (prefix Word text) (codes "end") then ending wants.LineEnd (going (after Word text))
+    else option_map_or (λ call. behind_name names call (after Word text)) (named (prefix Word text)) (stuck text wants.Step))
 
 -- a line of a script that has such a fault. A bad word is the first one
 abbrev pub script_kind_place : NameLists → List ℕ → TextKind → Walk

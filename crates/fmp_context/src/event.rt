@@ -7,7 +7,7 @@ ghost use Rattle.fmp_context.specs.Places as spec;
 use crate::excerpt::put_excerpt;
 use crate::walk::{Walk, behind_name, ending};
 use crate::wanted::{Wanted, put_wanted};
-use fmp_bytes::{Class, all_of, skip, split_front};
+use fmp_bytes::{Class, all_of, skip, split_prefix};
 use fmp_calls::find_call;
 use fmp_text::{Names, TextKind, is_skipped, line_event, processor_in, without_return};
 use std::alloc::{AllocError, Global};
@@ -17,7 +17,7 @@ use std::alloc::{AllocError, Global};
 fn happening<'a>(names: &Names, text: &'a [u8]) -> Walk<'a>
     ensures { result ≡ spec.happening names.now text.now }
 {
-    let (word, rest) = split_front(Class::Word, text);
+    let (word, rest) = split_prefix(Class::Word, text);
     if word == b"tick".as_slice() || word == b"ipi".as_slice() {
         return ending(Wanted::LineEnd, Walk::going(rest));
     }
@@ -31,7 +31,7 @@ fn happening<'a>(names: &Names, text: &'a [u8]) -> Walk<'a>
 fn on_processor<'a>(names: &Names, text: &'a [u8]) -> Walk<'a>
     ensures { result ≡ spec.on_processor names.now text.now }
 {
-    let (word, rest) = split_front(Class::Word, text);
+    let (word, rest) = split_prefix(Class::Word, text);
     if processor_in(names, word).is_err() {
         return Walk::stuck(text, Wanted::Processor);
     }

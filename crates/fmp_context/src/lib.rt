@@ -1,4 +1,11 @@
 //! What stands beside a fault line: the line of the text, a caret under the first byte at fault, and what is wanted there.
+//!
+//! A [`Walk`] goes over a line as its reader does, and stops where the reader refuses. Each contract is one equation with a
+//! definition: of a line of events (`specs/Places`), of scripts and traces (`specs/Texts`), and of a configuration
+//! (`specs/Configs`). The law `places_are_in_their_lines` says that the place of a line of events is in that line.
+//!
+//! That the caret is where the reader refuses is only tested. Begin at [`event_context`], [`text_context`] and
+//! [`config_context`].
 #![tactic(auto)]
 
 mod config;

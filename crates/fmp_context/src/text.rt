@@ -8,7 +8,7 @@ use crate::excerpt::put_excerpt;
 use crate::line::line_behind;
 use crate::walk::{Walk, behind_name, ending};
 use crate::wanted::Wanted;
-use fmp_bytes::{Class, all_of, is_identifier, skip, split_front};
+use fmp_bytes::{Class, all_of, is_identifier, skip, split_prefix};
 use fmp_calls::find_call;
 use fmp_help::put_text_advice;
 use fmp_text::{Names, TextFault, TextKind, without_return};
@@ -27,7 +27,7 @@ pub enum TextForm {
 fn function_place<'a>(text: &'a [u8]) -> Walk<'a>
     ensures { result ≡ spec.function_place text.now }
 {
-    let (name, rest) = split_front(Class::Word, text);
+    let (name, rest) = split_prefix(Class::Word, text);
     if is_identifier(name) && !all_of(Class::Blank, rest) {
         Walk::stuck(skip(Class::Blank, rest), Wanted::LineEnd)
     } else {
@@ -40,7 +40,7 @@ fn function_place<'a>(text: &'a [u8]) -> Walk<'a>
 fn step_place<'a>(names: &Names, text: &'a [u8]) -> Walk<'a>
     ensures { result ≡ spec.step_place names.now text.now }
 {
-    let (word, rest) = split_front(Class::Word, text);
+    let (word, rest) = split_prefix(Class::Word, text);
     if word == b"script".as_slice() {
         return function_place(skip(Class::Blank, rest));
     }

@@ -3,13 +3,13 @@ ghost use Rattle.std.specs.Prelude.{◌≡◌, [], Some, None};
 ghost use Rattle.fmp_context.specs.Places as spec;
 
 use crate::wanted::Wanted;
-use fmp_bytes::{Class, behind, skip, split_front};
+use fmp_bytes::{Class, behind, skip, split_prefix};
 use fmp_calls::{ArgumentKind, form};
 use fmp_codes::Call;
 use fmp_text::{Names, is_argument, value_at};
 use std::marker::Model;
 
-/// Where reading stands: the rest of the line, and what is wanted at its front where it does not go on so.
+/// Where reading stands: the rest of the line, and what is wanted at its beginning where it does not go on so.
 #[derive(Debug, Drop)]
 pub struct Walk<'a> {
     rest: &'a [u8],
@@ -96,7 +96,7 @@ fn argument<'a>(
         return walk;
     }
     let text = skip(Class::Blank, walk.rest());
-    let (token, rest) = split_front(Class::Argument, text);
+    let (token, rest) = split_prefix(Class::Argument, text);
     if fits(names, judged, kind, token) {
         Walk::going(rest)
     } else {

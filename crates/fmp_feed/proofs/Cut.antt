@@ -115,16 +115,16 @@ moved names (Move.Close ∷ moves) old new leads more =
 moved names (Move.Next answer ∷ moves) old new leads more =
     given names old leads.0 answer (events_of moves) (text_of moves ++ coming new.ended more) (ahead names new more) leads.1 (moved names moves leads.0 new leads.3 more)
 
-pub pieces_front : (names : NameLists) (moves : List Move) (feed : Feed) → LeadsTo names new_feed moves feed → (more : List ℕ)
+pub pieces_prefix : (names : NameLists) (moves : List Move) (feed : Feed) → LeadsTo names new_feed moves feed → (more : List ℕ)
     → reading_by_line names (text_of moves ++ coming feed.ended more) ≡ with_events (events_of moves) (ahead names feed more)
-pieces_front names moves feed leads more = sym (ahead_new names (text_of moves ++ coming feed.ended more)) ∙ moved names moves new_feed feed leads more
+pieces_prefix names moves feed leads more = sym (ahead_new names (text_of moves ++ coming feed.ended more)) ∙ moved names moves new_feed feed leads more
 
 pub pieces_failed : (names : NameLists) (moves : List Move) (feed : Feed) (fault : TextFault) → LeadsTo names new_feed moves feed → feed.fault ≡ Some fault → (more : List ℕ)
     → reading_by_line names (text_of moves ++ coming feed.ended more) ≡ with_events (events_of moves) (only fault)
-pieces_failed names moves feed fault leads is more = pieces_front names moves feed leads more ∙ ap (with_events (events_of moves)) (ahead_failed names feed fault is more)
+pieces_failed names moves feed fault leads is more = pieces_prefix names moves feed leads more ∙ ap (with_events (events_of moves)) (ahead_failed names feed fault is more)
 
 pub pieces_done : (names : NameLists) (moves : List Move) (feed : Feed) → LeadsTo names new_feed moves feed → feed.ended ≡ true → IsDone names feed
     → reading_by_line names (text_of moves) ≡ faultless (events_of moves)
 pieces_done names moves feed leads ended done =
     let all : text_of moves ++ coming feed.ended [] ≡ text_of moves = rw ended (append-nil (text_of moves)) in
-    ap (reading_by_line names) (sym all) ∙ pieces_front names moves feed leads [] ∙ ap (with_events (events_of moves)) (done []) ∙ ap (λ (events : List Event). faultless events) (append-nil (events_of moves))
+    ap (reading_by_line names) (sym all) ∙ pieces_prefix names moves feed leads [] ∙ ap (with_events (events_of moves)) (done []) ∙ ap (λ (events : List Event). faultless events) (append-nil (events_of moves))

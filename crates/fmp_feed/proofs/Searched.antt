@@ -19,7 +19,7 @@ pub record IsFeedAt (bytes : List ℕ) (place : ℕ) : Type 0 where
   pub none_before : (j : ℕ) → j < place → slice_index bytes j ≢ 10
   pub here : slice_index bytes place ≡ 10
 
-module _ (bytes tail : List ℕ) (searched : ℕ) (fits : searched ≤ length bytes) (front : HasNoFeed (take searched bytes)) (is_tail : tail ≡ drop searched bytes) where
+module _ (bytes tail : List ℕ) (searched : ℕ) (fits : searched ≤ length bytes) (prefix : HasNoFeed (take searched bytes)) (is_tail : tail ≡ drop searched bytes) where
   -- no byte below a place of the rest is one, where none of the rest below it is
   none_below : (limit : ℕ) → ((j : ℕ) → 0 ≤ j → j < limit → is_byte 10 (slice_index tail j) ≡ true → ⊥) → (j : ℕ) → j < searched + limit → slice_index bytes j ≢ 10
   none_below limit none j low is = go (nat_lt j searched) refl
@@ -27,7 +27,7 @@ module _ (bytes tail : List ℕ) (searched : ℕ) (fits : searched ≤ length by
       go : (b : Bool) → nat_lt j searched ≡ b → ⊥
       go true below =
           let lt = ltb-true j searched below in
-          front j (grind (arith, common_steps, lt)) (get_or-take searched bytes j 0 lt ∙ is)
+          prefix j (grind (arith, common_steps, lt)) (get_or-take searched bytes j 0 lt ∙ is)
       go false above =
           let le = ltb-false j searched above in
           let place : searched + (j - searched) ≡ j = omega (arith, le) in

@@ -75,7 +75,7 @@ pub record TakesOff (names : NameLists) (old : Feed) (said : Result (Option Even
   pub whole : said ≡ Ok None → HasNoFeed new.rest
   pub others : new ≡ record old { rest = new.rest; lines = new.lines }
 
--- what a feed answers is the front of what was ahead of it, and the rest is ahead of the feed that is left
+-- what a feed answers is a prefix of what was ahead of it, and the rest is ahead of the feed that is left
 abbrev pub Gives : NameLists → Feed → Result (Option Event) TextFault → Feed → Type 0
 Gives names old (Ok (Some event)) new = (more : List ℕ) → ahead names old more ≡ with_events (event ∷ []) (ahead names new more)
 Gives names old (Ok None) new = (more : List ℕ) → ahead names old more ≡ ahead names new more

@@ -75,7 +75,7 @@ impl EventFeed {
         self.has_ended = true;
     }
 
-    /// Moves the unread rest to the front of the room, where at least as many bytes were read: so each byte that was read
+    /// Moves the unread rest to the beginning of the room, where at least as many bytes were read: so each byte that was read
     /// pays for one that is moved.
     fn compact(&mut self)
         ensures { self.new ≡ self.old }

@@ -19,7 +19,7 @@ pub fn cuts_do_not_matter()
 /// However a text is cut into pieces, and whenever the feed is asked in between: the events that were given are the first
 /// ones of the text, a fault is the text's, and once the feed is done they are all, without a fault.
 pub fn pieces_give_their_text()
-    ensures front { (names : NameLists) (moves : List Move) (feed : Feed) → LeadsTo names new_feed moves feed → (more : List ℕ)
+    ensures prefix { (names : NameLists) (moves : List Move) (feed : Feed) → LeadsTo names new_feed moves feed → (more : List ℕ)
         → reading_by_line names (text_of moves ++ coming feed.ended more) ≡ with_events (events_of moves) (ahead names feed more) }
     ensures fault { (names : NameLists) (moves : List Move) (feed : Feed) (fault : TextFault) → LeadsTo names new_feed moves feed → feed.fault ≡ Some fault
         → (more : List ℕ) → reading_by_line names (text_of moves ++ coming feed.ended more) ≡ with_events (events_of moves) (only fault) }

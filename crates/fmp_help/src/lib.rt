@@ -1,5 +1,9 @@
 //! What may be written, told to a reader: the service calls, the statements and the faults, from the tables by which texts are
 //! read.
+//!
+//! [`everything`] tells all of it, and [`about`] what there is to tell of one word. The contract of each is one equation with a
+//! text of `specs/Listing`, which is made of the readers' tables: a call or a statement that is read is told, with the
+//! arguments and ranges that the reader takes. What to do about a fault is told here alone.
 #![tactic(auto)]
 
 mod calls;

@@ -12,8 +12,8 @@ use fmp_codes::{Event, Record};
 use fmp_machine::Config;
 use std::alloc::{AllocError, Global};
 
-/// The records of a list of events on processors of the machine, which are those of the model. Each front of the list leads to
-/// a safe state, and the records of a front account for every unit of a semaphore, every block and every value. The room for
+/// The records of a list of events on processors of the machine, which are those of the model. Each prefix of the list leads to
+/// a safe state, and the records of a prefix account for every unit of a semaphore, every block and every value. The room for
 /// all records is asked for before the first event.
 pub fn simulate(alloc: Global, config: &Config, events: &[Event]) -> Result<Vec<Record>, AllocError>
     requires { AreOn config.now.processors events.now }

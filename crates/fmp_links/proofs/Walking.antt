@@ -11,17 +11,17 @@ module _ {X : Type 0} where
   parted (x ∷ xs) zero t e = let same : x ≡ t = cc in ap (λ (y : X). y ∷ xs) same
   parted (x ∷ xs) (suc k) t e = ap (λ (ys : List X). x ∷ ys) (parted xs k t e)
 
-  fronted : (xs : List X) (k : ℕ) (t : X) → first_of (drop k xs) ≡ Some t → take (suc k) xs ≡ take k xs ++ t ∷ []
-  fronted [] zero t e = cc
-  fronted [] (suc k) t e = cc
-  fronted (x ∷ xs) zero t e = let same : x ≡ t = cc in ap (λ (y : X). y ∷ []) same
-  fronted (x ∷ xs) (suc k) t e = ap (λ (ys : List X). x ∷ ys) (fronted xs k t e)
+  prefixed : (xs : List X) (k : ℕ) (t : X) → first_of (drop k xs) ≡ Some t → take (suc k) xs ≡ take k xs ++ t ∷ []
+  prefixed [] zero t e = cc
+  prefixed [] (suc k) t e = cc
+  prefixed (x ∷ xs) zero t e = let same : x ≡ t = cc in ap (λ (y : X). y ∷ []) same
+  prefixed (x ∷ xs) (suc k) t e = ap (λ (ys : List X). x ∷ ys) (prefixed xs k t e)
 
   pub part : (xs : List X) (k : ℕ) (t : X) → first_of (drop k xs) ≡ Some t → xs ≡ take k xs ++ t ∷ drop (k + 1) xs
   part xs k t e = subst (λ (m : ℕ). xs ≡ take k xs ++ t ∷ drop m xs) (suc-eq-add-one k) (parted xs k t e)
 
-  pub front : (xs : List X) (k : ℕ) (t : X) → first_of (drop k xs) ≡ Some t → take (k + 1) xs ≡ take k xs ++ t ∷ []
-  front xs k t e = subst (λ (m : ℕ). take m xs ≡ take k xs ++ t ∷ []) (suc-eq-add-one k) (fronted xs k t e)
+  pub prefix : (xs : List X) (k : ℕ) (t : X) → first_of (drop k xs) ≡ Some t → take (k + 1) xs ≡ take k xs ++ t ∷ []
+  prefix xs k t e = subst (λ (m : ℕ). take m xs ≡ take k xs ++ t ∷ []) (suc-eq-add-one k) (prefixed xs k t e)
 
   pub ended : (xs : List X) (k : ℕ) → first_of (drop k xs) ≡ None → take k xs ≡ xs
   ended [] zero e = refl

@@ -1,29 +1,23 @@
--- Lists of tasks in an order, and the numbers that tell it.
-pub mod Listings
-pub mod Numbering
--- Ready queues, queues of objects and timed waits, as a task leaves, changes and comes back.
-pub mod Ready
-pub mod Places
-pub mod OneQueue
-pub mod Waits
--- The words by which tasks change, and what the order then tells.
-pub mod Words
-pub mod Tops
-pub mod Matching
--- What calls have in common.
-pub mod Callers
-pub mod ObjectValues
-pub mod Waiting
-pub mod Releases
--- The calls, and ticks.
-pub mod TaskCalls
-pub mod SyncCalls
-pub mod BufferCalls
-pub mod TimeCalls
-pub mod SystemCalls
-pub mod SpinCalls
-pub mod Ticks
--- Events and boot, and what the lists tell of a state.
-pub mod Steps
-pub mod Boots
-pub mod SafeLists
+pub mod Listings  -- Lists that have the tasks that qualify, in an order.
+pub mod Numbering  -- Records and numbers after a change of one task.
+pub mod Ready  -- The ready queues stay those of the tasks.
+pub mod Places  -- Queues of objects: which wait stands where, and what a change of one queue leaves.
+pub mod OneQueue  -- One queue: a waiter leaves, and joins.
+pub mod Waits  -- The queues of the objects and the timed waits stay those of the tasks.
+pub mod Words  -- The words by which calls change tasks, on lists and on numbers.
+pub mod Tops  -- The lists tell what the numbers tell.
+pub mod Matching  -- What calls do, on lists and on numbers.
+pub mod Callers  -- Who calls, and what arguments name.
+pub mod ObjectValues  -- Values of objects, on which no order depends: the count of a semaphore, the pattern of an eventflag, the blocks of a pool.
+pub mod Waiting  -- What a call asks of the queue of an object, and the caller that waits in it.
+pub mod Releases  -- Several tasks are released in one event.
+pub mod TaskCalls  -- The calls on tasks do the same on lists and on numbers.
+pub mod SyncCalls  -- The calls on semaphores and eventflags do the same on lists and on numbers.
+pub mod BufferCalls  -- The calls on data queues and pools do the same on lists and on numbers. What a data queue contains is in no order of tasks.
+pub mod TimeCalls  -- The calls on cyclic handlers and alarms do the same on lists and on numbers. They leave the order of tasks as it is.
+pub mod SystemCalls  -- The calls on the processors and on the state of dispatching do the same on lists and on numbers.
+pub mod SpinCalls  -- The calls on spin locks, and the return of a handler, do the same on lists and on numbers.
+pub mod Ticks  -- A tick lowers counts and serves those at 0, on lists as on numbers.
+pub mod Steps  -- One event does the same on lists and on numbers.
+pub mod Boots  -- The lists at boot stand for the state at boot.
+pub mod SafeLists  -- A state with lists is safe exactly where the state is for which it stands.

@@ -69,13 +69,12 @@ order_in w = λ x o. order_among w.semaphores w.eventflags w.data_queues w.pools
 
 -- the order of the queue in which a wait stands
 abbrev pub order_of : {Q : Type 0} → World Q → Wait → Order
-order_of w wait.Sleep = order.First
-order_of w wait.Delay = order.First
 order_of w (wait.Semaphore s) = order_in w kind.Semaphore s
 order_of w (wait.Eventflag f pattern mode) = order_in w kind.Eventflag f
 order_of w (wait.Send d value) = order_in w kind.Send d
 order_of w (wait.Receive d) = order_in w kind.Receive d
 order_of w (wait.Pool m) = order_in w kind.Pool m
+order_of w _ = order.First
 
 -- the tasks that wait in the queue of an object, in their order
 abbrev pub queue : {Q : Type 0} → Ordering Q → World Q → QueueKind → Object → List Task

@@ -37,9 +37,8 @@ row_of k w p call.RetHdr = ret_hdr w p
 -- two places have the same task or none
 abbrev pub is_same : Option Task → Option Task → Bool
 is_same None None = true
-is_same None (Some u) = false
-is_same (Some t) None = false
 is_same (Some t) (Some u) = t.number == u.number
+is_same _ _ = false
 
 -- the top of each processor
 abbrev pub tops : {Q : Type 0} → Ordering Q → World Q → List (Option Task)

@@ -6,7 +6,7 @@ use Rattle.std.proofs.lemmas.Bool.{cases_lt, cases_eq, cases_Bool, lt-ltb, le-lt
 use Rattle.std.proofs.lemmas.Slice.Eq.{bytes_eq-Decides}
 use Rattle.std.proofs.lemmas.List.Sums.{sum_by-cons, sum_by-set, passes_at_first}
 use Rattle.std.proofs.lemmas.Option.{slice_get-get_or, slice_get_within, get_or_from_slice_get}
-use Rattle.fmp_bytes.proofs.Fronts.{not_true}
+use Rattle.fmp_bytes.proofs.Prefixes.{not_true}
 use Rattle.fmp_calls.specs.declared.kinds.ObjectKind.{ObjectKind}
 use Rattle.fmp_calls.specs.declared.kinds.NameKind.{NameKind}
 use Rattle.fmp_calls.specs.declared.kinds.NameKind.TheVariants.{Object, Function}
@@ -15,7 +15,7 @@ use Rattle.fmp_names.specs.Names.{NameLists, AreValid, names_of, number_of, name
 use Rattle.fmp_names.proofs.Listed.{list_all-at}
 use Rattle.fmp_names.proofs.Valid.{place_of-lt}
 
--- where a test first passes, from the front
+-- where a test first passes, from the first item on
 first : {X : Type 0} (p : X → Bool) (x : X) (xs : List X) → p x ≡ true → position p (x ∷ xs) ≡ Some 0
 first p x xs passes =
     let none : position_or_len p (x ∷ xs) ≡ 0 = rw passes refl in

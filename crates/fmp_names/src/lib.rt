@@ -1,4 +1,11 @@
 //! The names of a configuration, and the words that no object may have as its name.
+//!
+//! Contracts see [`Names`] as lists in the order of the numbers: the names of each kind of objects, those of the functions, and
+//! the defined names with the numbers for which they stand (`specs/Names`). By its type they are identifiers within their
+//! limits, not reserved, and distinct: `AreValid`.
+//!
+//! [`Constant`]s are the words that stand for values in the arguments of calls. The law `names_and_numbers_agree` says that
+//! names and numbers give each other back.
 #![tactic(auto)]
 
 mod constants;

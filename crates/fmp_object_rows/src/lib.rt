@@ -1,4 +1,12 @@
-//! The calls on objects, over any machine that has the objects of the definitions.
+//! The calls on semaphores, eventflags, data queues, memory pools, cyclic handlers, alarms and spin locks, and the return of a
+//! handler, over any machine that has the objects of the definitions.
+//!
+//! What a machine has to do is the trait [`fmp_words::Objects`]. A call stands in the file of its object: it looks for its
+//! errors in their order, and then does what its row says. Where tasks and handlers may make a call, one function serves both
+//! (`specs/Forms`).
+//!
+//! The families are the public functions: their contract `row` says that each call does what its row in `fmp_machine/specs`
+//! says, refused or not.
 #![tactic(auto)]
 
 mod alarms;

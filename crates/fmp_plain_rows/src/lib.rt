@@ -2,6 +2,10 @@
 //!
 //! Nothing is queued. Each task has numbers that tell when it last became ready and when its wait began, and whatever comes
 //! first is found by looking at all of them. It is slow, and easy to compare with the rules.
+//!
+//! Contracts see a state of the definitions whose order is the model's numbers (`numbered`). [`Machine`] is one of
+//! [`fmp_words::Words`] and of [`fmp_words::Objects`]: each of their methods does what the trait says. All memory is taken by
+//! `Machine::blank`.
 #![tactic(auto)]
 
 mod blank;

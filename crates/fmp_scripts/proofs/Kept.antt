@@ -7,7 +7,7 @@ use Rattle.std.proofs.lemmas.Bool.{cond_both, ltb-true, eqb-false}
 use Rattle.std.proofs.lemmas.List.Elements.{All-nil, All-push}
 use Rattle.std.proofs.lemmas.List.Quantifiers.{all_pairs_push}
 use Rattle.fmp_bytes.specs.declared.classes.Class.TheVariants.{Blank, Word, Line}
-use Rattle.fmp_bytes.specs.Bytes.{is_of, front, after}
+use Rattle.fmp_bytes.specs.Bytes.{is_of, prefix, after}
 use Rattle.fmp_calls.specs.Arguments.{CallInBits}
 use Rattle.fmp_codes.specs.declared.calls.Call.{Call}
 use Rattle.fmp_names.specs.Names.{NameLists, AreValid}
@@ -55,9 +55,9 @@ module _ (names : NameLists) (P : Call → Type 0) (reads : (text : List ℕ) (c
   by_word_fits : (inside : Bool) (text : List ℕ) → SaidFits P (said_by names inside text)
   unfolding said_by
   by_word_fits inside text =
-      cond_both (bytes_eq (front Word (after Blank text)) (codes "script")) _ _ (SaidFits P) (λ _. begins_fits inside _)
-      (λ _. cond_both (bytes_eq (front Word (after Blank text)) (codes "end")) _ _ (SaidFits P) (λ _. ends_fits inside _)
-      (λ _. cond_both (bytes_eq (front Word (after Blank text)) (codes "ret_hdr")) _ _ (SaidFits P) (λ _. tt) (λ _. step_fits inside text)))
+      cond_both (bytes_eq (prefix Word (after Blank text)) (codes "script")) _ _ (SaidFits P) (λ _. begins_fits inside _)
+      (λ _. cond_both (bytes_eq (prefix Word (after Blank text)) (codes "end")) _ _ (SaidFits P) (λ _. ends_fits inside _)
+      (λ _. cond_both (bytes_eq (prefix Word (after Blank text)) (codes "ret_hdr")) _ _ (SaidFits P) (λ _. tt) (λ _. step_fits inside text)))
 
   said_fits : (inside : Bool) (line : List ℕ) → SaidFits P (said_in names inside line)
   unfolding said_in

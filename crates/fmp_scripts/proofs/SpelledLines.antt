@@ -17,8 +17,8 @@ use Rattle.fmp_codes.specs.declared.calls.TimeCall.TheVariants as time
 use Rattle.fmp_codes.specs.declared.calls.SystemCall.TheVariants as system
 use Rattle.fmp_codes.specs.declared.calls.SpinCall.TheVariants as spin
 use Rattle.fmp_bytes.specs.declared.classes.Class.TheVariants.{Blank, Word, Line}
-use Rattle.fmp_bytes.specs.Bytes.{is_of, front, after, is_identifier}
-use Rattle.fmp_bytes.proofs.Fronts.{front-append, front-after, list_all-take_while, stops-cons, stops-all, list_all-weaker, list_all-both}
+use Rattle.fmp_bytes.specs.Bytes.{is_of, prefix, after, is_identifier}
+use Rattle.fmp_bytes.proofs.Prefixes.{prefix-append, prefix-after, list_all-take_while, stops-cons, stops-all, list_all-weaker, list_all-both}
 use Rattle.fmp_bytes.proofs.Included.{argument-word, not_blank-argument}
 use Rattle.fmp_bytes.proofs.Parsed.{ok_or_parts, tested_ok}
 use Rattle.fmp_bytes.proofs.Tokens.{identifier_bytes, identifier_words}
@@ -51,28 +51,28 @@ word_begins (b ∷ word) rest words some =
 
 -- blanks, a word, and what follows it
 first_word : (before word rest text : List ℕ) → AreBlank before → list_all (is_of Word) word ≡ true → 1 ≤ length word → prefix_len (is_of Word) rest ≡ 0 → text ≡ before ++ (word ++ rest)
-    → (front Word (after Blank text) ≡ word) × (after Word (after Blank text) ≡ rest)
+    → (prefix Word (after Blank text) ≡ word) × (after Word (after Blank text) ≡ rest)
 first_word before word rest text blank words some stops parts =
-    let here : after Blank text ≡ word ++ rest = ap (after Blank) parts ∙ (front-append Blank before (word ++ rest) blank (word_begins word rest words some)).1 in
-    let whole = front-append Word word rest words stops in
-    (ap (front Word) here ∙ whole.0, ap (after Word) here ∙ whole.1)
+    let here : after Blank text ≡ word ++ rest = ap (after Blank) parts ∙ (prefix-append Blank before (word ++ rest) blank (word_begins word rest words some)).1 in
+    let whole = prefix-append Word word rest words stops in
+    (ap (prefix Word) here ∙ whole.0, ap (after Word) here ∙ whole.1)
 
 blanks_no_word : (rest : List ℕ) → AreBlank rest → prefix_len (is_of Word) rest ≡ 0
 blanks_no_word rest blank = stops-all (is_of Word) rest (list_all-weaker (is_of Blank) (λ b. not (is_of Word b)) not-word rest blank)
 
 -- a line that begins with a word is not to be skipped
-word_stays : (text : List ℕ) → 1 ≤ length (front Word (after Blank text)) → is_skipped text ≡ false
+word_stays : (text : List ℕ) → 1 ≤ length (prefix Word (after Blank text)) → is_skipped text ≡ false
 unfolding is_of
 word_stays text some =
     elim (cases_Bool (is_skipped text)) [
       | inl t ↦
           elim (skipped_parts text t) [
             | inl blank ↦
-                let none : after Blank text ≡ [] = ap (after Blank) (sym (append-nil text)) ∙ (front-append Blank text [] blank refl).1 in
-                absurd (omega (arith, some, ap (λ (l : List ℕ). length (front Word l)) none))
+                let none : after Blank text ≡ [] = ap (after Blank) (sym (append-nil text)) ∙ (prefix-append Blank text [] blank refl).1 in
+                absurd (omega (arith, some, ap (λ (l : List ℕ). length (prefix Word l)) none))
             | inr comment ↦
                 let rest : after Blank text ≡ 35 ∷ comment.rest = ap (after Blank) comment.parts ∙ after_first comment.before 35 comment.rest comment.before_blank refl in
-                absurd (omega (arith, some, ap (λ (l : List ℕ). length (front Word l)) rest))
+                absurd (omega (arith, some, ap (λ (l : List ℕ). length (prefix Word l)) rest))
           ]
       | inr f ↦ f
     ]
@@ -90,7 +90,7 @@ end_words = refl
 -- what is known of a text that says something
 record IsSaying (names : NameLists) (inside : Bool) (text : List ℕ) (what : Said) : Type 0 where
   line : list_all (is_of Line) text ≡ true
-  some : 1 ≤ length (front Word (after Blank text))
+  some : 1 ≤ length (prefix Word (after Blank text))
   says : said_by names inside text ≡ Ok (Some what)
 
 saying_read : (names : NameLists) (inside : Bool) (line core : List ℕ) (what : Said) → Ended core line → IsSaying names inside core what → said_in names inside line ≡ Ok (Some what)
@@ -212,77 +212,77 @@ asks_parts names true text found e = let b = bind_parts (call_in names text) (λ
 
 -- what is known of the name behind `script`
 record IsNamed (names : NameLists) (rest : List ℕ) (f : ℕ) : Type 0 where
-  identifier : is_identifier (front Word (after Blank rest)) ≡ true
+  identifier : is_identifier (prefix Word (after Blank rest)) ≡ true
   blank : AreBlank (after Word (after Blank rest))
-  is_name : name_of names Function f ≡ Some (front Word (after Blank rest))
+  is_name : name_of names Function f ≡ Some (prefix Word (after Blank rest))
 
 named_parts : (names : NameLists) (rest : List ℕ) (f : ℕ) → function_in names rest ≡ Ok f → IsNamed names rest f
 unfolding function_in name_in
 named_parts names rest f e =
     let b = bind_parts (name_in rest) (λ name. ok_or (number_of names Function name) UnknownName) f e in
-    let t = tested_ok (is_identifier (front Word (after Blank rest)) && list_all (is_of Blank) (after Word (after Blank rest))) (Ok (front Word (after Blank rest))) WrongArguments b.0 b.1 in
-    let both = and_parts (is_identifier (front Word (after Blank rest))) (list_all (is_of Blank) (after Word (after Blank rest))) t.0 in
-    let same : front Word (after Blank rest) ≡ b.0 = let e2 = t.1 in cc in
+    let t = tested_ok (is_identifier (prefix Word (after Blank rest)) && list_all (is_of Blank) (after Word (after Blank rest))) (Ok (prefix Word (after Blank rest))) WrongArguments b.0 b.1 in
+    let both = and_parts (is_identifier (prefix Word (after Blank rest))) (list_all (is_of Blank) (after Word (after Blank rest))) t.0 in
+    let same : prefix Word (after Blank rest) ≡ b.0 = let e2 = t.1 in cc in
     let number = ok_or_parts (number_of names Function b.0) UnknownName f b.2 in
-    record { identifier = both.0; blank = both.1; is_name = name_of-number_of names Function f (front Word (after Blank rest)) (ap (number_of names Function) same ∙ number) }
+    record { identifier = both.0; blank = both.1; is_name = name_of-number_of names Function f (prefix Word (after Blank rest)) (ap (number_of names Function) same ∙ number) }
 
 -- a text by its blanks, its first word, and what follows
-by_word : (text word : List ℕ) → front Word (after Blank text) ≡ word → text ≡ front Blank text ++ (word ++ after Word (after Blank text))
+by_word : (text word : List ℕ) → prefix Word (after Blank text) ≡ word → text ≡ prefix Blank text ++ (word ++ after Word (after Blank text))
 by_word text word is =
-    sym (front-after Blank text) ∙ ap (λ (r : List ℕ). front Blank text ++ r) (sym (front-after Word (after Blank text)) ∙ ap (λ (w : List ℕ). w ++ after Word (after Blank text)) is)
+    sym (prefix-after Blank text) ∙ ap (λ (r : List ℕ). prefix Blank text ++ r) (sym (prefix-after Word (after Blank text)) ∙ ap (λ (w : List ℕ). w ++ after Word (after Blank text)) is)
 
-head_spelled : (names : NameLists) (text : List ℕ) (f : ℕ) → front Word (after Blank text) ≡ codes "script" → function_in names (after Word (after Blank text)) ≡ Ok f → SpellsHead names text f
+head_spelled : (names : NameLists) (text : List ℕ) (f : ℕ) → prefix Word (after Blank text) ≡ codes "script" → function_in names (after Word (after Blank text)) ≡ Ok f → SpellsHead names text f
 head_spelled names text f word e =
     let rest : List ℕ = after Word (after Blank text) in
     let s = named_parts names (after Word (after Blank text)) f e in
-    let name : List ℕ = front Word (after Blank rest) in
+    let name : List ℕ = prefix Word (after Blank rest) in
     let behind : List ℕ = after Word (after Blank rest) in
-    let inner : rest ≡ front Blank rest ++ (name ++ behind) = by_word rest name refl in
-    let some = (identifier_bytes (front Word (after Blank (after Word (after Blank text)))) s.identifier).0 in
+    let inner : rest ≡ prefix Blank rest ++ (name ++ behind) = by_word rest name refl in
+    let some = (identifier_bytes (prefix Word (after Blank (after Word (after Blank text)))) s.identifier).0 in
     record {
-      between = front Blank rest;
+      between = prefix Blank rest;
       name = name;
       apart = blank_between (after Blank text) (omega (arith, some));
       between_blank = list_all-take_while (is_of Blank) rest;
       is_name = s.is_name;
       padded = record {
-        before = front Blank text;
+        before = prefix Blank text;
         behind = behind;
         before_blank = list_all-take_while (is_of Blank) text;
         behind_blank = s.blank;
-        parts = by_word text (codes "script") word ∙ ap (λ (l : List ℕ). front Blank text ++ l) (ap (λ (l : List ℕ). codes "script" ++ l) (inner ∙ sym (append_assoc (front Blank rest) name behind)) ∙ sym (append_assoc (codes "script") (front Blank rest ++ name) behind));
+        parts = by_word text (codes "script") word ∙ ap (λ (l : List ℕ). prefix Blank text ++ l) (ap (λ (l : List ℕ). codes "script" ++ l) (inner ∙ sym (append_assoc (prefix Blank rest) name behind)) ∙ sym (append_assoc (codes "script") (prefix Blank rest ++ name) behind));
       };
     }
 
-end_spelled : (text : List ℕ) → front Word (after Blank text) ≡ codes "end" → AreBlank (after Word (after Blank text)) → SpellsEnd text
+end_spelled : (text : List ℕ) → prefix Word (after Blank text) ≡ codes "end" → AreBlank (after Word (after Blank text)) → SpellsEnd text
 end_spelled text word blank = record {
-  before = front Blank text;
+  before = prefix Blank text;
   behind = after Word (after Blank text);
   before_blank = list_all-take_while (is_of Blank) text;
   behind_blank = blank;
   parts = by_word text (codes "end") word;
 }
 
-step_spelled : (names : NameLists) (text : List ℕ) (call : Call) → bytes_eq (front Word (after Blank text)) (codes "ret_hdr") ≡ false → call_in names text ≡ Ok call → SpellsStep names text call
+step_spelled : (names : NameLists) (text : List ℕ) (call : Call) → bytes_eq (prefix Word (after Blank text)) (codes "ret_hdr") ≡ false → call_in names text ≡ Ok call → SpellsStep names text call
 step_spelled names text call other read =
     let spelled = call_is_spelled names text call read in
-    (spelled, λ is. false≢true (sym other ∙ (bytes_eq-Decides (front Word (after Blank text)) (codes "ret_hdr")).1 (word_of_call names text call spelled ∙ ap text_of is)))
+    (spelled, λ is. false≢true (sym other ∙ (bytes_eq-Decides (prefix Word (after Blank text)) (codes "ret_hdr")).1 (word_of_call names text call spelled ∙ ap text_of is)))
 
 text_spelled : (names : NameLists) (inside : Bool) (text : List ℕ) (found : Option Said) → said_by names inside text ≡ Ok found → Says names inside text found
 unfolding said_by
 text_spelled names inside text found e =
-    let word : List ℕ = front Word (after Blank text) in
-    elim (cases_Bool (bytes_eq (front Word (after Blank text)) (codes "script"))) [
+    let word : List ℕ = prefix Word (after Blank text) in
+    elim (cases_Bool (bytes_eq (prefix Word (after Blank text)) (codes "script"))) [
       | inl t ↦
           let p = begins_parts names inside (after Word (after Blank text)) found (rw t at e) in
-          subst (Says names inside text) p.3 (p.1, head_spelled names text p.0 ((bytes_eq-Decides (front Word (after Blank text)) (codes "script")).0 t) p.2)
+          subst (Says names inside text) p.3 (p.1, head_spelled names text p.0 ((bytes_eq-Decides (prefix Word (after Blank text)) (codes "script")).0 t) p.2)
       | inr f ↦
-          elim (cases_Bool (bytes_eq (front Word (after Blank text)) (codes "end"))) [
+          elim (cases_Bool (bytes_eq (prefix Word (after Blank text)) (codes "end"))) [
             | inl t ↦
                 let p = ends_parts inside (after Word (after Blank text)) found (rw (f, t) at e) in
-                subst (Says names inside text) p.2 (p.0, end_spelled text ((bytes_eq-Decides (front Word (after Blank text)) (codes "end")).0 t) p.1)
+                subst (Says names inside text) p.2 (p.0, end_spelled text ((bytes_eq-Decides (prefix Word (after Blank text)) (codes "end")).0 t) p.1)
             | inr g ↦
-                elim (cases_Bool (bytes_eq (front Word (after Blank text)) (codes "ret_hdr"))) [
+                elim (cases_Bool (bytes_eq (prefix Word (after Blank text)) (codes "ret_hdr"))) [
                   | inl t ↦ let bad = rw (f, g, t) at e in absurd cc
                   | inr h ↦
                       let p = asks_parts names inside text found (rw (f, g, h) at e) in

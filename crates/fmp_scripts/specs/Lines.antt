@@ -4,7 +4,7 @@ use Rattle.std.specs.List.{list_all}
 use Rattle.std.specs.Option.{ok_or}
 use Rattle.std.specs.Str.{bytes_eq}
 use Rattle.fmp_bytes.specs.declared.classes.Class.TheVariants.{Blank, Word, Line}
-use Rattle.fmp_bytes.specs.Bytes.{is_of, front, after, is_identifier}
+use Rattle.fmp_bytes.specs.Bytes.{is_of, prefix, after, is_identifier}
 use Rattle.fmp_calls.specs.declared.kinds.NameKind.TheVariants.{Function}
 use Rattle.fmp_text.specs.declared.fault.TextKind.{TextKind}
 use Rattle.fmp_text.specs.declared.fault.TextKind.TheVariants.{BadByte, BadWord, UnknownName, WrongArguments}
@@ -17,7 +17,7 @@ use Rattle.fmp_scripts.specs.declared.line.Said.TheVariants as said
 -- exactly one name, with blanks around
 unfoldable pub name_in : List ℕ → Result (List ℕ) TextKind
 name_in text =
-    if is_identifier (front Word (after Blank text)) && list_all (is_of Blank) (after Word (after Blank text)) then Ok (front Word (after Blank text))
+    if is_identifier (prefix Word (after Blank text)) && list_all (is_of Blank) (after Word (after Blank text)) then Ok (prefix Word (after Blank text))
     else Err WrongArguments
 
 -- the number of the function with this name
@@ -43,9 +43,9 @@ asks names inside text = if not inside then Err BadWord else (call_in names text
 -- a line that is not skipped, by its first word. The return of a handler is no step
 unfoldable pub said_by : NameLists → Bool → List ℕ → Result (Option Said) TextKind
 said_by names inside text =
-    if bytes_eq (front Word (after Blank text)) (codes "script") then begins names inside (after Word (after Blank text))
-    else (if bytes_eq (front Word (after Blank text)) (codes "end") then ends inside (after Word (after Blank text))
-    else (if bytes_eq (front Word (after Blank text)) (codes "ret_hdr") then Err BadWord
+    if bytes_eq (prefix Word (after Blank text)) (codes "script") then begins names inside (after Word (after Blank text))
+    else (if bytes_eq (prefix Word (after Blank text)) (codes "end") then ends inside (after Word (after Blank text))
+    else (if bytes_eq (prefix Word (after Blank text)) (codes "ret_hdr") then Err BadWord
     else asks names inside text))
 
 -- what a whole line says, if it says anything

@@ -3,7 +3,7 @@ ghost use Rattle.std.specs.Prelude.{◌≡◌};
 ghost use Rattle.fmp_text.specs.Reading.{Gives};
 ghost use Rattle.fmp_scripts.specs.Lines as spec;
 
-use fmp_bytes::{Class, all_of, is_identifier, skip, split_front};
+use fmp_bytes::{Class, all_of, is_identifier, skip, split_prefix};
 use fmp_calls::NameKind;
 use fmp_codes::Call;
 use fmp_text::{Names, TextKind, is_skipped, read_call, without_return};
@@ -21,7 +21,7 @@ pub enum Said {
 fn name_in(text: &[u8]) -> Result<&[u8], TextKind>
     ensures { Gives (λ t. t.now) result (spec.name_in text.now) }
 {
-    let (name, rest) = split_front(Class::Word, skip(Class::Blank, text));
+    let (name, rest) = split_prefix(Class::Word, skip(Class::Blank, text));
     if is_identifier(name) && all_of(Class::Blank, rest) {
         Ok(name)
     } else {
@@ -77,7 +77,7 @@ fn asks(names: &Names, inside: bool, text: &[u8]) -> Result<Option<Said>, TextKi
 fn said_by(names: &Names, inside: bool, text: &[u8]) -> Result<Option<Said>, TextKind>
     ensures { result ≡ spec.said_by names.now inside text.now }
 {
-    let (word, rest) = split_front(Class::Word, skip(Class::Blank, text));
+    let (word, rest) = split_prefix(Class::Word, skip(Class::Blank, text));
     if word == b"script".as_slice() {
         return begins(names, inside, rest);
     }

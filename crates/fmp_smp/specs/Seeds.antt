@@ -55,7 +55,7 @@ event_drawn c scripts rounds h number =
     let r = rounds_of c rounds (ticks_taken h) in
     event_of c scripts h r (drawn (movers c scripts h r) number)
 
--- each record is of the event that the seed's number draws at the front before it
+-- each record is of the event that the seed's number draws behind those before it
 abbrev pub IsInOrderOf : ℕ → Setup → List Steps → ℕ → List Record → Type 0
 IsInOrderOf seed c scripts rounds h =
     (k : ℕ) (r : Record) → slice_get h k ≡ Some r → event_drawn c scripts rounds (take k h) (number_at seed k) ≡ Some r.event

@@ -1,4 +1,8 @@
 //! The command line of `fmpsim smp`. Its numbers are within their limits by what clap promises, and are not tested again.
+//!
+//! [`Limits`] are the numbers, in their ranges by their type, and [`smp_command`] is the command whose contract says which
+//! ranges clap keeps (`specs/Smp`). That the words of a command line become this request, and which are refused, is tested in
+//! `fmpsim`.
 #![tactic(auto)]
 
 ghost use Rattle.std.specs.Prelude.{◌≡◌, ◌≤◌, IfOk, pos, Some, codes};

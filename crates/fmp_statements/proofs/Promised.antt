@@ -1,5 +1,5 @@
 -- A statement whose tokens are read has its names, or will have them.
-use Rattle.std.proofs.Common.{◌≡◌, ℕ, ◌+◌, ◌-◌, Bool, true, false, not, ◌&&◌, ◌||◌, List, [], ◌∷◌, Option, Some, None, is_some, unwrap_or, if◌then◌else◌, ◌==◌, Result, Ok, Err, refl, sym, ap, subst, ◌∙◌, inl, inr}
+use Rattle.std.proofs.Common.{◌≡◌, ℕ, ◌+◌, ◌-◌, Bool, true, false, not, ◌&&◌, ◌||◌, List, [], ◌∷◌, Option, Some, None, is_some, unwrap_or, if◌then◌else◌, ◌==◌, Ok, Err, refl, sym, ap, inl, inr}
 use Rattle.std.specs.Prelude.{is_ok, codes}
 use Rattle.std.specs.Result.{result_unwrap_or}
 use Rattle.std.specs.Option.{option_map_or}

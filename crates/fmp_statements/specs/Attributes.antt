@@ -1,5 +1,5 @@
 -- The attributes of objects.
-use Rattle.std.specs.Prelude.{ℕ, true, false, List, [], ◌∷◌, find, Result, Ok, codes}
+use Rattle.std.specs.Prelude.{ℕ, true, false, List, find, Result, Ok, codes}
 use Rattle.std.specs.Option.{ok_or}
 use Rattle.std.specs.Str.{bytes_eq}
 use Rattle.fmp_statements.specs.declared.attributes.Attribute.{Attribute}

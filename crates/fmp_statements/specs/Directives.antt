@@ -1,11 +1,11 @@
 -- Directives: lines that begin with `#`.
-use Rattle.std.specs.Prelude.{ℕ, List, Option, Some, None, option_and_then, Result, Ok, Err, nat_le, codes, if◌then◌else◌}
+use Rattle.std.specs.Prelude.{ℕ, Option, Some, None, option_and_then, Result, Ok, Err, nat_le, codes, if◌then◌else◌}
 use Rattle.std.specs.Option.{option_map_or}
 use Rattle.std.specs.Str.{bytes_eq}
 use Rattle.fmp_names.specs.Names.{is_name}
 use Rattle.fmp_tokens.specs.Lexing.{Lexeme}
 use Rattle.fmp_statements.specs.declared.directive.Directive.{Directive}
-use Rattle.fmp_statements.specs.declared.directive.Directive.TheVariants.{Outside, Marked, Naming, Numbering, Defining, Skipped}
+use Rattle.fmp_statements.specs.declared.directive.Directive.TheVariants.{Marked, Naming, Numbering, Defining, Skipped}
 use Rattle.fmp_statements.specs.declared.fault.ConfigKind.TheVariants.{Syntax}
 use Rattle.fmp_statements.specs.Faults.{Fault, fault_of_line, unknown_directive}
 use Rattle.fmp_statements.specs.Numbers.{numeral}

@@ -1,5 +1,5 @@
 -- The names of a statement: there, or still to come.
-use Rattle.std.specs.Prelude.{ℕ, Bool, true, false, not, ◌||◌, ◌≡◌}
+use Rattle.std.specs.Prelude.{Bool, true, false, not, ◌||◌, ◌≡◌}
 use Rattle.std.specs.List.{list_any}
 use Rattle.fmp_names.specs.Names.{is_name}
 use Rattle.fmp_statements.specs.declared.parts.Item.{Item}
@@ -9,7 +9,6 @@ use Rattle.fmp_statements.specs.declared.parts.Part.TheVariants as parts
 use Rattle.fmp_statements.specs.declared.parts.Scan.{Scan}
 use Rattle.fmp_statements.specs.declared.parts.Scan.TheVariants as scans
 use Rattle.fmp_statements.specs.Forms.{Form}
-use Rattle.fmp_statements.specs.Pieces.{Pieces}
 use Rattle.fmp_statements.specs.Table.{parts_of}
 
 abbrev pub is_name_item : Item → Bool

@@ -1,5 +1,5 @@
 -- The parts of statements, token by token.
-use Rattle.std.specs.Prelude.{ℕ, ◌+◌, ◌-◌, Bool, true, false, not, ◌&&◌, ◌||◌, List, [], ◌∷◌, Option, Some, None, ◌==◌, codes, if◌then◌else◌}
+use Rattle.std.specs.Prelude.{ℕ, ◌+◌, ◌-◌, Bool, true, false, not, ◌&&◌, ◌||◌, Option, Some, None, ◌==◌, codes, if◌then◌else◌}
 use Rattle.std.specs.Str.{bytes_eq}
 use Rattle.fmp_names.specs.Names.{is_name}
 use Rattle.fmp_tokens.specs.declared.tokens.TokenKind.{TokenKind}
@@ -50,7 +50,7 @@ next_free depth t =
 unfoldable pub next_method : Lexeme → Option Scan
 next_method t = if bytes_eq t.text (codes "LOCAL") then Some Nothing else (if bytes_eq t.text (codes "GLOBAL") then Some Master else None)
 
--- what has to follow at the front of a part
+-- what has to follow at the beginning of a part
 abbrev pub scan_of : Part → Scan
 scan_of (parts.Mark byte) = Mark byte
 scan_of (parts.One item) = One item

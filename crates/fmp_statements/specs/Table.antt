@@ -1,5 +1,5 @@
 -- The table of the statements: words, parts, attributes and ranges.
-use Rattle.std.specs.Prelude.{ℕ, ◌-◌, ◌^◌, List, [], ◌∷◌, find, Option, Some, None, codes}
+use Rattle.std.specs.Prelude.{ℕ, ◌-◌, ◌^◌, List, find, Option, Some, None, codes}
 use Rattle.std.specs.Str.{bytes_eq}
 use Rattle.fmp_calls.specs.declared.kinds.ObjectKind.{ObjectKind}
 use Rattle.fmp_calls.specs.declared.kinds.ObjectKind.TheVariants.{Task, Semaphore, Eventflag, DataQueue, Pool, Cyclic, Alarm, SpinLock}
@@ -64,20 +64,17 @@ any_number = from_to 0 (2 ^ 64 - 1)
 
 -- the range of the first number of a statement that has one, on so many processors and with so many priorities
 abbrev pub first_range : StatementName → ℕ → ℕ → Option Range
-first_range Include processors priorities = None
 first_range Processors processors priorities = from_to 1 8
 first_range Timer processors priorities = from_to 1 processors
 first_range Limits processors priorities = from_to 1 255
 first_range DefClass processors priorities = any_number
-first_range Class processors priorities = None
 first_range (Create Task) processors priorities = from_to 1 priorities
 first_range (Create Semaphore) processors priorities = any_number
 first_range (Create Eventflag) processors priorities = from_to 0 4294967295
 first_range (Create DataQueue) processors priorities = from_to 0 1024
 first_range (Create Pool) processors priorities = from_to 1 64
 first_range (Create Cyclic) processors priorities = from_to 1 2147483647
-first_range (Create Alarm) processors priorities = None
-first_range (Create SpinLock) processors priorities = None
+first_range _ processors priorities = None
 
 -- the range of the second number of a statement that has one
 abbrev pub second_range : StatementName → Option Range

@@ -127,7 +127,7 @@ impl Scan {
     ghost use Rattle.std.specs.Prelude.{◌≡◌, ◌≤◌, ◌<◌, ◌+◌, ◌^◌, IfSome};
     ghost use Rattle.fmp_statements.specs.Parts as spec;
 
-    /// What has to follow at the front of a part.
+    /// What has to follow at the beginning of a part.
     pub fn of(part: Part) -> Self
         ensures value { result ≡ spec.scan_of part }
         ensures depth { spec.depth_of result ≡ 0 }

@@ -153,9 +153,9 @@ fn configuration_fails(rt: &impl Abort, alloc: Global) -> Result<(), AllocError>
 /// What was read before a read that fails is answered.
 fn events_fail(rt: &impl Abort, alloc: Global) -> Result<(), AllocError> {
     for reads in 0..=EVENTS.len() {
-        let (front, _) = EVENTS.split_at(reads);
+        let (prefix, _) = EVENTS.split_at(reads);
         let turns = (NEVER, reads as u64, NEVER);
-        answers(rt, alloc, turns, "read failed", trace_of(front))?;
+        answers(rt, alloc, turns, "read failed", trace_of(prefix))?;
     }
     Ok(())
 }

@@ -47,7 +47,7 @@ fn check_tells(
 /// A text, or a part of one, and what is told of it.
 type Row = (&'static [u8], &'static [u8]);
 
-/// The pieces of a configuration, and what is told of each front of it that ends with one of a piece's bytes. Where that ends
+/// The pieces of a configuration, and what is told of each prefix of it that ends with one of a piece's bytes. Where that ends
 /// with a blank, the piece up to that byte is the word of the fault.
 const PIECES: [Row; 19] = [
     (b"PROCESSOR", b"line 1: F3 unsupported API "),
@@ -74,7 +74,7 @@ const PIECES: [Row; 19] = [
     (b"}\n", b""),
 ];
 
-/// Adds a piece byte by byte, and asserts what is told of each front.
+/// Adds a piece byte by byte, and asserts what is told of each prefix.
 fn adds_piece(
     rt: &impl Abort,
     alloc: Global,
@@ -104,8 +104,8 @@ fn add_pieces(
     Ok(())
 }
 
-/// Asserts what is told of each front of the configuration.
-fn configuration_fronts(rt: &impl Abort, alloc: Global) -> Result<(), AllocError> {
+/// Asserts what is told of each prefix of the configuration.
+fn configuration_prefixes(rt: &impl Abort, alloc: Global) -> Result<(), AllocError> {
     let mut text = Vec::new(alloc);
     run_tells(rt, alloc, b"", b"", b"line 1: F10 no PROCESSORS line")?;
     add_pieces(rt, alloc, &mut text, &PIECES)?;
@@ -123,46 +123,46 @@ fn is_whole(text: &[u8]) -> bool {
     text.is_empty() || text.ends_with(b"\n")
 }
 
-/// Asserts what is told of some front of the events.
-fn events_front(rt: &impl Abort, alloc: Global, front: &[u8]) -> Result<(), AllocError> {
-    if is_whole(front) {
-        return run_tells(rt, alloc, REMOTE, front, trace_of(front));
+/// Asserts what is told of some prefix of the events.
+fn events_prefix(rt: &impl Abort, alloc: Global, prefix: &[u8]) -> Result<(), AllocError> {
+    if is_whole(prefix) {
+        return run_tells(rt, alloc, REMOTE, prefix, trace_of(prefix));
     }
-    let fault = cut_short(alloc, front)?;
-    run_tells(rt, alloc, REMOTE, front, fault.as_bytes())
+    let fault = cut_short(alloc, prefix)?;
+    run_tells(rt, alloc, REMOTE, prefix, fault.as_bytes())
 }
 
-/// Asserts what is told of some front of the trace.
-fn trace_front(rt: &impl Abort, alloc: Global, front: &[u8]) -> Result<(), AllocError> {
-    if is_whole(front) {
-        return check_tells(rt, alloc, REMOTE, front, b"yes\n");
+/// Asserts what is told of some prefix of the trace.
+fn trace_prefix(rt: &impl Abort, alloc: Global, prefix: &[u8]) -> Result<(), AllocError> {
+    if is_whole(prefix) {
+        return check_tells(rt, alloc, REMOTE, prefix, b"yes\n");
     }
-    let fault = cut_short(alloc, front)?;
-    check_tells(rt, alloc, REMOTE, front, fault.as_bytes())
+    let fault = cut_short(alloc, prefix)?;
+    check_tells(rt, alloc, REMOTE, prefix, fault.as_bytes())
 }
 
-fn events_fronts(rt: &impl Abort, alloc: Global) -> Result<(), AllocError> {
+fn events_prefixes(rt: &impl Abort, alloc: Global) -> Result<(), AllocError> {
     for length in 0..=EVENTS.len() {
-        let (front, _) = EVENTS.split_at(length);
-        events_front(rt, alloc, front)?;
+        let (prefix, _) = EVENTS.split_at(length);
+        events_prefix(rt, alloc, prefix)?;
     }
     Ok(())
 }
 
-fn trace_fronts(rt: &impl Abort, alloc: Global) -> Result<(), AllocError> {
+fn trace_prefixes(rt: &impl Abort, alloc: Global) -> Result<(), AllocError> {
     for length in 0..=TRACE.len() {
-        let (front, _) = TRACE.split_at(length);
-        trace_front(rt, alloc, front)?;
+        let (prefix, _) = TRACE.split_at(length);
+        trace_prefix(rt, alloc, prefix)?;
     }
     Ok(())
 }
 
-/// Each front of a configuration, of events and of a trace.
+/// Each prefix of a configuration, of events and of a trace.
 #[test]
 fn prefixes(rt: HostRuntime) -> Result<(), Fail> {
-    configuration_fronts(&rt, rt.alloc())?;
-    events_fronts(&rt, rt.alloc())?;
-    trace_fronts(&rt, rt.alloc())?;
+    configuration_prefixes(&rt, rt.alloc())?;
+    events_prefixes(&rt, rt.alloc())?;
+    trace_prefixes(&rt, rt.alloc())?;
     Ok(())
 }
 
@@ -198,22 +198,22 @@ const CLASSES: [Row; 4] = [
     ),
 ];
 
-fn joined(alloc: Global, front: &[u8], end: &[u8]) -> Result<Vec<u8>, AllocError> {
-    let mut text = Vec::from_slice(alloc, front)?;
+fn joined(alloc: Global, prefix: &[u8], end: &[u8]) -> Result<Vec<u8>, AllocError> {
+    let mut text = Vec::from_slice(alloc, prefix)?;
     text.extend_from_slice(end)?;
     Ok(text)
 }
 
 /// Asserts what is told of configurations that begin so.
-fn begin_so(rt: &impl Abort, alloc: Global, front: &[u8], rows: &[Row]) -> Result<(), AllocError> {
+fn begin_so(rt: &impl Abort, alloc: Global, prefix: &[u8], rows: &[Row]) -> Result<(), AllocError> {
     for (end, expected) in rows {
-        let text = joined(alloc, front, *end)?;
+        let text = joined(alloc, prefix, *end)?;
         run_tells(rt, alloc, text.as_slice(), b"", *expected)?;
     }
     Ok(())
 }
 
-/// A front of a configuration, bytes that stand behind it so many times, its end, and what is told of it.
+/// A prefix of a configuration, bytes that stand behind it so many times, its end, and what is told of it.
 type Filled = (
     &'static [u8],
     &'static [(u8, usize)],
@@ -257,8 +257,8 @@ fn fill(text: &mut Vec<u8>, fills: &[(u8, usize)]) -> Result<(), AllocError> {
 }
 
 fn are_filled(rt: &impl Abort, alloc: Global, rows: &[Filled]) -> Result<(), AllocError> {
-    for (front, fills, end, expected) in rows {
-        let mut text = Vec::from_slice(alloc, *front)?;
+    for (prefix, fills, end, expected) in rows {
+        let mut text = Vec::from_slice(alloc, *prefix)?;
         fill(&mut text, *fills)?;
         text.extend_from_slice(*end)?;
         run_tells(rt, alloc, text.as_slice(), b"", *expected)?;
@@ -266,7 +266,7 @@ fn are_filled(rt: &impl Abort, alloc: Global, rows: &[Filled]) -> Result<(), All
     Ok(())
 }
 
-/// A front of a configuration, what stands before and behind the numbers of the lines behind it, how many of these there may be,
+/// A prefix of a configuration, what stands before and behind the numbers of the lines behind it, how many of these there may be,
 /// its end, and what is told of one more.
 type Counted = (
     &'static [u8],
@@ -362,8 +362,8 @@ const COUNTED: [Counted; 10] = [
 
 /// The configuration with so many of these lines.
 fn counted(alloc: Global, row: Counted, count: u32) -> Result<Vec<u8>, AllocError> {
-    let (front, before, behind, _, end, _) = row;
-    let mut text = Vec::from_slice(alloc, front)?;
+    let (prefix, before, behind, _, end, _) = row;
+    let mut text = Vec::from_slice(alloc, prefix)?;
     for number in 1..=count {
         let line = format!(in alloc; "{before}{number}{behind}\n")?;
         text.extend_from_slice(line.as_bytes())?;

@@ -48,8 +48,8 @@ pub fn trace_of(events: &[u8]) -> &'static [u8] {
     let mut lines = line_feeds(events);
     for (index, byte) in TRACE.iter().enumerate() {
         if lines == 0 {
-            let (front, _) = TRACE.split_at(index);
-            return front;
+            let (prefix, _) = TRACE.split_at(index);
+            return prefix;
         }
         if *byte == b'\n' {
             lines = lines.saturating_sub(1);

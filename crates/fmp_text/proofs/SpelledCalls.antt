@@ -1,12 +1,12 @@
 -- A call is read exactly where it is spelled.
-use Rattle.std.proofs.Common.{◌≡◌, Option, ℕ, ◌<◌, ◌≤◌, Bool, true, false, not, ◌&&◌, ◌||◌, cond, eqb, ◌⊎◌, inl, inr, List, [], ◌∷◌, ◌++◌, length, Some, None, Ok, option_and_then, refl, sym, ap, subst, ◌∙◌, arith}
+use Rattle.std.proofs.Common.{◌≡◌, Option, ℕ, ◌<◌, ◌≤◌, Bool, true, false, not, ◌&&◌, ◌||◌, cond, eqb, ◌⊎◌, inl, inr, List, [], ◌∷◌, ◌++◌, length, Some, None, Ok, option_and_then, refl, sym, ap, ◌∙◌, arith}
 use Rattle.std.specs.List.{list_all, prefix_len, join_with_byte}
 use Rattle.std.specs.Option.{ok_or}
 use Rattle.std.proofs.lemmas.Bool.{cases_Bool, and_parts, and_from, or_cases, eq-eqb, ne_eqb, le-leb, eqb-true, false≢true}
 use Rattle.fmp_codes.specs.declared.calls.Call.{Call}
 use Rattle.fmp_bytes.specs.declared.classes.Class.TheVariants.{Blank, Word, Argument, Line}
-use Rattle.fmp_bytes.specs.Bytes.{is_of, front, after, behind, cut_at, pieces_of, is_identifier}
-use Rattle.fmp_bytes.proofs.Fronts.{front-append, front-after, list_all-take_while, stops-cons, stops-append, stops-all, list_all-weaker, list_all-both, list_all-parts, list_all-join}
+use Rattle.fmp_bytes.specs.Bytes.{is_of, prefix, after, behind, cut_at, pieces_of, is_identifier}
+use Rattle.fmp_bytes.proofs.Prefixes.{prefix-append, prefix-after, list_all-take_while, stops-cons, stops-append, stops-all, list_all-weaker, list_all-both, list_all-parts, list_all-join}
 use Rattle.fmp_bytes.proofs.Included.{line-blank, line-argument, not_argument-blank, not_word-blank, not_blank-argument}
 use Rattle.fmp_bytes.proofs.Tokens.{AreOfArgument, identifier_bytes, identifier_words, number_bytes}
 use Rattle.fmp_bytes.proofs.Spelled.{behind_is, behind-same}
@@ -72,11 +72,11 @@ padded_read : (token piece : List ℕ) → Padded token piece → is_argument to
 unfolding token_in
 padded_read token piece padded form =
     let bytes = token_bytes token form in
-    let start = front-append Blank padded.before (token ++ padded.behind) padded.before_blank (token_first token padded.behind bytes) in
+    let start = prefix-append Blank padded.before (token ++ padded.behind) padded.before_blank (token_first token padded.behind bytes) in
     let stop = stops-all (is_of Argument) padded.behind (list_all-weaker (is_of Blank) (λ b. not (is_of Argument b)) not-blank padded.behind padded.behind_blank) in
-    let whole = front-append Argument token padded.behind bytes.1 stop in
+    let whole = prefix-append Argument token padded.behind bytes.1 stop in
     let skipped : after Blank piece ≡ token ++ padded.behind = ap (after Blank) padded.parts ∙ start.1 in
-    let one : front Argument (after Blank piece) ≡ token = ap (front Argument) skipped ∙ whole.0 in
+    let one : prefix Argument (after Blank piece) ≡ token = ap (prefix Argument) skipped ∙ whole.0 in
     let rest : after Argument (after Blank piece) ≡ padded.behind = ap (after Argument) skipped ∙ whole.1 in
     let blank = padded.behind_blank in
     rw (one, rest, form, blank) refl
@@ -90,10 +90,10 @@ padded_inside token piece padded form =
 token_is_padded : (piece token : List ℕ) → token_in piece ≡ Some token → Padded token piece × (is_argument token ≡ true)
 unfolding token_in
 token_is_padded piece token e =
-    let t = tested_some (is_argument (front Argument (after Blank piece)) && list_all (is_of Blank) (after Argument (after Blank piece))) (front Argument (after Blank piece)) token e in
-    let p = and_parts (is_argument (front Argument (after Blank piece))) (list_all (is_of Blank) (after Argument (after Blank piece))) t.0 in
-    let whole : piece ≡ front Blank piece ++ (token ++ after Argument (after Blank piece)) = sym (front-after Blank piece) ∙ ap (λ (r : List ℕ). front Blank piece ++ r) (sym (front-after Argument (after Blank piece)) ∙ ap (λ (f : List ℕ). f ++ after Argument (after Blank piece)) t.1) in
-    (record { before = front Blank piece; behind = after Argument (after Blank piece); before_blank = list_all-take_while (is_of Blank) piece; behind_blank = p.1; parts = whole }, ap is_argument (sym t.1) ∙ p.0)
+    let t = tested_some (is_argument (prefix Argument (after Blank piece)) && list_all (is_of Blank) (after Argument (after Blank piece))) (prefix Argument (after Blank piece)) token e in
+    let p = and_parts (is_argument (prefix Argument (after Blank piece))) (list_all (is_of Blank) (after Argument (after Blank piece))) t.0 in
+    let whole : piece ≡ prefix Blank piece ++ (token ++ after Argument (after Blank piece)) = sym (prefix-after Blank piece) ∙ ap (λ (r : List ℕ). prefix Blank piece ++ r) (sym (prefix-after Argument (after Blank piece)) ∙ ap (λ (f : List ℕ). f ++ after Argument (after Blank piece)) t.1) in
+    (record { before = prefix Blank piece; behind = after Argument (after Blank piece); before_blank = list_all-take_while (is_of Blank) piece; behind_blank = p.1; parts = whole }, ap is_argument (sym t.1) ∙ p.0)
 
 -- ---- the pieces between commas
 
@@ -201,7 +201,7 @@ inner_read names (kind ∷ kinds) values inner valid few spelled =
 enclosed_read : (between inner rest : List ℕ) → AreBlank between → list_all (λ b. not (eqb b 41)) inner ≡ true → AreBlank rest → enclosed_in (between ++ (40 ∷ (inner ++ (41 ∷ rest)))) ≡ Some inner
 unfolding enclosed_in before_close is_of
 enclosed_read between inner rest blank no_close ended =
-    let start = front-append Blank between (40 ∷ (inner ++ (41 ∷ rest))) blank (stops-cons (is_of Blank) 40 (inner ++ (41 ∷ rest)) refl) in
+    let start = prefix-append Blank between (40 ∷ (inner ++ (41 ∷ rest))) blank (stops-cons (is_of Blank) 40 (inner ++ (41 ∷ rest)) refl) in
     let skipped = start.1 in
     rw (skipped, behind-same 40 (inner ++ (41 ∷ rest)), cut_at-append 41 inner rest no_close, ended) refl
 
@@ -270,8 +270,8 @@ no_word names call rest (inr s) =
     ap (prefix_len (is_of Word)) e.parts ∙ stops-append (is_of Word) e.between 40 (e.inner ++ (41 ∷ e.behind)) (list_all-weaker (is_of Blank) (λ b. not (is_of Word b)) not-word e.between e.between_blank) refl
 
 -- the name is the first word
-name_read : (names : NameLists) (call : Call) (rest : List ℕ) → FollowsName names call rest → (front Word (text_of call ++ rest) ≡ text_of call) × (after Word (text_of call ++ rest) ≡ rest)
-name_read names call rest follows = front-append Word (text_of call) rest (identifier_words (text_of call) (is_identifier-text_of call)) (no_word names call rest follows)
+name_read : (names : NameLists) (call : Call) (rest : List ℕ) → FollowsName names call rest → (prefix Word (text_of call ++ rest) ≡ text_of call) × (after Word (text_of call ++ rest) ≡ rest)
+name_read names call rest follows = prefix-append Word (text_of call) rest (identifier_words (text_of call) (is_identifier-text_of call)) (no_word names call rest follows)
 
 -- the bytes of a call may stand in a line
 pub line_of_call : (names : NameLists) (text : List ℕ) (call : Call) → AreValid names → SpellsCall names text call → list_all (is_of Line) text ≡ true
@@ -284,11 +284,11 @@ line_of_call names text call valid s =
 skipped_blanks : (names : NameLists) (text : List ℕ) (call : Call) (s : SpellsCall names text call) → after Blank text ≡ text_of call ++ s.rest
 skipped_blanks names text call s =
     let bytes = identifier_bytes (text_of call) (is_identifier-text_of call) in
-    let start = front-append Blank s.before (text_of call ++ s.rest) s.before_blank (token_first (text_of call) s.rest bytes) in
+    let start = prefix-append Blank s.before (text_of call ++ s.rest) s.before_blank (token_first (text_of call) s.rest bytes) in
     ap (after Blank) s.parts ∙ start.1
 
-pub word_of_call : (names : NameLists) (text : List ℕ) (call : Call) → SpellsCall names text call → front Word (after Blank text) ≡ text_of call
-word_of_call names text call s = ap (front Word) (skipped_blanks names text call s) ∙ (name_read names call s.rest s.follows).0
+pub word_of_call : (names : NameLists) (text : List ℕ) (call : Call) → SpellsCall names text call → prefix Word (after Blank text) ≡ text_of call
+word_of_call names text call s = ap (prefix Word) (skipped_blanks names text call s) ∙ (name_read names call s.rest s.follows).0
 
 -- behind the blanks before it
 pub call_at-spelled : (names : NameLists) (text : List ℕ) (call : Call) → AreValid names → SpellsCall names text call → call_at names (after Blank text) ≡ Ok call
@@ -377,11 +377,11 @@ enclosed_spelled text inner e =
     let opened : after Blank text ≡ 40 ∷ p.0 = behind_is 40 (after Blank text) p.0 p.1 in
     let closed : p.0 ≡ inner ++ (41 ∷ q.0) = cut_at-parts 41 p.0 q.0 q.1 ∙ ap (λ (i : List ℕ). i ++ (41 ∷ q.0)) t.1 in
     record {
-      between = front Blank text;
+      between = prefix Blank text;
       behind = q.0;
       between_blank = list_all-take_while (is_of Blank) text;
       behind_blank = t.0;
-      parts = sym (front-after Blank text) ∙ ap (λ (r : List ℕ). front Blank text ++ r) (opened ∙ ap (λ (r : List ℕ). 40 ∷ r) closed);
+      parts = sym (prefix-after Blank text) ∙ ap (λ (r : List ℕ). prefix Blank text ++ r) (opened ∙ ap (λ (r : List ℕ). 40 ∷ r) closed);
     }
 
 -- what follows a name of these kinds and is read as these values
@@ -418,17 +418,17 @@ rest_spelled names name call rest e =
 pub call_at_is_spelled : (names : NameLists) (text : List ℕ) (call : Call) → call_at names (after Blank text) ≡ Ok call → SpellsCall names text call
 unfolding call_at named_call
 call_at_is_spelled names text call e =
-    let n = bind_parts (named_call (front Word (after Blank text))) (λ name. call_after names name (after Word (after Blank text))) call e in
-    let word : text_of n.0 ≡ front Word (after Blank text) = text_of-named (front Word (after Blank text)) n.0 (ok_or_parts _ BadWord n.0 n.1) in
+    let n = bind_parts (named_call (prefix Word (after Blank text))) (λ name. call_after names name (after Word (after Blank text))) call e in
+    let word : text_of n.0 ≡ prefix Word (after Blank text) = text_of-named (prefix Word (after Blank text)) n.0 (ok_or_parts _ BadWord n.0 n.1) in
     let follows = rest_spelled names n.0 call (after Word (after Blank text)) n.2 in
     let named : after Blank text ≡ text_of call ++ after Word (after Blank text) =
-    sym (front-after Word (after Blank text)) ∙ ap (λ (f : List ℕ). f ++ after Word (after Blank text)) (sym word ∙ sym follows.1) in
+    sym (prefix-after Word (after Blank text)) ∙ ap (λ (f : List ℕ). f ++ after Word (after Blank text)) (sym word ∙ sym follows.1) in
     record {
-      before = front Blank text;
+      before = prefix Blank text;
       rest = after Word (after Blank text);
       before_blank = list_all-take_while (is_of Blank) text;
       follows = follows.0;
-      parts = sym (front-after Blank text) ∙ ap (λ (r : List ℕ). front Blank text ++ r) named;
+      parts = sym (prefix-after Blank text) ∙ ap (λ (r : List ℕ). prefix Blank text ++ r) named;
     }
 
 pub call_is_spelled : (names : NameLists) (text : List ℕ) (call : Call) → call_in names text ≡ Ok call → SpellsCall names text call

@@ -14,9 +14,9 @@ use Rattle.fmp_codes.specs.declared.numbers.Proc.{Proc}
 use Rattle.fmp_codes.specs.declared.records.Event.{Event}
 use Rattle.fmp_codes.specs.declared.records.Event.TheVariants as events
 use Rattle.fmp_bytes.specs.declared.classes.Class.TheVariants.{Blank, Word, Line}
-use Rattle.fmp_bytes.specs.Bytes.{is_of, front, after, behind}
+use Rattle.fmp_bytes.specs.Bytes.{is_of, prefix, after, behind}
 use Rattle.fmp_bytes.specs.Numerals.{are_digits, is_zero_led, magnitude_of}
-use Rattle.fmp_bytes.proofs.Fronts.{front-append, front-after, after-stops, list_all-take_while, stops-cons, stops-all, list_all-weaker, list_all-both}
+use Rattle.fmp_bytes.proofs.Prefixes.{prefix-append, prefix-after, after-stops, list_all-take_while, stops-cons, stops-all, list_all-weaker, list_all-both}
 use Rattle.fmp_bytes.proofs.Included.{line-blank, line-argument, argument-word, not_word-blank, word-digit}
 use Rattle.fmp_bytes.proofs.Spelled.{own, behind_is, behind-same, list_all-digits, are_digits-from, digits_from, not_zero_led, zero_alone, decimal_alone, magnitude_of-small, magnitude_of-some}
 use Rattle.fmp_text.specs.declared.fault.TextKind.{TextKind}
@@ -129,7 +129,7 @@ module _ (names : NameLists) (processor : Proc) (Happens : List ℕ → Type 0) 
   -- what follows the blanks before the processor
   skipped : after Blank text ≡ (80 ∷ decimal s.number) ++ (s.between ++ s.rest)
   unfolding is_of
-  skipped = ap (after Blank) s.parts ∙ (front-append Blank s.before (80 ∷ (decimal s.number ++ (s.between ++ s.rest))) s.before_blank (stops-cons (is_of Blank) 80 (decimal s.number ++ (s.between ++ s.rest)) refl)).1
+  skipped = ap (after Blank) s.parts ∙ (prefix-append Blank s.before (80 ∷ (decimal s.number ++ (s.between ++ s.rest))) s.before_blank (stops-cons (is_of Blank) 80 (decimal s.number ++ (s.between ++ s.rest)) refl)).1
 
   line_of_event : list_all (is_of Line) s.rest ≡ true → list_all (is_of Line) text ≡ true
   line_of_event rest =
@@ -141,19 +141,19 @@ module _ (names : NameLists) (processor : Proc) (Happens : List ℕ → Type 0) 
   unfolding event_in event_at
   on_processor_read event rest happens =
       let line = line_of_event rest in
-      let whole = front-append Word (80 ∷ decimal s.number) (s.between ++ s.rest) (word_bytes s.number small) (blanks_stop s.between s.rest s.between_blank s.apart) in
-      let word : front Word (after Blank text) ≡ 80 ∷ decimal s.number = ap (front Word) skipped ∙ whole.0 in
+      let whole = prefix-append Word (80 ∷ decimal s.number) (s.between ++ s.rest) (word_bytes s.number small) (blanks_stop s.between s.rest s.between_blank s.apart) in
+      let word : prefix Word (after Blank text) ≡ 80 ∷ decimal s.number = ap (prefix Word) skipped ∙ whole.0 in
       let rest_is : after Blank (after Word (after Blank text)) ≡ after Blank s.rest = ap (λ (t : List ℕ). after Blank (after Word t)) skipped ∙ ap (after Blank) whole.1 ∙ after-blanks s.between s.rest s.between_blank in
-      let read : processor_in names (front Word (after Blank text)) ≡ Ok processor = ap (processor_in names) word ∙ processor_read names s.number s.least s.most valid.most ∙ ap (λ (p : Proc). Ok p) (sym s.is_number) in
+      let read : processor_in names (prefix Word (after Blank text)) ≡ Ok processor = ap (processor_in names) word ∙ processor_read names s.number s.least s.most valid.most ∙ ap (λ (p : Proc). Ok p) (sym s.is_number) in
       rw (line, read, rest_is) happens
 
 -- a word alone
-alone_read : (word rest : List ℕ) (h : IsAlone word rest) → list_all (is_of Word) word ≡ true → prefix_len (is_of Blank) (word ++ h.behind) ≡ 0 → (front Word (after Blank rest) ≡ word) × (after Word (after Blank rest) ≡ h.behind) × (list_all (is_of Line) rest ≡ true)
+alone_read : (word rest : List ℕ) (h : IsAlone word rest) → list_all (is_of Word) word ≡ true → prefix_len (is_of Blank) (word ++ h.behind) ≡ 0 → (prefix Word (after Blank rest) ≡ word) × (after Word (after Blank rest) ≡ h.behind) × (list_all (is_of Line) rest ≡ true)
 alone_read word rest h words starts =
     let stop = stops-all (is_of Word) h.behind (list_all-weaker (is_of Blank) (λ b. not (is_of Word b)) not-word h.behind h.behind_blank) in
-    let whole = front-append Word word h.behind words stop in
+    let whole = prefix-append Word word h.behind words stop in
     let here : after Blank rest ≡ word ++ h.behind = ap (after Blank) h.parts ∙ after-none (word ++ h.behind) starts in
-    (ap (front Word) here ∙ whole.0, ap (after Word) here ∙ whole.1, ap (list_all (is_of Line)) h.parts ∙ list_all-both (is_of Line) word h.behind (line_of_words word words) (line_of_blanks h.behind h.behind_blank))
+    (ap (prefix Word) here ∙ whole.0, ap (after Word) here ∙ whole.1, ap (list_all (is_of Line)) h.parts ∙ list_all-both (is_of Line) word h.behind (line_of_words word words) (line_of_blanks h.behind h.behind_blank))
 
 pub event_in-spelled : (names : NameLists) (text : List ℕ) (event : Event) → AreValid names → SpellsEvent names text event → event_in names text ≡ Ok event
 unfolding event_of is_of
@@ -174,28 +174,28 @@ event_in-spelled names text (events.Call processor call) valid s =
 -- ---- what is read is spelled
 
 -- the rest behind the processor's word, where it begins with a word, has a blank before it
-no_blank : (t between : List ℕ) → 1 ≤ length (front Word (after Blank (after Word t))) → front Blank (after Word t) ≡ between → 1 ≤ length between
+no_blank : (t between : List ℕ) → 1 ≤ length (prefix Word (after Blank (after Word t))) → prefix Blank (after Word t) ≡ between → 1 ≤ length between
 no_blank t [] word e =
-    let same : after Blank (after Word t) ≡ after Word t = ap (λ (f : List ℕ). f ++ after Blank (after Word t)) (sym e) ∙ front-after Blank (after Word t) in
+    let same : after Blank (after Word t) ≡ after Word t = ap (λ (f : List ℕ). f ++ after Blank (after Word t)) (sym e) ∙ prefix-after Blank (after Word t) in
     let none : prefix_len (is_of Word) (after Blank (after Word t)) ≡ 0 = ap (prefix_len (is_of Word)) same ∙ after-stops Word t in
-    let empty : front Word (after Blank (after Word t)) ≡ [] = ap (λ (n : ℕ). take n (after Blank (after Word t))) none in
+    let empty : prefix Word (after Blank (after Word t)) ≡ [] = ap (λ (n : ℕ). take n (after Blank (after Word t))) none in
     absurd (omega (arith, word, ap length empty))
 no_blank t (b ∷ between) word e = omega arith
 
-pub blank_between : (t : List ℕ) → 1 ≤ length (front Word (after Blank (after Word t))) → 1 ≤ length (front Blank (after Word t))
-blank_between t word = no_blank t (front Blank (after Word t)) word refl
+pub blank_between : (t : List ℕ) → 1 ≤ length (prefix Word (after Blank (after Word t))) → 1 ≤ length (prefix Blank (after Word t))
+blank_between t word = no_blank t (prefix Blank (after Word t)) word refl
 
-on_processor_spelled : (names : NameLists) (text : List ℕ) (processor : Proc) (Happens : List ℕ → Type 0) → processor_in names (front Word (after Blank text)) ≡ Ok processor
-    → Happens (after Blank (after Word (after Blank text))) → 1 ≤ length (front Word (after Blank (after Word (after Blank text)))) → OnProcessor names processor Happens text
+on_processor_spelled : (names : NameLists) (text : List ℕ) (processor : Proc) (Happens : List ℕ → Type 0) → processor_in names (prefix Word (after Blank text)) ≡ Ok processor
+    → Happens (after Blank (after Word (after Blank text))) → 1 ≤ length (prefix Word (after Blank (after Word (after Blank text)))) → OnProcessor names processor Happens text
 on_processor_spelled names text processor Happens read happens word =
-    let w = processor_spelled names (front Word (after Blank text)) processor read in
+    let w = processor_spelled names (prefix Word (after Blank text)) processor read in
     let t : List ℕ = after Blank text in
-    let whole : text ≡ front Blank text ++ (80 ∷ (decimal w.number ++ (front Blank (after Word (after Blank text)) ++ after Blank (after Word (after Blank text))))) =
-    sym (front-after Blank text) ∙ ap (λ (r : List ℕ). front Blank text ++ r) (sym (front-after Word (after Blank text)) ∙ ap (λ (f : List ℕ). f ++ after Word (after Blank text)) w.parts ∙ ap (λ (r : List ℕ). (80 ∷ decimal w.number) ++ r) (sym (front-after Blank (after Word (after Blank text))))) in
+    let whole : text ≡ prefix Blank text ++ (80 ∷ (decimal w.number ++ (prefix Blank (after Word (after Blank text)) ++ after Blank (after Word (after Blank text))))) =
+    sym (prefix-after Blank text) ∙ ap (λ (r : List ℕ). prefix Blank text ++ r) (sym (prefix-after Word (after Blank text)) ∙ ap (λ (f : List ℕ). f ++ after Word (after Blank text)) w.parts ∙ ap (λ (r : List ℕ). (80 ∷ decimal w.number) ++ r) (sym (prefix-after Blank (after Word (after Blank text))))) in
     record {
-      before = front Blank text;
+      before = prefix Blank text;
       number = w.number;
-      between = front Blank (after Word (after Blank text));
+      between = prefix Blank (after Word (after Blank text));
       rest = after Blank (after Word (after Blank text));
       before_blank = list_all-take_while (is_of Blank) text;
       least = w.least;
@@ -208,24 +208,24 @@ on_processor_spelled names text processor Happens read happens word =
     }
 
 -- a word with blanks behind it
-alone_spelled : (word text : List ℕ) (event found : Event) → bytes_eq (front Word text) word ≡ true → alone event (after Word text) ≡ Ok found → IsAlone word text × (event ≡ found) × (length (front Word text) ≡ length word)
+alone_spelled : (word text : List ℕ) (event found : Event) → bytes_eq (prefix Word text) word ≡ true → alone event (after Word text) ≡ Ok found → IsAlone word text × (event ≡ found) × (length (prefix Word text) ≡ length word)
 alone_spelled word text event found e read =
-    let same = (bytes_eq-Decides (front Word text) word).0 e in
+    let same = (bytes_eq-Decides (prefix Word text) word).0 e in
     let t = tested_ok (list_all (is_of Blank) (after Word text)) (Ok event) WrongArguments found read in
     let is_found : event ≡ found = let e2 = t.1 in cc in
-    (record { behind = after Word text; behind_blank = t.0; parts = sym (front-after Word text) ∙ ap (λ (f : List ℕ). f ++ after Word text) same }, is_found, ap length same)
+    (record { behind = after Word text; behind_blank = t.0; parts = sym (prefix-after Word text) ∙ ap (λ (f : List ℕ). f ++ after Word text) same }, is_found, ap length same)
 
-happens_spelled : (names : NameLists) (text : List ℕ) (processor : Proc) (event : Event) → processor_in names (front Word (after Blank text)) ≡ Ok processor
+happens_spelled : (names : NameLists) (text : List ℕ) (processor : Proc) (event : Event) → processor_in names (prefix Word (after Blank text)) ≡ Ok processor
     → event_of names processor (after Blank (after Word (after Blank text))) ≡ Ok event → SpellsEvent names text event
 unfolding event_of
 happens_spelled names text processor event read e =
     let rest : List ℕ = after Blank (after Word (after Blank text)) in
-    elim (cases_Bool (bytes_eq (front Word (after Blank (after Word (after Blank text)))) (codes "tick"))) [
+    elim (cases_Bool (bytes_eq (prefix Word (after Blank (after Word (after Blank text)))) (codes "tick"))) [
       | inl t ↦
           let a = alone_spelled (codes "tick") (after Blank (after Word (after Blank text))) (events.Tick processor) event t (rw t at e) in
           subst (SpellsEvent names text) a.1 (on_processor_spelled names text processor (IsAlone (codes "tick")) read a.0 (omega (arith, a.2)))
       | inr f ↦
-          elim (cases_Bool (bytes_eq (front Word (after Blank (after Word (after Blank text)))) (codes "ipi"))) [
+          elim (cases_Bool (bytes_eq (prefix Word (after Blank (after Word (after Blank text)))) (codes "ipi"))) [
             | inl t ↦
                 let a = alone_spelled (codes "ipi") (after Blank (after Word (after Blank text))) (events.Ipi processor) event t (rw (f, t) at e) in
                 subst (SpellsEvent names text) a.1 (on_processor_spelled names text processor (IsAlone (codes "ipi")) read a.0 (omega (arith, a.2)))
@@ -234,7 +234,7 @@ happens_spelled names text processor event read e =
                 let same : events.Call processor b.0 ≡ event = let e2 = b.2 in cc in
                 let here = after-none (after Blank (after Word (after Blank text))) (after-stops Blank (after Word (after Blank text))) in
                 let spelled = call_at_is_spelled names (after Blank (after Word (after Blank text))) b.0 (ap (call_at names) here ∙ b.1) in
-                let word : front Word (after Blank (after Word (after Blank text))) ≡ text_of b.0 = ap (front Word) (sym here) ∙ word_of_call names (after Blank (after Word (after Blank text))) b.0 spelled in
+                let word : prefix Word (after Blank (after Word (after Blank text))) ≡ text_of b.0 = ap (prefix Word) (sym here) ∙ word_of_call names (after Blank (after Word (after Blank text))) b.0 spelled in
                 subst (SpellsEvent names text) same (on_processor_spelled names text processor (λ r. SpellsCall names r b.0) read spelled (omega (arith, ap length word, (identifier_bytes (text_of b.0) (is_identifier-text_of b.0)).0)))
           ]
     ]
@@ -243,7 +243,7 @@ pub event_is_spelled : (names : NameLists) (text : List ℕ) (event : Event) →
 unfolding event_in event_at
 event_is_spelled names text event e =
     let t = tested_ok (list_all (is_of Line) text) _ BadByte event e in
-    let p = bind_parts (processor_in names (front Word (after Blank text))) (λ processor. event_of names processor (after Blank (after Word (after Blank text)))) event t.1 in
+    let p = bind_parts (processor_in names (prefix Word (after Blank text))) (λ processor. event_of names processor (after Blank (after Word (after Blank text)))) event t.1 in
     happens_spelled names text p.0 event p.1 p.2
 
 -- an event's line holds only the bytes of lines

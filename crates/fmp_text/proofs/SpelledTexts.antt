@@ -7,8 +7,8 @@ use Rattle.std.proofs.lemmas.List.{take_at, take_all, take_more}
 use Rattle.std.proofs.Math.Seq.{take-append-add}
 use Rattle.fmp_codes.specs.declared.records.Event.{Event}
 use Rattle.fmp_bytes.specs.declared.classes.Class.TheVariants.{Blank, Line}
-use Rattle.fmp_bytes.specs.Bytes.{is_of, front, after, behind, pieces_of}
-use Rattle.fmp_bytes.proofs.Fronts.{front-append, front-after, list_all-take_while, stops-cons, list_all-parts, list_all-weaker}
+use Rattle.fmp_bytes.specs.Bytes.{is_of, prefix, after, behind, pieces_of}
+use Rattle.fmp_bytes.proofs.Prefixes.{prefix-append, prefix-after, list_all-take_while, stops-cons, list_all-parts, list_all-weaker}
 use Rattle.fmp_bytes.proofs.Included.{line-blank}
 use Rattle.fmp_bytes.proofs.Spelled.{behind_is, behind-same}
 use Rattle.fmp_bytes.proofs.Cutting.{join-pieces_of, some-pieces_of, apart-pieces_of}
@@ -88,7 +88,7 @@ or_from_right false = refl
 
 -- what follows the blanks before a byte that is none
 pub after_first : (before : List ℕ) (b : ℕ) (rest : List ℕ) → AreBlank before → is_of Blank b ≡ false → after Blank (before ++ (b ∷ rest)) ≡ b ∷ rest
-after_first before b rest blank other = (front-append Blank before (b ∷ rest) blank (stops-cons (is_of Blank) b rest other)).1
+after_first before b rest blank other = (prefix-append Blank before (b ∷ rest) blank (stops-cons (is_of Blank) b rest other)).1
 
 blank_skipped : (core : List ℕ) → AreBlank core → is_skipped core ≡ true
 unfolding is_skipped
@@ -141,7 +141,7 @@ skipped_parts core e =
       | inl blank ↦ inl blank
       | inr found ↦
           let p = some_parts (behind 35 (after Blank core)) found in
-          inr (record { before = front Blank core; rest = p.0; before_blank = list_all-take_while (is_of Blank) core; parts = sym (front-after Blank core) ∙ ap (λ (r : List ℕ). front Blank core ++ r) (behind_is 35 (after Blank core) p.0 p.1) })
+          inr (record { before = prefix Blank core; rest = p.0; before_blank = list_all-take_while (is_of Blank) core; parts = sym (prefix-after Blank core) ∙ ap (λ (r : List ℕ). prefix Blank core ++ r) (behind_is 35 (after Blank core) p.0 p.1) })
     ]
 
 comment_ended : (core line : List ℕ) → Ended core line → IsComment core → IsComment line

@@ -4,7 +4,7 @@ use Rattle.std.specs.List.{list_all}
 use Rattle.std.specs.Option.{ok_or, option_map_or, option_or}
 use Rattle.fmp_bytes.specs.declared.classes.Class.TheVariants.{Blank, Argument}
 use Rattle.fmp_bytes.specs.declared.numerals.Number.{Number}
-use Rattle.fmp_bytes.specs.Bytes.{is_of, front, after, behind, cut_at, pieces_of, is_identifier, close_parenthesis, comma, open_parenthesis}
+use Rattle.fmp_bytes.specs.Bytes.{is_of, prefix, after, behind, cut_at, pieces_of, is_identifier, close_parenthesis, comma, open_parenthesis}
 use Rattle.fmp_bytes.specs.Numerals.{number_of, signed_of, unsigned_limited}
 use Rattle.fmp_calls.specs.declared.kinds.ArgumentKind.{ArgumentKind}
 use Rattle.fmp_calls.specs.declared.kinds.ArgumentKind.TheVariants as kinds
@@ -31,7 +31,7 @@ is_argument token = is_identifier token || is_some (number_of token)
 -- the one argument in a piece of text, with blanks around
 unfoldable pub token_in : List ℕ → Option (List ℕ)
 token_in piece =
-    if is_argument (front Argument (after Blank piece)) && list_all (is_of Blank) (after Argument (after Blank piece)) then Some (front Argument (after Blank piece))
+    if is_argument (prefix Argument (after Blank piece)) && list_all (is_of Blank) (after Argument (after Blank piece)) then Some (prefix Argument (after Blank piece))
     else None
 
 -- the arguments in the pieces between commas

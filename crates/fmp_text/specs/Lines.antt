@@ -8,7 +8,7 @@ use Rattle.fmp_codes.specs.declared.numbers.Proc.{Proc}
 use Rattle.fmp_codes.specs.declared.records.Event.{Event}
 use Rattle.fmp_codes.specs.declared.records.Event.TheVariants as events
 use Rattle.fmp_bytes.specs.declared.classes.Class.TheVariants.{Blank, Word, Line}
-use Rattle.fmp_bytes.specs.Bytes.{is_of, front, after, behind, letter_p, number_sign}
+use Rattle.fmp_bytes.specs.Bytes.{is_of, prefix, after, behind, letter_p, number_sign}
 use Rattle.fmp_bytes.specs.Numerals.{are_digits, is_zero_led, magnitude_of}
 use Rattle.fmp_text.specs.declared.fault.TextKind.{TextKind}
 use Rattle.fmp_text.specs.declared.fault.TextKind.TheVariants.{BadByte, BadWord, WrongArguments, NumberOutOfRange}
@@ -41,14 +41,14 @@ alone event rest = if list_all (is_of Blank) rest then Ok event else Err WrongAr
 -- what happens on a processor
 unfoldable pub event_of : NameLists → Proc → List ℕ → Result Event TextKind
 event_of names processor text =
-    if bytes_eq (front Word text) (codes "tick") then alone (events.Tick processor) (after Word text)
-    else (if bytes_eq (front Word text) (codes "ipi") then alone (events.Ipi processor) (after Word text)
+    if bytes_eq (prefix Word text) (codes "tick") then alone (events.Tick processor) (after Word text)
+    else (if bytes_eq (prefix Word text) (codes "ipi") then alone (events.Ipi processor) (after Word text)
     else (call_at names text >>= λ call. Ok (events.Call processor call)))
 
 -- a line that begins with no blank
 unfoldable pub event_at : NameLists → List ℕ → Result Event TextKind
 event_at names text = do
-  processor ← processor_in names (front Word text)
+  processor ← processor_in names (prefix Word text)
   event_of names processor (after Blank (after Word text))
 
 -- a line that is not to be skipped

@@ -10,7 +10,7 @@ use Rattle.fmp_calls.specs.Table.{is_bare, kinds_of, call_of, named}
 use Rattle.fmp_bytes.specs.declared.classes.Class.TheVariants.{Blank, Word, Line}
 use Rattle.fmp_text.specs.declared.fault.TextKind.{TextKind}
 use Rattle.fmp_text.specs.declared.fault.TextKind.TheVariants.{BadByte, BadWord, WrongArguments}
-use Rattle.fmp_bytes.specs.Bytes.{is_of, front, after}
+use Rattle.fmp_bytes.specs.Bytes.{is_of, prefix, after}
 use Rattle.fmp_names.specs.Names.{NameLists}
 use Rattle.fmp_text.specs.Argument.{arguments_behind, value_at}
 
@@ -48,7 +48,7 @@ call_after names name rest = do
 -- a call with no blanks before it
 unfoldable pub call_at : NameLists → List ℕ → Result Call TextKind
 call_at names text = do
-  name ← named_call (front Word text)
+  name ← named_call (prefix Word text)
   call_after names name (after Word text)
 
 -- the bytes of one call

@@ -8,7 +8,7 @@ use crate::fault::TextKind;
 use arrayvec::ArrayVec;
 use fmp_bytes::{
     Class, Number, all_of, behind, cut, is_identifier, signed32, signed64, skip, spelled_number,
-    split_front, unsigned32,
+    split_prefix, unsigned32,
 };
 use fmp_calls::{ArgumentKind, MOST_ARGUMENTS, Value};
 use fmp_names::{Names, constant_in, is_constant};
@@ -26,7 +26,7 @@ pub fn is_argument(token: &[u8]) -> bool
 fn token_in(piece: &[u8]) -> Option<&[u8]>
     ensures { option_copied result ≡ spec.token_in piece.now }
 {
-    let (token, rest) = split_front(Class::Argument, skip(Class::Blank, piece));
+    let (token, rest) = split_prefix(Class::Argument, skip(Class::Blank, piece));
     if is_argument(token) && all_of(Class::Blank, rest) {
         Some(token)
     } else {

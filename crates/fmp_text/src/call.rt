@@ -6,7 +6,7 @@ ghost use Rattle.fmp_text.specs.Reading.{Gives};
 use crate::argument::{arguments_behind, value_at};
 use crate::fault::TextKind;
 use arrayvec::ArrayVec;
-use fmp_bytes::{Class, all_of, skip, split_front};
+use fmp_bytes::{Class, all_of, skip, split_prefix};
 use fmp_calls::{ArgumentKind, MOST_ARGUMENTS, Value, find_call, form, with_values};
 use fmp_codes::Call;
 use fmp_names::Names;
@@ -59,7 +59,7 @@ fn call_after(names: &Names, name: Call, rest: &[u8]) -> Result<Call, TextKind>
 pub fn call_at(names: &Names, text: &[u8]) -> Result<Call, TextKind>
     ensures { result ≡ spec.call_at names.now text.now }
 {
-    let (word, rest) = split_front(Class::Word, text);
+    let (word, rest) = split_prefix(Class::Word, text);
     call_after(names, named_call(word)?, rest)
 }
 

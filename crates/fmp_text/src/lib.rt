@@ -1,4 +1,12 @@
 //! Texts of events: service calls and lists of events.
+//!
+//! [`read_call`] reads a call, [`line_event`] a line, and [`read_events`] a text, each with the first fault that is met from
+//! left to right (`specs/Reading`, `Lines`, `Events`). [`first_said`] reads the next line that says something, for readers that
+//! keep no text.
+//!
+//! What a text spells is said a second time without a reader: `specs/Grammar` for calls and `specs/TextGrammar` for texts. The
+//! laws say that what is spelled is read, what is read is spelled, and a text spells at most one list of events.
+//! docs/FORMATS.md has the forms and the faults.
 #![tactic(auto)]
 
 mod argument;

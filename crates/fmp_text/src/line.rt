@@ -5,7 +5,7 @@ ghost use Rattle.fmp_text.specs.Lines as spec;
 
 use crate::call::call_at;
 use crate::fault::TextKind;
-use fmp_bytes::{Class, all_of, are_digits, behind, is_zero_led, magnitude, skip, split_front};
+use fmp_bytes::{Class, all_of, are_digits, behind, is_zero_led, magnitude, skip, split_prefix};
 use fmp_codes::{Event, Proc};
 use fmp_names::Names;
 
@@ -66,7 +66,7 @@ fn alone(event: Event, rest: &[u8]) -> Result<Event, TextKind>
 fn event_of(names: &Names, processor: Proc, text: &[u8]) -> Result<Event, TextKind>
     ensures { result ≡ spec.event_of names.now processor text.now }
 {
-    let (word, rest) = split_front(Class::Word, text);
+    let (word, rest) = split_prefix(Class::Word, text);
     if word == b"tick".as_slice() {
         return alone(Event::Tick(processor), rest);
     }
@@ -80,7 +80,7 @@ fn event_of(names: &Names, processor: Proc, text: &[u8]) -> Result<Event, TextKi
 fn event_at(names: &Names, text: &[u8]) -> Result<Event, TextKind>
     ensures { result ≡ spec.event_at names.now text.now }
 {
-    let (word, rest) = split_front(Class::Word, text);
+    let (word, rest) = split_prefix(Class::Word, text);
     let processor = processor_in(names, word)?;
     event_of(names, processor, skip(Class::Blank, rest))
 }

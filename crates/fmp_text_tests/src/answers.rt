@@ -26,7 +26,7 @@ impl Frame {
             Frame::Behind => (BEHIND, b""),
             Frame::Inside => (INSIDE, b" }"),
             Frame::Timed => (TIMED, b" }"),
-            Frame::Around(front, end) => (front, end),
+            Frame::Around(prefix, end) => (prefix, end),
         }
     }
 }
@@ -68,11 +68,11 @@ pub fn answer(alloc: Global, text: &[u8]) -> Result<String, AllocError> {
 /// A text between two others.
 pub fn between(
     alloc: Global,
-    front: &[u8],
+    prefix: &[u8],
     text: &[u8],
     end: &[u8],
 ) -> Result<Vec<u8>, AllocError> {
-    let mut whole = Vec::from_slice(alloc, front)?;
+    let mut whole = Vec::from_slice(alloc, prefix)?;
     whole.extend_from_slice(text)?;
     whole.extend_from_slice(end)?;
     Ok(whole)
@@ -80,8 +80,8 @@ pub fn between(
 
 /// A text in a frame.
 pub fn framed(alloc: Global, frame: Frame, text: &[u8]) -> Result<Vec<u8>, AllocError> {
-    let (front, end) = frame.texts();
-    between(alloc, front, text, end)
+    let (prefix, end) = frame.texts();
+    between(alloc, prefix, text, end)
 }
 
 /// Asserts the answer to a text.

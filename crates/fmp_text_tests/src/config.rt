@@ -330,8 +330,8 @@ fn is_machine(config: &Config) -> bool {
         && config.names().number(NameKind::Function, b"main1") == Some(1)
 }
 
-/// Fronts that say nothing of the machine behind them.
-const FRONTS: [&[u8]; 10] = [
+/// Prefixes that say nothing of the machine behind them.
+const PREFIXES: [&[u8]; 10] = [
     b"",
     b"#include <kernel.h> /* C comment */\n",
     b"/* a\n */ #include \"a//b\"\n",
@@ -344,22 +344,22 @@ const FRONTS: [&[u8]; 10] = [
     b"#include a // b \\\nPROCESSORS(1);\n",
 ];
 
-/// The machine behind a front, with a statement behind its first one, and a task at the end.
+/// The machine behind a prefix, with a statement behind its first one, and a task at the end.
 fn changed(
     alloc: Global,
-    front: &[u8],
+    prefix: &[u8],
     statement: &[u8],
     task: &[u8],
 ) -> Result<Vec<u8>, AllocError> {
-    let mut text = between(alloc, front, b"PROCESSORS(2);", statement)?;
+    let mut text = between(alloc, prefix, b"PROCESSORS(2);", statement)?;
     text.extend_from_slice(MACHINE)?;
     text.extend_from_slice(task)?;
     Ok(text)
 }
 
-fn say_nothing(rt: &impl Abort, alloc: Global, fronts: &[&'static [u8]]) -> Result<(), Fail> {
-    for front in fronts {
-        let text = changed(alloc, *front, b"", b"")?;
+fn say_nothing(rt: &impl Abort, alloc: Global, prefixes: &[&'static [u8]]) -> Result<(), Fail> {
+    for prefix in prefixes {
+        let text = changed(alloc, *prefix, b"", b"")?;
         with_config(alloc, text.as_slice(), |config| {
             assert!(rt; is_machine(config));
             Ok(())
@@ -369,8 +369,8 @@ fn say_nothing(rt: &impl Abort, alloc: Global, fronts: &[&'static [u8]]) -> Resu
 }
 
 #[test]
-fn fronts_say_nothing(rt: HostRuntime) -> Result<(), Fail> {
-    say_nothing(&rt, rt.alloc(), &FRONTS)
+fn prefixes_say_nothing(rt: HostRuntime) -> Result<(), Fail> {
+    say_nothing(&rt, rt.alloc(), &PREFIXES)
 }
 
 /// A second task.

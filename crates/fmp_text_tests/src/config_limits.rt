@@ -193,9 +193,9 @@ const KINDS: [Kind; 10] = [
 /// So many of a kind, each on a line of its own behind the first line.
 fn many(alloc: Global, kind: Kind, count: u32) -> Result<Vec<u8>, AllocError> {
     let (frame, before, behind, _) = kind;
-    let (front, _) = frame.texts();
-    let mut text = Vec::from_slice(alloc, front)?;
-    if front.is_empty() {
+    let (prefix, _) = frame.texts();
+    let mut text = Vec::from_slice(alloc, prefix)?;
+    if prefix.is_empty() {
         text.extend_from_slice(b"PROCESSORS(1);")?;
     }
     for number in 1..=count {
@@ -301,7 +301,7 @@ fn too_many_handlers(rt: HostRuntime) -> Result<(), Fail> {
     Ok(())
 }
 
-/// Fronts of texts, and the answers to them with blanks behind.
+/// Prefixes of texts, and the answers to them with blanks behind.
 const LONG: [Row; 4] = [
     (b"PROCESSORS(1);", "ok"),
     (b"PROCESSORS(1); /*", "1 F2"),
@@ -310,8 +310,8 @@ const LONG: [Row; 4] = [
 ];
 
 fn may_be_long(rt: &impl Abort, alloc: Global, rows: &[Row]) -> Result<(), AllocError> {
-    for (front, expected) in rows {
-        let mut text = Vec::from_slice(alloc, *front)?;
+    for (prefix, expected) in rows {
+        let mut text = Vec::from_slice(alloc, *prefix)?;
         text.resize(1_048_576, b' ')?;
         answers(rt, alloc, text.as_slice(), *expected)?;
         text.push(b' ')?;

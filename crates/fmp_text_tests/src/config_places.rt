@@ -42,25 +42,25 @@ const UNKNOWN: [&str; 22] = [
 fn tells(
     rt: &impl Abort,
     alloc: Global,
-    front: &[u8],
+    prefix: &[u8],
     expected: &str,
     word: &str,
 ) -> Result<(), AllocError> {
-    let text = between(alloc, front, word.as_bytes(), b"\n]")?;
+    let text = between(alloc, prefix, word.as_bytes(), b"\n]")?;
     let expected = format!(in alloc; "{expected} {word}")?;
     answers(rt, alloc, text.as_slice(), expected.as_str())
 }
 
-/// Asserts the same answer to each word behind a front.
+/// Asserts the same answer to each word behind a prefix.
 fn all_tell(
     rt: &impl Abort,
     alloc: Global,
-    front: &[u8],
+    prefix: &[u8],
     expected: &str,
     words: &[&'static str],
 ) -> Result<(), AllocError> {
     for word in words {
-        tells(rt, alloc, front, expected, *word)?;
+        tells(rt, alloc, prefix, expected, *word)?;
     }
     Ok(())
 }
@@ -114,9 +114,9 @@ const STATEMENTS: [(Frame, &[u8]); 15] = [
     (Frame::Inside, b"CRE_SPN ( X , { TA_NULL } ) ;"),
 ];
 
-/// The front of a statement, one token a line.
-fn in_lines(alloc: Global, front: &[u8]) -> Result<Vec<u8>, AllocError> {
-    let mut text = Vec::from_slice(alloc, front)?;
+/// The prefix of a statement, one token a line.
+fn in_lines(alloc: Global, prefix: &[u8]) -> Result<Vec<u8>, AllocError> {
+    let mut text = Vec::from_slice(alloc, prefix)?;
     for byte in text.as_mut_slice() {
         if *byte == b' ' {
             *byte = b'\n';
@@ -129,28 +129,28 @@ fn in_lines(alloc: Global, front: &[u8]) -> Result<Vec<u8>, AllocError> {
 fn ends_before(
     rt: &impl Abort,
     alloc: Global,
-    front: &[u8],
+    prefix: &[u8],
     next: u8,
     line: u32,
 ) -> Result<(), AllocError> {
-    answers(rt, alloc, front, "1 F2")?;
+    answers(rt, alloc, prefix, "1 F2")?;
     let other: &[u8] = if next == b'{' { b"]" } else { b"{" };
-    let text = between(alloc, front, other, b"")?;
+    let text = between(alloc, prefix, other, b"")?;
     let expected = format!(in alloc; "{line} F1")?;
     answers(rt, alloc, text.as_slice(), expected.as_str())
 }
 
-/// Asserts so before the token behind a blank, the last byte of a front.
+/// Asserts so before the token behind a blank, the last byte of a prefix.
 fn ends_behind(
     rt: &impl Abort,
     alloc: Global,
     frame: Frame,
-    front: &[u8],
+    prefix: &[u8],
     rest: &[u8],
     line: u32,
 ) -> Result<(), AllocError> {
     let (before, _) = frame.texts();
-    let lines = in_lines(alloc, front)?;
+    let lines = in_lines(alloc, prefix)?;
     let text = between(alloc, before, lines.as_slice(), b"")?;
     let next = rest.first().copied().unwrap_or(b' ');
     ends_before(rt, alloc, text.as_slice(), next, line)
@@ -167,8 +167,8 @@ fn ends_nowhere(
     for (index, byte) in statement.iter().enumerate() {
         if *byte == b' ' {
             line = line.saturating_add(1);
-            let (front, rest) = statement.split_at(index + 1);
-            ends_behind(rt, alloc, frame, front, rest, line)?;
+            let (prefix, rest) = statement.split_at(index + 1);
+            ends_behind(rt, alloc, frame, prefix, rest, line)?;
         }
     }
     Ok(())

@@ -203,8 +203,8 @@ fn equal_scripts_are_the_same(rt: HostRuntime) -> Result<(), Fail> {
 
 fn are_cut(rt: &impl Abort, alloc: Global, names: &Names, text: &[u8]) {
     for length in 0..=text.len() {
-        let (front, _) = text.split_at(length);
-        assert!(rt; fault(alloc, names, front) == cut_fault(length));
+        let (prefix, _) = text.split_at(length);
+        assert!(rt; fault(alloc, names, prefix) == cut_fault(length));
     }
 }
 

@@ -6,7 +6,7 @@ use Rattle.std.proofs.lemmas.List.{get_or-set_same, get_or-set_other, length-set
 use Rattle.fmp_links.specs.Lists as links
 use Rattle.fmp_links.specs.Lists.{has, AreDistinct, AreDisjoint, first_of}
 use Rattle.fmp_links.proofs.Having as having
-use Rattle.fmp_links.proofs.Having.{has_here, has_there, lacks_from, lacks_first, ne}
+use Rattle.fmp_links.proofs.Having.{has_here, lacks_from}
 use Rattle.fmp_links.proofs.Soundness.{list_at-take_out}
 use Rattle.fmp_time.specs.Differences.{Entry, list_at, lowered, due, not_due, entries_from, entries_of, sum_of, first_adding, zeros_of, rest_of, items_of, IsSummed}
 use Rattle.fmp_time.proofs.Sums.{frame, adding_there, adding_adds, lower_adding, lower_none, fewer_total}

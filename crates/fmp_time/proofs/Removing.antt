@@ -6,7 +6,7 @@ use Rattle.std.proofs.lemmas.List.{get_or-set_same, get_or-set_other, length-map
 use Rattle.fmp_links.specs.Lists as links
 use Rattle.fmp_links.specs.Lists.{has, AreDistinct, AreDisjoint, first_of}
 use Rattle.fmp_links.proofs.Having as having
-use Rattle.fmp_links.proofs.Having.{has_here, has_there, has_behind, lacks_first, lacks_behind, lacks_from, ne}
+use Rattle.fmp_links.proofs.Having.{has_here, has_there, has_behind, lacks_from, ne}
 use Rattle.fmp_links.proofs.Soundness.{list_at-take_out}
 use Rattle.fmp_time.specs.Differences.{Entry, list_at, has_entry, without, take_out, entries_from, entries_of, sum_of, IsSummed}
 use Rattle.fmp_time.proofs.Entries.{has_entry-entries_of}

@@ -6,8 +6,8 @@ use Rattle.std.proofs.lemmas.Bool.{cases_Bool, and_parts, and_from, or_cases, or
 use Rattle.std.proofs.lemmas.List.Sums.{take_while-cons}
 use Rattle.fmp_bytes.specs.declared.classes.Class.TheVariants.{Space, Word, Letter}
 use Rattle.fmp_bytes.specs.declared.classes.Class.TheVariants as class
-use Rattle.fmp_bytes.specs.Bytes.{is_of, front, after}
-use Rattle.fmp_bytes.proofs.Fronts.{front-after, after-stops, list_all-take_while}
+use Rattle.fmp_bytes.specs.Bytes.{is_of, prefix, after}
+use Rattle.fmp_bytes.proofs.Prefixes.{prefix-after, after-stops, list_all-take_while}
 use Rattle.fmp_tokens.specs.declared.tokens.TokenKind.{TokenKind}
 use Rattle.fmp_tokens.specs.declared.tokens.TokenKind.TheVariants as kinds
 use Rattle.fmp_tokens.specs.declared.tokens.End.TheVariants.{Done, Bad}
@@ -24,8 +24,8 @@ use Rattle.fmp_token_laws.proofs.Left.{glyphs_in, GapLeft, IsLeft, part_before}
 
 -- ---- words
 
-pub front_more : (b : ℕ) (bytes : List ℕ) → is_of Word b ≡ true → front Word (b ∷ bytes) ≡ b ∷ front Word bytes
-front_more b bytes word = take_while-cons (is_of Word) b bytes ∙ ap (λ (t : Bool). cond t (b ∷ front Word bytes) []) word
+pub prefix_more : (b : ℕ) (bytes : List ℕ) → is_of Word b ≡ true → prefix Word (b ∷ bytes) ≡ b ∷ prefix Word bytes
+prefix_more b bytes word = take_while-cons (is_of Word) b bytes ∙ ap (λ (t : Bool). cond t (b ∷ prefix Word bytes) []) word
 
 word_stops : (text : List ℕ) → prefix_len (is_of Word) text ≡ 0 → begins_with Word text ≡ false
 word_stops [] none = refl
@@ -153,10 +153,10 @@ module _ (line b : ℕ) (bytes : List ℕ) (tail : IsLeft bytes) where
 
 -- a word is whole, and what follows it
 whole_word : (place : Place) (kind : TokenKind) (b : ℕ) (bytes : List ℕ) (glyphs : List Glyph) → is_of Word b ≡ true
-    → GapLeft place (b ∷ (front Word bytes ++ after Word bytes)) (record { kind = kind; text = b ∷ front Word bytes } ∷ glyphs) → GapLeft place (b ∷ bytes) (record { kind = kind; text = front Word (b ∷ bytes) } ∷ glyphs)
+    → GapLeft place (b ∷ (prefix Word bytes ++ after Word bytes)) (record { kind = kind; text = b ∷ prefix Word bytes } ∷ glyphs) → GapLeft place (b ∷ bytes) (record { kind = kind; text = prefix Word (b ∷ bytes) } ∷ glyphs)
 whole_word place kind b bytes glyphs word left =
-    let more = sym (front_more b bytes word) in
-    let joined = subst (λ (t : List ℕ). GapLeft place (b ∷ t) (record { kind = kind; text = b ∷ front Word bytes } ∷ glyphs)) (front-after Word bytes) left in
+    let more = sym (prefix_more b bytes word) in
+    let joined = subst (λ (t : List ℕ). GapLeft place (b ∷ t) (record { kind = kind; text = b ∷ prefix Word bytes } ∷ glyphs)) (prefix-after Word bytes) left in
     subst (λ (w : List ℕ). GapLeft place (b ∷ bytes) (record { kind = kind; text = w } ∷ glyphs)) more joined
 
 -- ---- any byte
@@ -179,8 +179,8 @@ module _ (place : Place) (line b : ℕ) (bytes : List ℕ) (tail : IsLeft bytes)
   identifier_left letter =
       let e = gives (modes.Gap place) line b bytes kinds.Identifier line _ (identifier_in_gap place line b bytes letter) in
       let word = list_all-take_while (is_of Word) bytes in
-      let may = and_from (is_of Letter b && list_all (is_of Word) (front Word bytes)) _ (and_from (is_of Letter b) _ letter word) (not_from_false _ (word_stops (after Word bytes) (after-stops Word bytes))) in
-      let here = part_before place (Identifier (b ∷ front Word bytes)) (after Word bytes) _ may (tail _ _ (rw e at done)) in
+      let may = and_from (is_of Letter b && list_all (is_of Word) (prefix Word bytes)) _ (and_from (is_of Letter b) _ letter word) (not_from_false _ (word_stops (after Word bytes) (after-stops Word bytes))) in
+      let here = part_before place (Identifier (b ∷ prefix Word bytes)) (after Word bytes) _ may (tail _ _ (rw e at done)) in
       rw e (whole_word place kinds.Identifier b bytes _ (letter_is_word b letter) here)
 
   digits_left : is_of class.Digit b ≡ true → GapLeft place (b ∷ bytes) (glyphs_in (modes.Gap place) line (b ∷ bytes))
@@ -188,8 +188,8 @@ module _ (place : Place) (line b : ℕ) (bytes : List ℕ) (tail : IsLeft bytes)
   digits_left digit =
       let e = gives (modes.Gap place) line b bytes kinds.Digits line _ (digits_in_gap place line b bytes digit) in
       let word = list_all-take_while (is_of Word) bytes in
-      let may = and_from (is_of class.Digit b && list_all (is_of Word) (front Word bytes)) _ (and_from (is_of class.Digit b) _ digit word) (not_from_false _ (word_stops (after Word bytes) (after-stops Word bytes))) in
-      let here = part_before place (Digits (b ∷ front Word bytes)) (after Word bytes) _ may (tail _ _ (rw e at done)) in
+      let may = and_from (is_of class.Digit b && list_all (is_of Word) (prefix Word bytes)) _ (and_from (is_of class.Digit b) _ digit word) (not_from_false _ (word_stops (after Word bytes) (after-stops Word bytes))) in
+      let here = part_before place (Digits (b ∷ prefix Word bytes)) (after Word bytes) _ may (tail _ _ (rw e at done)) in
       rw e (whole_word place kinds.Digits b bytes _ (digit_is_word b digit) here)
 
   word_left : is_of Word b ≡ true → GapLeft place (b ∷ bytes) (glyphs_in (modes.Gap place) line (b ∷ bytes))

@@ -4,8 +4,8 @@ use Rattle.std.specs.List.{list_all, flat_map, prefix_len}
 use Rattle.std.proofs.lemmas.Bool.{and_parts, and_from, not-true, false≢true}
 use Rattle.fmp_bytes.specs.declared.classes.Class.TheVariants.{Word, Letter}
 use Rattle.fmp_bytes.specs.declared.classes.Class.TheVariants as class
-use Rattle.fmp_bytes.specs.Bytes.{is_of, front, is_identifier}
-use Rattle.fmp_bytes.proofs.Fronts.{front-append, stops-cons}
+use Rattle.fmp_bytes.specs.Bytes.{is_of, prefix, is_identifier}
+use Rattle.fmp_bytes.proofs.Prefixes.{prefix-append, stops-cons}
 use Rattle.fmp_tokens.specs.declared.tokens.TokenKind.{TokenKind}
 use Rattle.fmp_tokens.specs.declared.tokens.TokenKind.TheVariants as kinds
 use Rattle.fmp_tokens.specs.declared.tokens.End.TheVariants.{Done}
@@ -26,11 +26,11 @@ no_word_first (b ∷ bytes) ends = stops-cons (is_of Word) b bytes ends
 
 -- a word whose first byte gives a token of this kind
 word_read : (place : Place) (kind : TokenKind) (b : ℕ) (word rest : List ℕ) (glyphs : List Glyph) (line : ℕ) → in_gap place line b (word ++ rest) ≡ Give kind line (modes.Word (behind place))
-    → text_of kind (b ∷ (word ++ rest)) ≡ front Word (b ∷ (word ++ rest)) → list_all (is_of Word) (b ∷ word) ≡ true → begins_with Word rest ≡ false → Follows (behind place) rest glyphs
+    → text_of kind (b ∷ (word ++ rest)) ≡ prefix Word (b ∷ (word ++ rest)) → list_all (is_of Word) (b ∷ word) ≡ true → begins_with Word rest ≡ false → Follows (behind place) rest glyphs
     → ReadsTo (lexed (modes.Gap place) line (b ∷ (word ++ rest))) (record { kind = kind; text = b ∷ word } ∷ glyphs)
 unfolding step_of
 word_read place kind b word rest glyphs line step text all ends follows =
-    let whole = (front-append Word (b ∷ word) rest all (no_word_first rest ends)).0 in
+    let whole = (prefix-append Word (b ∷ word) rest all (no_word_first rest ends)).0 in
     let parts = and_parts (is_of Word b) _ all in
     rw (gives (modes.Gap place) line b (word ++ rest) kind line (modes.Word (behind place)) step)
     (one_read _ _ (record { kind = kind; text = b ∷ word }) glyphs (ap (λ (t : List ℕ). record { kind = kind; text = t }) (text ∙ whole)) (word_passes (behind place) rest glyphs follows ends word parts.1 (line_after line b)))
@@ -55,7 +55,7 @@ digits_read place (b ∷ word) rest glyphs may follows line =
     let all = and_from (is_of Word b) _ (digit_is_word b parts.0) parts.1 in
     word_read place kinds.Digits b word rest glyphs line (digits_in_gap place line b (word ++ rest) parts.0) refl all (not-true _ ends.1) follows
 
--- a part at the front of a text
+-- a part at the beginning of a text
 part_read : (place : Place) (part : Part) (rest : List ℕ) (glyphs : List Glyph) → may_stand place part rest ≡ true → Follows (place_behind place part) rest glyphs → Follows place (written part ++ rest) (glyphs_of part ++ glyphs)
 unfolding lexed ended_in step_of in_gap begun single single_in_code at_line_end text_of is_of
 part_read place (Blank b) rest glyphs may follows line = rw (passes (modes.Gap place) line b rest _ (blank_in_gap place line b rest may)) (follows (line_after line b))

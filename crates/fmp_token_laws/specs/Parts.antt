@@ -40,15 +40,13 @@ written TextEnd = []
 
 -- inside of a directive
 abbrev pub is_directive : Place → Bool
-is_directive LineStart = false
-is_directive Code = false
 is_directive Directive = true
+is_directive _ = false
 
 -- where nothing but blanks and comments stands before in the line
 abbrev pub is_line_start : Place → Bool
 is_line_start LineStart = true
-is_line_start Code = false
-is_line_start Directive = false
+is_line_start _ = false
 
 -- a text begins with a byte of the class, or with none
 abbrev pub begins_with : Class → List ℕ → Bool

@@ -7,7 +7,7 @@ use Rattle.fmp_tokens.specs.declared.tokens.TokenKind.{TokenKind}
 use Rattle.fmp_tokens.specs.declared.tokens.TokenKind.TheVariants as kinds
 use Rattle.fmp_tokens.specs.Steps.{behind}
 use Rattle.fmp_tokens.specs.Lexing.{Lexeme}
-use Rattle.fmp_token_laws.specs.Parts.{Part, Blank, BlockComment, LineComment, JoinedLine, Identifier, Digits, Symbol, Quoted, Hash, LineEnd, TextEnd, written, is_directive, may_stand}
+use Rattle.fmp_token_laws.specs.Parts.{Part, Blank, Identifier, Digits, Symbol, Quoted, Hash, LineEnd, TextEnd, written, is_directive, may_stand}
 
 -- a token apart from its line
 pub record Glyph : Type 0 where
@@ -19,10 +19,6 @@ glyph_of t = record { kind = t.kind; text = t.text }
 
 -- the tokens that a part is: blanks, comments and joined lines are none
 abbrev pub glyphs_of : Part → List Glyph
-glyphs_of (Blank b) = []
-glyphs_of (BlockComment inner) = []
-glyphs_of (LineComment inner) = []
-glyphs_of JoinedLine = []
 glyphs_of (Identifier word) = record { kind = kinds.Identifier; text = word } ∷ []
 glyphs_of (Digits word) = record { kind = kinds.Digits; text = word } ∷ []
 glyphs_of (Symbol b) = record { kind = kinds.Symbol; text = b ∷ [] } ∷ []
@@ -30,13 +26,11 @@ glyphs_of (Quoted inner) = record { kind = kinds.Text; text = [] } ∷ []
 glyphs_of Hash = record { kind = kinds.Directive; text = [] } ∷ []
 glyphs_of LineEnd = record { kind = kinds.DirectiveEnd; text = [] } ∷ []
 glyphs_of TextEnd = record { kind = kinds.DirectiveEnd; text = [] } ∷ []
+glyphs_of _ = []
 
 -- the place behind a part: line feeds in comments end no line
 abbrev pub place_behind : Place → Part → Place
 place_behind place (Blank b) = if b == 10 then LineStart else place
-place_behind place (BlockComment inner) = place
-place_behind place (LineComment inner) = place
-place_behind place JoinedLine = place
 place_behind place (Identifier word) = behind place
 place_behind place (Digits word) = behind place
 place_behind place (Symbol b) = behind place
@@ -44,6 +38,7 @@ place_behind place (Quoted inner) = Code
 place_behind place Hash = Directive
 place_behind place LineEnd = LineStart
 place_behind place TextEnd = LineStart
+place_behind place _ = place
 
 -- a text is these parts, one behind the other, each where it may stand, and no directive is left open
 abbrev pub SpellsParts : Place → List Part → List ℕ → Type 0

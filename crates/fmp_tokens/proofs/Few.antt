@@ -1,5 +1,5 @@
 -- A text has no more tokens than bytes, and one that ends a directive with it.
-use Rattle.std.proofs.Common.{◌≡◌, ℕ, ◌+◌, ◌≤◌, List, [], ◌∷◌, length, refl, arith}
+use Rattle.std.proofs.Common.{ℕ, ◌+◌, ◌≤◌, List, [], ◌∷◌, length, arith}
 use Rattle.fmp_tokens.specs.declared.modes.Mode.{Mode}
 use Rattle.fmp_tokens.specs.declared.modes.Mode.TheVariants as modes
 use Rattle.fmp_tokens.specs.declared.modes.Place.{Place}

@@ -1,7 +1,7 @@
 -- The tokens of a text, with their lines, byte by byte.
 use Rattle.std.specs.Prelude.{ℕ, List, [], ◌∷◌, take}
 use Rattle.fmp_bytes.specs.declared.classes.Class.TheVariants as class
-use Rattle.fmp_bytes.specs.Bytes.{front}
+use Rattle.fmp_bytes.specs.Bytes.{prefix}
 use Rattle.fmp_tokens.specs.declared.tokens.TokenKind.{TokenKind}
 use Rattle.fmp_tokens.specs.declared.tokens.TokenKind.TheVariants as kinds
 use Rattle.fmp_tokens.specs.declared.tokens.End.{End}
@@ -26,10 +26,10 @@ pub record Lexed : Type 0 where
   pub lexemes : List Lexeme
   pub end : End
 
--- the bytes of the token at the front of a text
+-- the bytes of the token at the beginning of a text
 unfoldable pub text_of : TokenKind → List ℕ → List ℕ
-text_of kinds.Identifier bytes = front class.Word bytes
-text_of kinds.Digits bytes = front class.Word bytes
+text_of kinds.Identifier bytes = prefix class.Word bytes
+text_of kinds.Digits bytes = prefix class.Word bytes
 text_of kinds.Symbol bytes = take 1 bytes
 text_of kinds.Text bytes = []
 text_of kinds.Directive bytes = []
@@ -60,7 +60,7 @@ ended_in (modes.Block place began) line = ended (ends.CutShort began)
 ended_in (modes.Star place began) line = ended (ends.CutShort began)
 ended_in modes.Continued line = ended_at places.Directive line
 
--- a step at the front of a text, and what is read behind its first byte
+-- a step at the beginning of a text, and what is read behind its first byte
 abbrev pub stepped : Step → List ℕ → (Mode → Lexed) → Lexed
 stepped (Pass next) bytes others = others next
 stepped (Give kind line next) bytes others = with_lexeme (record { kind = kind; text = text_of kind bytes; line = line }) (others next)

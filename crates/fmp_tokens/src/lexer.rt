@@ -4,7 +4,7 @@ ghost use Rattle.fmp_tokens.specs.Lexing as spec;
 
 use crate::modes::{Mode, Place, Step, line_after, step_of};
 use crate::tokens::{End, Token, TokenKind};
-use fmp_bytes::{Class, split_front};
+use fmp_bytes::{Class, split_prefix};
 use std::marker::Model;
 
 /// The tokens of a text that are still to be read.
@@ -29,14 +29,14 @@ impl<'a> Model for Lexer<'a> {
     ghost invariant = { λ l. l.line + length l.rest.now < 2 ^ 32 };
 }
 
-/// The bytes of the token at the front of a text.
+/// The bytes of the token at the beginning of a text.
 #[tactic(auto, unfolding(crate::specs::Lexing::text_of))]
 fn token_text(kind: TokenKind, bytes: &[u8]) -> &[u8]
     requires { 0 < length bytes.now }
     ensures { result.now ≡ spec.text_of kind bytes.now }
 {
     match kind {
-        TokenKind::Identifier | TokenKind::Digits => split_front(Class::Word, bytes).0,
+        TokenKind::Identifier | TokenKind::Digits => split_prefix(Class::Word, bytes).0,
         TokenKind::Symbol => &bytes[..1],
         TokenKind::Text | TokenKind::Directive | TokenKind::DirectiveEnd => &[],
     }

@@ -11,7 +11,7 @@ use Rattle.fmp_codes.specs.declared.codes.Code.{Code}
 use Rattle.fmp_codes.specs.declared.codes.Code.TheVariants.{Accepted, Parameter, Identifier, Context, IllegalUse, ObjectState, QueueOverflow, WaitReleased, TimedOut}
 use Rattle.fmp_bytes.specs.declared.classes.Class.TheVariants.{Word, Argument, Printed}
 use Rattle.fmp_bytes.specs.Bytes.{is_of}
-use Rattle.fmp_bytes.proofs.Fronts.{list_all-weaker}
+use Rattle.fmp_bytes.proofs.Prefixes.{list_all-weaker}
 use Rattle.fmp_bytes.proofs.Included.{argument-word, word-digit}
 use Rattle.fmp_bytes.proofs.Spelled.{list_all-digits}
 

@@ -12,7 +12,7 @@ use Rattle.fmp_codes.specs.declared.records.Runner.{Runner}
 use Rattle.fmp_codes.specs.declared.records.Release.{Release}
 use Rattle.fmp_codes.specs.declared.records.Record.{Record}
 use Rattle.fmp_bytes.specs.declared.classes.Class.TheVariants.{Word}
-use Rattle.fmp_bytes.specs.Bytes.{front, after, behind, cut_at, pieces_of}
+use Rattle.fmp_bytes.specs.Bytes.{prefix, after, behind, cut_at, pieces_of}
 use Rattle.fmp_calls.specs.Arguments.{EventInBits}
 use Rattle.fmp_calls.specs.declared.kinds.ObjectKind.TheVariants as objects
 use Rattle.fmp_text.specs.Lines.{processor_numbered}
@@ -74,19 +74,19 @@ with_run_change-fits names r q text valid fits e =
 
 -- processors that were added to others, in ascending order
 AddsAscending : NameLists → ℕ → List Proc → List Proc → Type 0
-AddsAscending names least front all = (added : List Proc) × (all ≡ front ++ added) × Ascend names.processors least added
+AddsAscending names least prefix all = (added : List Proc) × (all ≡ prefix ++ added) × Ascend names.processors least added
 
-requests_ascend : (names : NameLists) (least : ℕ) (front all : List Proc) (pieces : List (List ℕ)) → AreValid names → requests_in names least front pieces ≡ Some all → AddsAscending names least front all
+requests_ascend : (names : NameLists) (least : ℕ) (prefix all : List Proc) (pieces : List (List ℕ)) → AreValid names → requests_in names least prefix pieces ≡ Some all → AddsAscending names least prefix all
 unfolding AddsAscending request_in
-requests_ascend names least front all [] valid e = let same : front ≡ all = cc in ([], sym same ∙ sym (append-nil front), tt)
-requests_ascend names least front all (piece ∷ pieces) valid e =
+requests_ascend names least prefix all [] valid e = let same : prefix ≡ all = cc in ([], sym same ∙ sym (append-nil prefix), tt)
+requests_ascend names least prefix all (piece ∷ pieces) valid e =
     let p = and_then_parts (request_in names least piece) _ all e in
     let one = and_then_parts (processor_numbered names piece) _ p.0 p.1 in
     let t = tested_some (ltb least one.0.number) one.0 p.0 one.2 in
     let above : least < p.0.number = let number = ap (λ (q : Proc). q.number) t.1 in omega (arith, ltb-true least one.0.number t.0, number) in
     let most = processor_numbered-fits names piece p.0 valid (one.1 ∙ ap (λ (q : Proc). Some q) t.1) in
-    let rest = requests_ascend names p.0.number (front ++ p.0 ∷ []) all pieces valid p.2 in
-    (p.0 ∷ rest.0, rest.1 ∙ append_assoc front (p.0 ∷ []) rest.0, (above, most, rest.2))
+    let rest = requests_ascend names p.0.number (prefix ++ p.0 ∷ []) all pieces valid p.2 in
+    (p.0 ∷ rest.0, rest.1 ∙ append_assoc prefix (p.0 ∷ []) rest.0, (above, most, rest.2))
 
 with_requests-fits : (names : NameLists) (r q : Record) (text : List ℕ) → AreValid names → FitsNames names r → with_requests names r text ≡ Some q → FitsNames names q
 unfolding with_requests AddsAscending
@@ -152,11 +152,11 @@ guess_call-fits names runner p text r valid processor runner_fits h =
 guess_event-fits : (names : NameLists) (runner : Option Runner) (p : Proc) (text : List ℕ) (r : Record) → AreValid names → p.number ≤ names.processors → RunnerFits names runner → guess_event names runner p text ≡ Some r → FitsNames names r
 unfolding guess_event
 guess_event-fits names runner p text r valid processor runner_fits h =
-    elim (cases_Bool (bytes_eq (front Word text) (codes "tick"))) [
+    elim (cases_Bool (bytes_eq (prefix Word text) (codes "tick"))) [
       | inl t ↦ guess_answer-fits names runner (events.Tick p) (after Word text) r valid processor tt runner_fits (rw t at h)
       | inr f ↦
           let h2 = rw f at h in
-          elim (cases_Bool (bytes_eq (front Word text) (codes "ipi"))) [
+          elim (cases_Bool (bytes_eq (prefix Word text) (codes "ipi"))) [
             | inl t ↦ guess_answer-fits names runner (events.Ipi p) (after Word text) r valid processor tt runner_fits (rw t at h2)
             | inr g ↦ guess_call-fits names runner p text r valid processor runner_fits (rw g at h2)
           ]

@@ -9,10 +9,10 @@ use Rattle.std.proofs.lemmas.List.{append-nil, take_at}
 use Rattle.fmp_codes.specs.declared.calls.Call.{Call}
 use Rattle.fmp_codes.specs.declared.calls.Mode.TheVariants as modes
 use Rattle.fmp_bytes.specs.declared.classes.Class.TheVariants.{Blank, Word, Argument, Printed}
-use Rattle.fmp_bytes.specs.Bytes.{is_of, is_identifier, front, after, cut_at}
+use Rattle.fmp_bytes.specs.Bytes.{is_of, is_identifier, prefix, after, cut_at}
 use Rattle.fmp_bytes.specs.Numerals.{signed_of}
 use Rattle.fmp_bytes.proofs.Cutting.{cut_at-append}
-use Rattle.fmp_bytes.proofs.Fronts.{front-append, stops-cons, list_all-weaker, list_all-both}
+use Rattle.fmp_bytes.proofs.Prefixes.{prefix-append, stops-cons, list_all-weaker, list_all-both}
 use Rattle.fmp_codes.specs.Records.{IsWithin}
 use Rattle.fmp_calls.proofs.Matched.{is_identifier-text_of, named-text_of, is_bare-name_of}
 use Rattle.fmp_calls.specs.Arguments.{CallInBits}
@@ -242,12 +242,12 @@ call_read names call valid fits =
 
 -- the first word of a printed call is its name
 pub call_word : (names : NameLists) (call : Call) (rest : List ℕ)
-    → (front Word (call_text names call ++ 32 ∷ rest) ≡ table.text_of call) × (after Word (call_text names call ++ 32 ∷ rest) ≡ behind_name names call ++ 32 ∷ rest)
+    → (prefix Word (call_text names call ++ 32 ∷ rest) ≡ table.text_of call) × (after Word (call_text names call ++ 32 ∷ rest) ≡ behind_name names call ++ 32 ∷ rest)
 unfolding call_text
 call_word names call rest =
     let whole = append_assoc (table.text_of call) (behind_name names call) (32 ∷ rest) in
-    let word = front-append Word (table.text_of call) (behind_name names call ++ 32 ∷ rest) (identifier_words (table.text_of call) (is_identifier-text_of call)) (name_ends names call rest) in
-    (ap (front Word) whole ∙ word.0, ap (after Word) whole ∙ word.1)
+    let word = prefix-append Word (table.text_of call) (behind_name names call ++ 32 ∷ rest) (identifier_words (table.text_of call) (is_identifier-text_of call)) (name_ends names call rest) in
+    (ap (prefix Word) whole ∙ word.0, ap (after Word) whole ∙ word.1)
 
 is_bare_name-text_of : (call : Call) → is_bare_name (table.text_of call) ≡ table.is_bare call
 unfolding is_bare_name
@@ -258,7 +258,7 @@ pub call_cut : (names : NameLists) (call : Call) (rest : List ℕ) → AreValid 
 unfolding cut_call is_of
 call_cut names call rest valid fits =
     let word = call_word names call rest in
-    let bare_word : is_bare_name (front Word (call_text names call ++ 32 ∷ rest)) ≡ table.is_bare call = ap is_bare_name word.0 ∙ is_bare_name-text_of call in
+    let bare_word : is_bare_name (prefix Word (call_text names call ++ 32 ∷ rest)) ≡ table.is_bare call = ap is_bare_name word.0 ∙ is_bare_name-text_of call in
     elim (cases_Bool (table.is_bare call)) [
       | inl t ↦
           let text = call_text-bare names call t in

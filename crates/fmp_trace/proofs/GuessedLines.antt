@@ -11,7 +11,7 @@ use Rattle.fmp_codes.specs.declared.records.Record.{Record}
 use Rattle.fmp_bytes.specs.declared.classes.Class.TheVariants.{Argument, Printed}
 use Rattle.fmp_bytes.specs.Bytes.{is_of, cut_at, pieces_of}
 use Rattle.fmp_bytes.proofs.Cutting.{pieces_left, cut_at-append, pieces_of-cut, pieces_of-join}
-use Rattle.fmp_bytes.proofs.Fronts.{list_all-weaker, list_all-both}
+use Rattle.fmp_bytes.proofs.Prefixes.{list_all-weaker, list_all-both}
 use Rattle.fmp_bytes.proofs.Spelled.{behind-same}
 use Rattle.fmp_calls.proofs.Matched.{no_tick, no_ipi}
 use Rattle.fmp_calls.specs.Arguments.{CallInBits, EventInBits}

@@ -19,7 +19,7 @@ use Rattle.fmp_codes.specs.declared.records.Record.{Record}
 use Rattle.fmp_bytes.specs.declared.classes.Class.TheVariants.{Argument}
 use Rattle.fmp_bytes.specs.Bytes.{is_of, pieces_of}
 use Rattle.fmp_bytes.proofs.Cutting.{cut_at-append, pieces_of-join}
-use Rattle.fmp_bytes.proofs.Fronts.{list_all-weaker, list_all-both}
+use Rattle.fmp_bytes.proofs.Prefixes.{list_all-weaker, list_all-both}
 use Rattle.fmp_calls.specs.declared.kinds.ObjectKind.TheVariants as objects
 use Rattle.fmp_names.specs.Names.{NameLists, AreValid}
 use Rattle.fmp_codes.specs.Records.{ValueFits, AnswerFits, Ascend}
@@ -144,12 +144,12 @@ request_guessed names least p above most =
     let test = lt-ltb least p.number above in
     rw (found, test) refl
 
-numbers_guessed : (names : NameLists) (least : ℕ) (front ps : List Proc) → Ascend names.processors least ps → requests_in names least front (numbers ps) ≡ Some (front ++ ps)
-numbers_guessed names least front [] fits = ap (λ (ps : List Proc). Some ps) (sym (append-nil front))
-numbers_guessed names least front (p ∷ ps) fits =
+numbers_guessed : (names : NameLists) (least : ℕ) (prefix ps : List Proc) → Ascend names.processors least ps → requests_in names least prefix (numbers ps) ≡ Some (prefix ++ ps)
+numbers_guessed names least prefix [] fits = ap (λ (ps : List Proc). Some ps) (sym (append-nil prefix))
+numbers_guessed names least prefix (p ∷ ps) fits =
     let one = request_guessed names least p fits.0 fits.1 in
-    let rest = numbers_guessed names p.number (front ++ p ∷ []) ps fits.2 in
-    rw one (rest ∙ ap (λ (all : List Proc). Some all) (append_assoc front (p ∷ []) ps))
+    let rest = numbers_guessed names p.number (prefix ++ p ∷ []) ps fits.2 in
+    rw one (rest ∙ ap (λ (all : List Proc). Some all) (append_assoc prefix (p ∷ []) ps))
 
 numbers_apart : (ps : List Proc) → list_all (list_all (λ b. not (eqb b 44))) (numbers ps) ≡ true
 unfolding is_of

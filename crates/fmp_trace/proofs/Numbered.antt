@@ -12,12 +12,12 @@ use Rattle.fmp_text.specs.Reading.{◌>>=◌}
 use Rattle.fmp_trace.specs.Reading.{line_record, records_from}
 
 -- what was read before, and what is still read
-abbrev pub with_front : List Record → Result (List Record) TextFault → Result (List Record) TextFault
-with_front front records = records >>= λ list. Ok (front ++ list)
+abbrev pub with_prefix : List Record → Result (List Record) TextFault → Result (List Record) TextFault
+with_prefix prefix records = records >>= λ list. Ok (prefix ++ list)
 
-stepped : (front : List Record) (r : Record) (records : Result (List Record) TextFault) → with_front front (records >>= λ others. Ok (r ∷ others)) ≡ with_front (front ++ r ∷ []) records
-stepped front r (Ok list) = ap (λ (rs : List Record). Ok rs) (simp append_assoc)
-stepped front r (Err e) = refl
+stepped : (prefix : List Record) (r : Record) (records : Result (List Record) TextFault) → with_prefix prefix (records >>= λ others. Ok (r ∷ others)) ≡ with_prefix (prefix ++ r ∷ []) records
+stepped prefix r (Ok list) = ap (λ (rs : List Record). Ok rs) (simp append_assoc)
+stepped prefix r (Err e) = refl
 
 -- the first line of a text with a line feed
 pub records_from-line : (names : NameLists) (n : ℕ) (line rest : List ℕ) → records_from names n (line ∷ pieces_of 10 rest) ≡ (at_line n (line_record names n line) >>= λ r. records_from names (n + 1) (pieces_of 10 rest) >>= λ others. Ok (r ∷ others))
@@ -36,25 +36,25 @@ first_piece text line rest is_line cut = pieces_of-cut 10 text ∙ ap (λ (l : L
 pub only_piece : (text : List ℕ) → (cut_at 10 text).1 ≡ None → pieces_of 10 text ≡ text ∷ []
 only_piece text none = pieces_of-cut 10 text ∙ ap (λ (l : List ℕ). l ∷ pieces_left 10 (cut_at 10 text).1) (no_cut 10 text none) ∙ ap (λ (r : Option (List ℕ)). text ∷ pieces_left 10 r) none
 
-module _ (names : NameLists) (total : Result (List Record) TextFault) (front : List Record) (n : ℕ) (text : List ℕ) (so_far : with_front front (records_from names n (pieces_of 10 text)) ≡ total) where
-  pub goes_on : (line rest : List ℕ) (r : Record) → (cut_at 10 text).0 ≡ line → (cut_at 10 text).1 ≡ Some rest → at_line n (line_record names n line) ≡ Ok r → with_front (front ++ r ∷ []) (records_from names (n + 1) (pieces_of 10 rest)) ≡ total
+module _ (names : NameLists) (total : Result (List Record) TextFault) (prefix : List Record) (n : ℕ) (text : List ℕ) (so_far : with_prefix prefix (records_from names n (pieces_of 10 text)) ≡ total) where
+  pub goes_on : (line rest : List ℕ) (r : Record) → (cut_at 10 text).0 ≡ line → (cut_at 10 text).1 ≡ Some rest → at_line n (line_record names n line) ≡ Ok r → with_prefix (prefix ++ r ∷ []) (records_from names (n + 1) (pieces_of 10 rest)) ≡ total
   goes_on line rest r is_line cut here =
-      let one : with_front front (records_from names n (pieces_of 10 text)) ≡ with_front (front ++ r ∷ []) (records_from names (n + 1) (pieces_of 10 rest)) =
-      rw (first_piece text line rest is_line cut, records_from-line, here) (stepped front r (records_from names (n + 1) (pieces_of 10 rest))) in
+      let one : with_prefix prefix (records_from names n (pieces_of 10 text)) ≡ with_prefix (prefix ++ r ∷ []) (records_from names (n + 1) (pieces_of 10 rest)) =
+      rw (first_piece text line rest is_line cut, records_from-line, here) (stepped prefix r (records_from names (n + 1) (pieces_of 10 rest))) in
       sym one ∙ so_far
 
   pub ends : (line rest : List ℕ) (fault : TextFault) → (cut_at 10 text).0 ≡ line → (cut_at 10 text).1 ≡ Some rest → Fails fault (at_line n (line_record names n line)) → Fails fault total
   ends line rest fault is_line cut (inr memory) = inr memory
   ends line rest fault is_line cut (inl here) =
-      let one : with_front front (records_from names n (pieces_of 10 text)) ≡ Err fault = rw (first_piece text line rest is_line cut, records_from-line, here) refl in
+      let one : with_prefix prefix (records_from names n (pieces_of 10 text)) ≡ Err fault = rw (first_piece text line rest is_line cut, records_from-line, here) refl in
       inl (sym so_far ∙ one)
 
-  pub is_whole : (cut_at 10 text).1 ≡ None → eqb (length text) 0 ≡ true → total ≡ Ok front
+  pub is_whole : (cut_at 10 text).1 ≡ None → eqb (length text) 0 ≡ true → total ≡ Ok prefix
   is_whole none empty =
-      let one : with_front front (records_from names n (pieces_of 10 text)) ≡ Ok front = rw (only_piece text none, records_from-last, empty) (ap (λ (rs : List Record). Ok rs) (append-nil front)) in
+      let one : with_prefix prefix (records_from names n (pieces_of 10 text)) ≡ Ok prefix = rw (only_piece text none, records_from-last, empty) (ap (λ (rs : List Record). Ok rs) (append-nil prefix)) in
       sym so_far ∙ one
 
   pub is_short : (cut_at 10 text).1 ≡ None → eqb (length text) 0 ≡ false → total ≡ Err (record { kind = CutShort; line = n })
   is_short none some =
-      let one : with_front front (records_from names n (pieces_of 10 text)) ≡ Err (record { kind = CutShort; line = n }) = rw (only_piece text none, records_from-last, some) refl in
+      let one : with_prefix prefix (records_from names n (pieces_of 10 text)) ≡ Err (record { kind = CutShort; line = n }) = rw (only_piece text none, records_from-last, some) refl in
       sym so_far ∙ one

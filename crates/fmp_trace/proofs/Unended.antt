@@ -21,7 +21,7 @@ use Rattle.fmp_codes.specs.declared.records.Runner.{Runner}
 use Rattle.fmp_codes.specs.declared.records.Runner.TheVariants as runners
 use Rattle.fmp_bytes.specs.declared.classes.Class.TheVariants.{Argument}
 use Rattle.fmp_bytes.specs.Bytes.{is_of}
-use Rattle.fmp_bytes.proofs.Fronts.{list_all-both}
+use Rattle.fmp_bytes.proofs.Prefixes.{list_all-both}
 use Rattle.fmp_bytes.proofs.Tokens.{identifier_bytes}
 use Rattle.fmp_calls.proofs.Matched.{is_identifier-text_of}
 use Rattle.fmp_calls.specs.Table as table

@@ -9,7 +9,7 @@ use Rattle.fmp_codes.specs.declared.records.Event.TheVariants as events
 use Rattle.fmp_codes.specs.declared.records.Runner.{Runner}
 use Rattle.fmp_codes.specs.declared.records.Record.{Record}
 use Rattle.fmp_bytes.specs.declared.classes.Class.TheVariants.{Word}
-use Rattle.fmp_bytes.specs.Bytes.{front, after, behind, cut_at, pieces_of, close_parenthesis, comma, equals_sign, letter_p, space}
+use Rattle.fmp_bytes.specs.Bytes.{prefix, after, behind, cut_at, pieces_of, close_parenthesis, comma, equals_sign, letter_p, space}
 use Rattle.fmp_calls.specs.Table.{is_bare, named}
 use Rattle.fmp_text.specs.Argument.{◌>>=◌}
 use Rattle.fmp_text.specs.Lines.{processor_numbered}
@@ -84,7 +84,7 @@ is_bare_name word = option_map_or is_bare (named word) false
 -- the text of a call and what follows it: a bare name alone, or all up to the first closing parenthesis
 unfoldable pub cut_call : List ℕ → Option (List ℕ × List ℕ)
 cut_call text =
-    if is_bare_name (front Word text) then Some (front Word text, after Word text)
+    if is_bare_name (prefix Word text) then Some (prefix Word text, after Word text)
     else ((cut_at close_parenthesis text).1 >>= λ rest. Some (take (length (cut_at close_parenthesis text).0 + 1) text, rest))
 
 unfoldable pub guess_call : NameLists → Option Runner → Proc → List ℕ → Option Record
@@ -95,8 +95,8 @@ guess_call names runner p text = do
 
 unfoldable pub guess_event : NameLists → Option Runner → Proc → List ℕ → Option Record
 guess_event names runner p text =
-    if bytes_eq (front Word text) (codes "tick") then guess_answer names runner (events.Tick p) (after Word text)
-    else (if bytes_eq (front Word text) (codes "ipi") then guess_answer names runner (events.Ipi p) (after Word text)
+    if bytes_eq (prefix Word text) (codes "tick") then guess_answer names runner (events.Tick p) (after Word text)
+    else (if bytes_eq (prefix Word text) (codes "ipi") then guess_answer names runner (events.Ipi p) (after Word text)
     else guess_call names runner p text)
 
 unfoldable pub guess_runner : NameLists → Proc → List ℕ → Option Record

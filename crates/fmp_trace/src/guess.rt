@@ -9,7 +9,7 @@ ghost use Rattle.std.specs.Option.{option_copied};
 ghost use Rattle.fmp_trace.specs.Guess as spec;
 ghost use Rattle.fmp_trace.specs.GuessParts as parts;
 
-use fmp_bytes::{Class, behind, cut, signed64, spelled_number, split_front};
+use fmp_bytes::{Class, behind, cut, signed64, spelled_number, split_prefix};
 use fmp_calls::{NameKind, ObjectKind, find_call, form};
 use fmp_codes::{Answer, Code, Event, Object, Proc, Record, Release, Requests, Runner, Task};
 use fmp_text::{Names, processor_numbered, read_call};
@@ -294,7 +294,7 @@ fn is_bare_name(word: &[u8]) -> bool
 fn cut_call(text: &[u8]) -> Option<(&[u8], &[u8])>
     ensures { option_map (λ parts. (parts.0.now, parts.1.now)) result ≡ spec.cut_call text.now }
 {
-    let (word, rest) = split_front(Class::Word, text);
+    let (word, rest) = split_prefix(Class::Word, text);
     if is_bare_name(word) {
         return Some((word, rest));
     }
@@ -316,7 +316,7 @@ fn guess_call(names: &Names, runner: Option<Runner>, p: Proc, text: &[u8]) -> Op
 fn guess_event(names: &Names, runner: Option<Runner>, p: Proc, text: &[u8]) -> Option<Record>
     ensures { result ≡ spec.guess_event names.now runner p text.now }
 {
-    let (word, rest) = split_front(Class::Word, text);
+    let (word, rest) = split_prefix(Class::Word, text);
     if word == b"tick".as_slice() {
         return guess_answer(names, runner, Event::Tick(p), rest);
     }

@@ -1,7 +1,11 @@
 //! The text of a trace: one line for each record. It is printed, and read back.
 //!
 //! What is printed of a record is `specs/Lines`; which texts print which records, and the first fault of a text that prints
-//! none, is `specs/Prints`. Begin at `trace_line` and `read_trace`.
+//! none, is `specs/Prints`. Begin at [`trace_line`] and [`read_trace`].
+//!
+//! A line is read by a guess that is printed again and compared with it (`specs/Guess`), so a wrong guess does no harm, and the
+//! form of a trace is written down once. [`validate`] tells the first fault of a text and keeps no record. docs/FORMATS.md has
+//! the form.
 #![tactic(auto)]
 
 mod guess;

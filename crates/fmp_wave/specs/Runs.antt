@@ -1,5 +1,5 @@
 -- What a run that draws a trace does.
-use Rattle.std.specs.Prelude.{◌≡◌, ◌⊎◌, ℕ, List, ◌++◌, map, Result, Ok, Err}
+use Rattle.std.specs.Prelude.{◌≡◌, ◌⊎◌, ℕ, List, ◌++◌, map}
 use Rattle.fmp_codes.specs.declared.records.Record.{Record}
 use Rattle.fmp_machine.specs.Setup.{Setup}
 use Rattle.fmp_check.specs.declared.checking.Verdict.{Verdict}
@@ -10,7 +10,6 @@ use Rattle.fmpsim_run.specs.declared.fault.RunFault.{RunFault}
 use Rattle.fmpsim_run.specs.declared.fault.RunFault.TheVariants as run
 use Rattle.fmpsim_run.specs.Devices.{BeginsWith}
 use Rattle.fmpsim_run.specs.Runs.{SaysConfig}
-use Rattle.fmp_wave.specs.declared.run.Judged.{Judged}
 use Rattle.fmp_wave.specs.Waves.{wave_of}
 
 -- the text is what the machine answers to its own events, and this is their waveform
@@ -55,8 +54,3 @@ LeavesDrawn config_text trace_text old new other = new ≡ old
 -- memory ran out, or a write failed
 abbrev pub IsLate : RunFault → Type 0
 IsLate fault = (fault ≡ run.Memory) ⊎ (fault ≡ run.Write)
-
--- the verdict on a trace that was read
-abbrev pub verdict_in : Result Judged RunFault → Result Verdict RunFault
-verdict_in (Ok judged) = Ok judged.verdict
-verdict_in (Err fault) = Err fault

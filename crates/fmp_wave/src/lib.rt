@@ -1,7 +1,10 @@
 //! The waveform of a trace, as a Value Change Dump (IEEE 1364) that a viewer such as GTKWave opens.
 //!
-//! `run_wave` reads a configuration and a trace, and draws the trace where it is the machine's own. What is drawn is stated in
-//! `specs/Waves.antt` as a function of the events; docs/FORMATS.md has its form.
+//! [`run_wave`] reads a configuration and a trace, and draws the trace where it is the machine's own: an event is a unit of
+//! time. What is drawn is stated in `specs/Waves` as a function of the events, over the model's states: which signals there are
+//! (`Signals`), how they are declared (`Headers`), and the value of each (`Values`). docs/FORMATS.md has its form.
+//!
+//! That a viewer shows it is only tested, by a reader written from the standard (`fmp_wave_tests`).
 #![tactic(auto)]
 
 mod changes;

@@ -146,17 +146,24 @@ pub enum Told {
     State,
 }
 
+/// What is asked of a trace.
+#[derive(Clone, Copy, Debug, PartialEq, Eq)]
+pub enum Asked {
+    /// Whether it is the machine's.
+    Verdict,
+    /// Where it is not the machine's.
+    Differences(Shown),
+    /// Its waveform.
+    Waveform,
+}
+
 /// What the command line asks for.
 #[derive(Clone, Copy, Debug)]
 pub enum Request<'a> {
     /// What a configuration answers to a list of events.
     Calls(Paths<'a>, Told),
-    /// Whether a trace is the machine's.
-    Check(Paths<'a>),
-    /// Where a trace is not the machine's.
-    Report(Paths<'a>, Shown),
-    /// The waveform of a trace.
-    Wave(Paths<'a>),
+    /// What is asked of a trace.
+    Trace(Paths<'a>, Asked),
     /// The trace of processors that follow scripts.
     Smp(SmpRequest<'a>),
     /// What may be written: all of it, or what is called so.
@@ -280,16 +287,18 @@ fn parse_calls<'a>(alloc: Global, words: &'a [String]) -> Result<Request<'a>, Er
 fn parse_check<'a>(alloc: Global, words: &'a [String]) -> Result<Request<'a>, Error> {
     let matches = check_command(alloc)?.try_get_matches_from(words)?;
     let paths = named_paths(&matches, "TRACE", TextForm::Trace);
-    Ok(match (matches.get_flag(SHOW), matches.get_flag(ALL)) {
-        (true, _) => Request::Report(paths, Shown::First),
-        (false, true) => Request::Report(paths, Shown::Each),
-        (false, false) => Request::Check(paths),
-    })
+    let asked = match (matches.get_flag(SHOW), matches.get_flag(ALL)) {
+        (true, _) => Asked::Differences(Shown::First),
+        (false, true) => Asked::Differences(Shown::Each),
+        (false, false) => Asked::Verdict,
+    };
+    Ok(Request::Trace(paths, asked))
 }
 
 fn parse_wave<'a>(alloc: Global, words: &'a [String]) -> Result<Request<'a>, Error> {
     let matches = wave_command(alloc)?.try_get_matches_from(words)?;
-    Ok(Request::Wave(named_paths(&matches, "TRACE", TextForm::Trace)))
+    let paths = named_paths(&matches, "TRACE", TextForm::Trace);
+    Ok(Request::Trace(paths, Asked::Waveform))
 }
 
 /// The name behind `list`, if there is one.

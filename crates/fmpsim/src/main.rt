@@ -9,8 +9,8 @@ mod cli;
 #[cfg(test)]
 mod tests;
 
-use cli::{Paths, Request, Told};
-use fmp_check::{Shown, Verdict};
+use cli::{Asked, Paths, Request, Told};
+use fmp_check::Verdict;
 use fmp_context::TextForm;
 use fmp_smp::Open;
 use fmp_smp_command::{Limits, SmpRequest};
@@ -78,48 +78,32 @@ fn calls<R: Files + Input + Print + AllocGlobal>(
     answered(rt, config, events, told)
 }
 
-/// Writes whether the trace is the machine's.
-fn check<R: Files + Print + AllocGlobal>(rt: &R, paths: &Paths<'_>) -> Result<Status, RunFault> {
-    let (config, trace) = both_opened(rt, paths)?;
-    let verdict = run_check(
-        rt.alloc(),
-        &mut ReadSource::new(config),
-        &mut ReadSource::new(trace),
-        &mut WriteSink::new(rt.alloc(), io::writer(rt))?,
-    )?;
-    Ok(Status::of_verdict(verdict))
-}
-
-/// Writes where the trace is not the machine's.
-fn report<R: Files + Print + AllocGlobal>(
+/// Writes what is asked of a trace, and judges it.
+fn judged<R: Files + Print + AllocGlobal>(
     rt: &R,
     paths: &Paths<'_>,
-    shown: Shown,
-) -> Result<Status, RunFault> {
+    asked: Asked,
+) -> Result<Verdict, RunFault> {
+    let alloc = rt.alloc();
     let (config, trace) = both_opened(rt, paths)?;
-    let verdict = run_report(
-        rt.alloc(),
-        &mut ReadSource::new(config),
-        &mut ReadSource::new(trace),
-        &mut WriteSink::new(rt.alloc(), io::writer(rt))?,
-        shown,
-    )?;
-    Ok(Status::of_verdict(verdict))
+    let mut config = ReadSource::new(config);
+    let mut trace = ReadSource::new(trace);
+    let mut sink = WriteSink::new(alloc, io::writer(rt))?;
+    match asked {
+        Asked::Verdict => run_check(alloc, &mut config, &mut trace, &mut sink),
+        Asked::Differences(shown) => run_report(alloc, &mut config, &mut trace, &mut sink, shown),
+        Asked::Waveform => run_wave(alloc, &mut config, &mut trace, &mut sink),
+    }
 }
 
-/// Writes the waveform of the trace. A trace that is not the machine's is told.
-fn wave<R: Files + Print + Eprint + AllocGlobal>(
+/// Writes what is asked of a trace. Of one that is not the machine's there is no waveform, and that is told.
+fn trace<R: Files + Print + Eprint + AllocGlobal>(
     rt: &R,
     paths: &Paths<'_>,
+    asked: Asked,
 ) -> Result<Status, RunFault> {
-    let (config, trace) = both_opened(rt, paths)?;
-    let verdict = run_wave(
-        rt.alloc(),
-        &mut ReadSource::new(config),
-        &mut ReadSource::new(trace),
-        &mut WriteSink::new(rt.alloc(), io::writer(rt))?,
-    )?;
-    if let Verdict::No(line) = verdict {
+    let verdict = judged(rt, paths, asked)?;
+    if let (Asked::Waveform, Verdict::No(line)) = (asked, verdict) {
         let path = paths.text;
         let _ = eprintln!(rt; "fmpsim: {path}: no {line}: see fmpsim check --show");
     }
@@ -249,9 +233,7 @@ fn execute<R: Files + Input + Print + Eprint + AllocGlobal + Threads + Wait + Sy
 ) -> Status {
     match cli::parse(rt.alloc(), words) {
         Ok(Request::Calls(paths, told)) => ended(rt, &paths, calls(rt, &paths, told)),
-        Ok(Request::Check(paths)) => ended(rt, &paths, check(rt, &paths)),
-        Ok(Request::Report(paths, shown)) => ended(rt, &paths, report(rt, &paths, shown)),
-        Ok(Request::Wave(paths)) => ended(rt, &paths, wave(rt, &paths)),
+        Ok(Request::Trace(paths, asked)) => ended(rt, &paths, trace(rt, &paths, asked)),
         Ok(Request::Smp(request)) => {
             let paths = Paths {
                 config: request.config,

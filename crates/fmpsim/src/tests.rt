@@ -1,5 +1,5 @@
 //! What the words of the command line ask for.
-use crate::cli::{self, Request, Told};
+use crate::cli::{self, Asked, Request, Told};
 use fmp_check::Shown;
 use fmp_context::TextForm;
 use fmpsim_run::Status;
@@ -27,14 +27,14 @@ fn commands_of_two_texts(rt: HostRuntime) -> Result<(), Fail> {
     assert_eq!(rt; paths.text, "events.txt");
 
     let words = words_of(rt.alloc(), "fmpsim check machine.cfg trace.txt")?;
-    let Request::Check(paths) = cli::parse(rt.alloc(), words.as_slice())? else {
+    let Request::Trace(paths, Asked::Verdict) = cli::parse(rt.alloc(), words.as_slice())? else {
         return Err("the verdict is asked for")?;
     };
     assert_eq!(rt; paths.config, "machine.cfg");
     assert_eq!(rt; paths.text, "trace.txt");
 
     let words = words_of(rt.alloc(), "fmpsim wave machine.cfg trace.txt")?;
-    let Request::Wave(paths) = cli::parse(rt.alloc(), words.as_slice())? else {
+    let Request::Trace(paths, Asked::Waveform) = cli::parse(rt.alloc(), words.as_slice())? else {
         return Err("the waveform is asked for")?;
     };
     assert_eq!(rt; paths.config, "machine.cfg");
@@ -62,18 +62,18 @@ fn states(rt: HostRuntime) -> Result<(), Fail> {
 /// The options stand anywhere behind the command.
 #[test]
 fn reports(rt: HostRuntime) -> Result<(), Fail> {
-    for (line, asked) in [
+    for (line, shown) in [
         ("fmpsim check --show machine.cfg trace.txt", Shown::First),
         ("fmpsim check machine.cfg --all trace.txt", Shown::Each),
         ("fmpsim check machine.cfg trace.txt --all", Shown::Each),
     ] {
         let words = words_of(rt.alloc(), line)?;
-        let Request::Report(paths, shown) = cli::parse(rt.alloc(), words.as_slice())? else {
+        let Request::Trace(paths, asked) = cli::parse(rt.alloc(), words.as_slice())? else {
             return Err("a report is asked for")?;
         };
         assert_eq!(rt; paths.config, "machine.cfg");
         assert_eq!(rt; paths.text, "trace.txt");
-        assert_eq!(rt; shown, asked);
+        assert_eq!(rt; asked, Asked::Differences(shown));
     }
     Ok(())
 }
@@ -125,7 +125,7 @@ fn contexts(rt: HostRuntime) -> Result<(), Fail> {
         ),
     ] {
         let words = words_of(rt.alloc(), line)?;
-        let (Request::Calls(paths, _) | Request::Check(paths) | Request::Wave(paths)) = cli::parse(
+        let (Request::Calls(paths, _) | Request::Trace(paths, _)) = cli::parse(
             rt.alloc(),
             words.as_slice(),
         )?

@@ -9,7 +9,7 @@ use Rattle.fmpsim_run.specs.declared.fault.RunFault.TheVariants as run
 use Rattle.fmpsim_run.specs.Checks.{IsYes}
 use Rattle.fmpsim_run.specs.Faults.{is_text}
 use Rattle.fmpsim_run.specs.Runs.{FirstConfigFault, SaysConfig}
-use Rattle.fmpsim_run.proofs.Fronts.{config_in-ok}
+use Rattle.fmpsim_run.proofs.Prefixes.{config_in-ok}
 
 pub said : (text : List ℕ) (config : Setup) → config_in text ≡ Ok config → SaysConfig text config
 said text config is = record { configures = config_was text config is; short = config_in-ok text config is }

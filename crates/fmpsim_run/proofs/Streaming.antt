@@ -21,7 +21,7 @@ use Rattle.fmpsim_run.specs.declared.stream.Detail.{Detail}
 use Rattle.fmpsim_run.specs.declared.fault.RunFault.{RunFault}
 use Rattle.fmpsim_run.specs.declared.fault.RunFault.TheVariants as run
 use Rattle.fmpsim_run.specs.Devices.{BeginsWith}
-use Rattle.fmpsim_run.specs.Runs.{IsFrontOut, IsStopped}
+use Rattle.fmpsim_run.specs.Runs.{IsPrefixOut, IsStopped}
 use Rattle.fmpsim_run.specs.Details.{detail_of, entry_text}
 use Rattle.fmpsim_run.specs.Streams.{IsAllOut, Leaves, Streams}
 
@@ -98,12 +98,12 @@ module _ (d : Detail) (tells : Bool) (c : Setup) (whole : Reading) (old : List �
     text = s.text told;
   }
 
-  -- what is out is what is written of a front of the events
-  pub front_out : (a : Answering) (written remaining : List ℕ) → IsTrue tells → Streams d tells c whole old a written remaining → IsFrontOut (detail_of d) c whole.events old written
-  front_out a written remaining told s =
+  -- what is out is what is written of a prefix of the events
+  pub prefix_out : (a : Answering) (written remaining : List ℕ) → IsTrue tells → Streams d tells c whole old a written remaining → IsPrefixOut (detail_of d) c whole.events old written
+  prefix_out a written remaining told s =
       let events = ap (λ (r : Reading). r.events) s.reading in
-      let front = ap (take (length s.given)) events ∙ take-append_seam s.given (ahead c.names a.feed remaining).events in
-      (length s.given, s.text told ∙ ap (λ es. old ++ detail_of d c es) (sym front))
+      let prefix = ap (take (length s.given)) events ∙ take-append_seam s.given (ahead c.names a.feed remaining).events in
+      (length s.given, s.text told ∙ ap (λ es. old ++ detail_of d c es) (sym prefix))
 
   -- a text at fault, where what is written of the events before is out
   pub stopped : (a : Answering) (written remaining : List ℕ) (fault : TextFault) → IsTrue tells → Streams d tells c whole old a written remaining
@@ -145,7 +145,7 @@ stream_start d tells c text old a detail feed stands count = record {
 }
 
 -- where nothing was written, what is written of no event is out
-pub none_out : (d : Detail) (c : Setup) (events : List Event) (old : List ℕ) → IsFrontOut (detail_of d) c events old old
+pub none_out : (d : Detail) (c : Setup) (events : List Event) (old : List ℕ) → IsPrefixOut (detail_of d) c events old old
 none_out d c events old = (0, sym (append-nil old) ∙ ap (λ xs. old ++ xs) (sym (detail_none d c)))
 
 -- all of what is written is a beginning of it
@@ -160,7 +160,7 @@ pub step_leaves : (d : Detail) (tells : Bool) (c : Setup) (whole : Reading) (old
     → ((m : State) → Stands a.kernel m → fault ≡ run.Write → BeginsWith written (entry_text a.detail c.names (a.count + 1) (step numbered m event)) out)
     → (fault ≡ run.Memory) ⊎ (fault ≡ run.Write) → Leaves d c whole old out fault
 step_leaves d tells c whole old a between written out remaining event fault told s next memory write (inl is) =
-    rw (is, memory is) (front_out d tells c whole old a written remaining told s)
+    rw (is, memory is) (prefix_out d tells c whole old a written remaining told s)
 step_leaves d tells c whole old a between written out remaining event fault told s next memory write (inr is) =
     rw is (torn d tells c whole old a between written out remaining event told s next (λ m stands. write m stands is))
 

@@ -88,16 +88,16 @@ detail_none detail.Line c = refl
 detail_none detail.State c = refl
 
 -- a beginning of some bytes is one of more bytes
-begins_on : (old front line behind new : List ℕ) → BeginsWith (old ++ front) line new → BeginsWith old ((front ++ line) ++ behind) new
-begins_on old front line behind new (n, is) =
+begins_on : (old prefix line behind new : List ℕ) → BeginsWith (old ++ prefix) line new → BeginsWith old ((prefix ++ line) ++ behind) new
+begins_on old prefix line behind new (n, is) =
     let j = min n (length line) in
     let within : j ≤ length line = omega arith in
-    let same : take (length front + j) ((front ++ line) ++ behind) ≡ front ++ take n line =
-    ap (take (length front + j)) (append_assoc front line behind) ∙ take-append-add front (line ++ behind) j
-    ∙ ap (λ xs. front ++ xs) (take-append-le j line behind within ∙ take_min n line) in
-    (length front + j, is ∙ append_assoc old front (take n line) ∙ ap (λ xs. old ++ xs) (sym same))
+    let same : take (length prefix + j) ((prefix ++ line) ++ behind) ≡ prefix ++ take n line =
+    ap (take (length prefix + j)) (append_assoc prefix line behind) ∙ take-append-add prefix (line ++ behind) j
+    ∙ ap (λ xs. prefix ++ xs) (take-append-le j line behind within ∙ take_min n line) in
+    (length prefix + j, is ∙ append_assoc old prefix (take n line) ∙ ap (λ xs. old ++ xs) (sym same))
 
--- behind what is written of a front a beginning of the next entry is out: so a beginning of all is
+-- behind what is written of a prefix a beginning of the next entry is out: so a beginning of all is
 pub begun : (d : Detail) (c : Setup) (given more : List Event) (event : Event) (old written new : List ℕ) → written ≡ old ++ detail_of d c given
     → BeginsWith written (entry_behind d c given event) new → BeginsWith old (detail_of d c (given ++ event ∷ more)) new
 begun d c given more event old written new text begins =

@@ -8,6 +8,7 @@ use Rattle.fmp_check.specs.declared.checking.Verdict.{Verdict}
 use Rattle.fmp_check.specs.declared.checking.Verdict.TheVariants.{Yes, No}
 use Rattle.fmp_check.specs.Checking.{Judges}
 use Rattle.fmp_trace.specs.Prints.{FirstFault}
+use Rattle.fmpsim_run.specs.declared.check.Judged.{Judged}
 use Rattle.fmpsim_run.specs.declared.fault.RunFault.{RunFault}
 use Rattle.fmpsim_run.specs.declared.fault.RunFault.TheVariants as run
 use Rattle.fmpsim_run.specs.Devices.{BeginsWith}
@@ -31,7 +32,12 @@ IsYes (Err (run.Config fault)) = fault.kind ≡ config_kind.Memory
 IsYes (Err (run.Text fault)) = IsMemory fault
 IsYes (Err other) = Unit {0}
 
--- a front of the verdict was written after old
+-- the verdict on a trace that was read
+abbrev pub verdict_in : Result Judged RunFault → Result Verdict RunFault
+verdict_in (Ok judged) = Ok judged.verdict
+verdict_in (Err fault) = Err fault
+
+-- a prefix of the verdict was written after old
 abbrev pub IsCheckBegun : List ℕ → List ℕ → List ℕ → List ℕ → Type 0
 IsCheckBegun config_text trace_text old new = (verdict : Verdict) × Checked config_text trace_text verdict × BeginsWith old (verdict_text verdict) new
 

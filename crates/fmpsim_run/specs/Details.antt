@@ -40,7 +40,7 @@ abbrev pub detail_of : Detail → Writing
 detail_of detail.Line = trace_of
 detail_of detail.State = states_of
 
--- The output is the trace of the one text's machine over the other's events, with the state after each. Every front of these
+-- The output is the trace of the one text's machine over the other's events, with the state after each. Every prefix of these
 -- leads to a safe state, in which what the records so far say came in and went out agrees with what is there.
 pub record ToldStates (config_text event_text output : List ℕ) : Type 0 where
   pub config : Setup

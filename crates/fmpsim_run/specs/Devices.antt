@@ -8,13 +8,13 @@ abbrev pub is_failed_write : {E : Type 0} → Result ℕ E → List ℕ → Bool
 is_failed_write (Ok n) piece = (n == 0) && nat_lt 0 (length piece)
 is_failed_write (Err e) piece = true
 
--- old, and then a front of the bytes
+-- old, and then a prefix of the bytes
 abbrev pub BeginsWith : List ℕ → List ℕ → List ℕ → Type 0
 BeginsWith old bytes new = (n : ℕ) × (new ≡ old ++ take n bytes)
 
 -- text was read and rest is left; nothing is, unless the text is longer than the limit
 pub record ReadUpTo (limit : ℕ) (all text rest : List ℕ) : Type 0 where
-  pub front : all ≡ text ++ rest
+  pub prefix : all ≡ text ++ rest
   pub whole : length text ≤ limit → rest ≡ []
 
 abbrev pub is_failure : ReadFault → Bool

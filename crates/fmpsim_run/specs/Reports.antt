@@ -31,7 +31,7 @@ abbrev pub IsReported : Shown → List ℕ → List ℕ → List ℕ → List �
 IsReported shown config_text trace_text old new verdict =
     (lines : List ℕ) × Compared shown config_text trace_text verdict lines × (new ≡ old ++ (head_text shown verdict ++ lines))
 
--- a front of the report was written after old
+-- a prefix of the report was written after old
 abbrev pub IsReportBegun : Shown → List ℕ → List ℕ → List ℕ → List ℕ → Type 0
 IsReportBegun shown config_text trace_text old new =
     (verdict : Verdict) × (lines : List ℕ) × Compared shown config_text trace_text verdict lines × BeginsWith old (head_text shown verdict ++ lines) new

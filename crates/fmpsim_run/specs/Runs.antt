@@ -24,7 +24,7 @@ pub record SaysConfig (text : List ℕ) (config : Setup) : Type 0 where
   pub configures : Configures text config
   pub short : length text ≤ most_bytes
 
--- The output is the trace of the one text's machine over the other's events. Every front of these leads to a safe state, in
+-- The output is the trace of the one text's machine over the other's events. Every prefix of these leads to a safe state, in
 -- which what the records so far say came in and went out agrees with what is there.
 pub record Answered (config_text event_text output : List ℕ) : Type 0 where
   pub config : Setup
@@ -57,24 +57,24 @@ pub record Traced (writing : Writing) (config_text event_text output : List ℕ)
 abbrev pub IsBegun : Writing → List ℕ → List ℕ → List ℕ → List ℕ → Type 0
 IsBegun writing config_text event_text old new = (output : List ℕ) × Traced writing config_text event_text output × BeginsWith old output new
 
--- what is written of a front of the events was written after old, every line of it whole
-abbrev pub IsFrontOut : Writing → Setup → List Event → List ℕ → List ℕ → Type 0
-IsFrontOut writing config events old new = (n : ℕ) × (new ≡ old ++ writing config (take n events))
+-- what is written of a prefix of the events was written after old, every line of it whole
+abbrev pub IsPrefixOut : Writing → Setup → List Event → List ℕ → List ℕ → Type 0
+IsPrefixOut writing config events old new = (n : ℕ) × (new ≡ old ++ writing config (take n events))
 
 -- the same of a right configuration. Where there was none yet, nothing was written
-abbrev pub IsFront : Writing → List ℕ → List ℕ → List ℕ → List ℕ → Type 0
-IsFront writing config_text event_text old new =
-    (new ≡ old) ⊎ ((config : Setup) × SaysConfig config_text config × IsFrontOut writing config (reading_by_line config.names event_text).events old new)
+abbrev pub IsPrefix : Writing → List ℕ → List ℕ → List ℕ → List ℕ → Type 0
+IsPrefix writing config_text event_text old new =
+    (new ≡ old) ⊎ ((config : Setup) × SaysConfig config_text config × IsPrefixOut writing config (reading_by_line config.names event_text).events old new)
 
 -- what is written of the events before this fault, which is the text's first one, was written after old
 pub record IsOutBefore (writing : Writing) (config : Setup) (reading : Reading) (old new : List ℕ) (fault : TextFault) : Type 0 where
   pub first : reading.fault ≡ Some fault
   pub text : new ≡ old ++ writing config reading.events
 
--- that, or memory ran out, and what is written of a front of the events was
+-- that, or memory ran out, and what is written of a prefix of the events was
 abbrev pub IsStopped : Writing → Setup → Reading → List ℕ → List ℕ → TextFault → Type 0
 IsStopped writing config reading old new fault =
-    IsOutBefore writing config reading old new fault ⊎ (IsMemory fault × IsFrontOut writing config reading.events old new)
+    IsOutBefore writing config reading old new fault ⊎ (IsMemory fault × IsPrefixOut writing config reading.events old new)
 
 -- what was written after old, where a run over these texts that writes so ends with this fault
 abbrev pub LeavesWritten : Writing → List ℕ → List ℕ → List ℕ → List ℕ → RunFault → Type 0
@@ -82,7 +82,7 @@ LeavesWritten writing config_text event_text old new (run.Config fault) = new �
 LeavesWritten writing config_text event_text old new (run.Text fault) =
     (config : Setup) × SaysConfig config_text config × IsStopped writing config (reading_by_line config.names event_text) old new fault
 LeavesWritten writing config_text event_text old new run.Write = IsBegun writing config_text event_text old new
-LeavesWritten writing config_text event_text old new other = IsFront writing config_text event_text old new
+LeavesWritten writing config_text event_text old new other = IsPrefix writing config_text event_text old new
 
 -- the same of the trace
 abbrev pub LeavesOut : List ℕ → List ℕ → List ℕ → List ℕ → RunFault → Type 0

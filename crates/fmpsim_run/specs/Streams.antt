@@ -13,7 +13,7 @@ use Rattle.fmpsim_run.specs.declared.fault.RunFault.TheVariants as run
 use Rattle.fmpsim_run.specs.declared.stream.Answering.{Answering}
 use Rattle.fmpsim_run.specs.declared.stream.Detail.{Detail}
 use Rattle.fmpsim_run.specs.Devices.{BeginsWith}
-use Rattle.fmpsim_run.specs.Runs.{IsFrontOut, IsStopped}
+use Rattle.fmpsim_run.specs.Runs.{IsPrefixOut, IsStopped}
 use Rattle.fmpsim_run.specs.Details.{detail_of}
 
 -- The events given so far were answered, and what is ahead gives the others, where these bytes are still to come. What was
@@ -31,7 +31,7 @@ abbrev pub Leaves : Detail → Setup → Reading → List ℕ → List ℕ → R
 Leaves d config whole old new (run.Config fault) = Unit {0}
 Leaves d config whole old new (run.Text fault) = IsStopped (detail_of d) config whole old new fault
 Leaves d config whole old new run.Write = BeginsWith old (detail_of d config whole.events) new
-Leaves d config whole old new other = IsFrontOut (detail_of d) config whole.events old new
+Leaves d config whole old new other = IsPrefixOut (detail_of d) config whole.events old new
 
 -- the text has no fault, and what is told of all its events was written after old
 pub record IsAllOut (d : Detail) (config : Setup) (whole : Reading) (old new : List ℕ) : Type 0 where

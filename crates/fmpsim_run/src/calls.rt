@@ -108,7 +108,7 @@ pub fn run_calls<R: Source, S: Source, W: Sink>(
     ensures text_fault { IsTrue R.tells → IsTrue S.tells → IfErr result (FirstTextFault (R.left config.old) (S.left events.old)) }
 
     // After a fault of the configuration nothing is written. After one of the events the trace of those before it is out, after
-    // a failed read or want of memory the trace of some front of them, and after a failed write or flush a beginning of the
+    // a failed read or want of memory the trace of some prefix of them, and after a failed write or flush a beginning of the
     // trace.
     ensures unwritten { IsTrue W.tells → IfErr result (λ fault. is_config fault ≡ true → W.written trace.new ≡ W.written trace.old) }
     ensures leaves { IsTrue R.tells → IsTrue S.tells → IsTrue W.tells → IfErr result (LeavesOut (R.left config.old) (S.left events.old) (W.written trace.old) (W.written trace.new)) }
@@ -147,7 +147,7 @@ pub fn run_states<R: Source, S: Source, W: Sink>(
     ensures text_fault { IsTrue R.tells → IsTrue S.tells → IfErr result (FirstTextFault (R.left config.old) (S.left events.old)) }
 
     // After a fault of the configuration nothing is written. After one of the events what is told of those before it is out,
-    // after a failed read or want of memory what is told of some front of them, and after a failed write or flush a beginning
+    // after a failed read or want of memory what is told of some prefix of them, and after a failed write or flush a beginning
     // of all.
     ensures unwritten { IsTrue W.tells → IfErr result (λ fault. is_config fault ≡ true → W.written trace.new ≡ W.written trace.old) }
     ensures leaves { IsTrue R.tells → IsTrue S.tells → IsTrue W.tells → IfErr result (LeavesStates (R.left config.old) (S.left events.old) (W.written trace.old) (W.written trace.new)) }

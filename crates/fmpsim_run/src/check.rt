@@ -4,10 +4,10 @@ ghost use Rattle.fmp_codes.specs.declared.records.Event.{Event as AnyEvent};
 ghost use Rattle.fmp_text.specs.Limits.{most_bytes as MOST_BYTES};
 ghost use Rattle.fmp_check.specs.Checking.{Judges, PrintsAnswers};
 ghost use Rattle.fmpsim_run.specs.Faults.{failed_read, failed_write, is_config, is_write};
-ghost use Rattle.fmpsim_run.specs.Runs.{Answered, CountsReads, FirstConfigFault};
+ghost use Rattle.fmpsim_run.specs.Runs.{Answered, CountsReads, FirstConfigFault, SaysConfig};
 ghost use Rattle.fmp_world.specs.declared.finishing.Ended.{Ended};
 ghost use Rattle.fmpsim_run.specs.Scripted.{Played};
-ghost use Rattle.fmpsim_run.specs.Checks.{Checked, IsCheckBegun, IsFirstOfTrace, IsYes, FirstTraceFault, verdict_text};
+ghost use Rattle.fmpsim_run.specs.Checks.{Checked, IsCheckBegun, IsFirstOfTrace, IsYes, FirstTraceFault, verdict_in, verdict_text};
 
 use crate::fault::RunFault;
 use crate::sink::{Sink, write_out};
@@ -23,41 +23,56 @@ use std::alloc::Global;
 /// How many bytes the longest verdict has, `no 4294967295` and a line feed.
 const MOST_TEXT: usize = 14;
 
+/// A configuration and a trace that were read, and the verdict on the trace.
+#[derive(Drop)]
+pub struct Judged {
+    pub config: Config,
+    pub text: Vec<u8>,
+    pub verdict: Verdict,
+}
+
 /// Reads a trace to its end, and judges it.
-fn verdict_from<S: Source>(
-    alloc: Global,
-    config: &Config,
-    source: &mut S,
-) -> Result<Verdict, RunFault>
-    requires { S.failures source.old < 2 ^ 64 - 1 }
-    ensures ok { IsTrue S.tells → IfOk result (Judges config.now (S.left source.old)) }
-    ensures answers { IsTrue S.tells → (events : List AnyEvent) → PrintsAnswers config.now (S.left source.old) events → IsYes result }
-    ensures read { IsTrue S.tells → OnOk result (S.left source.new ≡ []) }
-    ensures fault { IsTrue S.tells → IfErr result (IsFirstOfTrace config.now.names (S.left source.old)) }
+fn judged_by<S: Source>(alloc: Global, config: Config, trace: &mut S) -> Result<Judged, RunFault>
+    requires { S.failures trace.old < 2 ^ 64 - 1 }
+    ensures config { IfOk result (λ judged. judged.config ≡ config) }
+    ensures text { IsTrue S.tells → IfOk result (λ judged. judged.text.items ≡ S.left trace.old) }
+    ensures judged { IfOk result (λ judged. Judges judged.config judged.text.items judged.verdict) }
+    ensures answers { IsTrue S.tells → (events : List AnyEvent) → PrintsAnswers config (S.left trace.old) events → IsYes (verdict_in result) }
+    ensures read { IsTrue S.tells → OnOk result (S.left trace.new ≡ []) }
+    ensures fault { IsTrue S.tells → IfErr result (IsFirstOfTrace config.names (S.left trace.old)) }
     ensures kinds { IfErr result (λ fault. (is_config fault ≡ false) × (is_write fault ≡ false)) }
-    ensures count { S.failures source.new ≡ S.failures source.old + (if failed_read result then 1 else 0) }
+    ensures count { S.failures trace.new ≡ S.failures trace.old + (if failed_read result then 1 else 0) }
 {
-    let text = read_up_to(alloc, source, fmp_text::MOST_BYTES)?;
-    match check(alloc, config, text.as_slice()) {
-        Ok(verdict) => Ok(verdict),
+    let text = read_up_to(alloc, trace, fmp_text::MOST_BYTES)?;
+    match check(alloc, &config, text.as_slice()) {
+        Ok(verdict) => Ok(Judged {
+            config,
+            text,
+            verdict,
+        }),
         Err(fault) => Err(RunFault::Text(fault)),
     }
 }
 
-/// The verdict on a trace. It has no writer in hand, so nothing is written before both texts are accepted.
-fn checked<R: Source, S: Source>(
+/// Reads a configuration and a trace to their ends, and judges the trace. It has no writer in hand, so nothing is written before
+/// both texts are accepted.
+#[tactic(auto, using(crate::proofs::JudgedTexts::checked_of_texts))]
+pub fn judged_texts<R: Source, S: Source>(
     alloc: Global,
     config: &mut R,
     trace: &mut S,
-) -> Result<Verdict, RunFault>
+) -> Result<Judged, RunFault>
     requires config_calls { R.failures config.old < 2 ^ 64 - 1 }
     requires trace_calls { S.failures trace.old < 2 ^ 64 - 1 }
 
-    ensures checked { IsTrue R.tells → IsTrue S.tells → IfOk result (Checked (R.left config.old) (S.left trace.old)) }
+    ensures says { IsTrue R.tells → IfOk result (λ judged. SaysConfig (R.left config.old) judged.config) }
+    ensures text { IsTrue S.tells → IfOk result (λ judged. judged.text.items ≡ S.left trace.old) }
+    ensures judged { IfOk result (λ judged. Judges judged.config judged.text.items judged.verdict) }
+    ensures checked { IsTrue R.tells → IsTrue S.tells → IfOk result (λ judged. Checked (R.left config.old) (S.left trace.old) judged.verdict) }
     ensures answers { IsTrue R.tells → IsTrue S.tells → (event_text : List ℕ) → Answered (R.left config.old) event_text (S.left trace.old)
-        → length (S.left trace.old) ≤ MOST_BYTES → IsYes result }
+        → length (S.left trace.old) ≤ MOST_BYTES → IsYes (verdict_in result) }
     ensures plays { IsTrue R.tells → IsTrue S.tells → (script_text : List ℕ) (ticks turns : ℕ) (ended : Ended)
-        → Played (R.left config.old) script_text ticks turns (S.left trace.old) ended → length (S.left trace.old) ≤ MOST_BYTES → IsYes result }
+        → Played (R.left config.old) script_text ticks turns (S.left trace.old) ended → length (S.left trace.old) ≤ MOST_BYTES → IsYes (verdict_in result) }
     ensures config_read { IsTrue R.tells → OnOk result (R.left config.new ≡ []) }
     ensures trace_read { IsTrue S.tells → OnOk result (S.left trace.new ≡ []) }
 
@@ -68,7 +83,7 @@ fn checked<R: Source, S: Source>(
 {
     let configuration = config_from(alloc, config)?;
     configuration.names().validity();
-    verdict_from(alloc, &configuration, trace)
+    judged_by(alloc, configuration, trace)
 }
 
 /// A verdict as it is written: `yes`, or `no` and the number of the line.
@@ -127,8 +142,8 @@ pub fn run_check<R: Source, S: Source, W: Sink>(
     ensures reads { CountsReads result (R.failures config.old) (R.failures config.new) (S.failures trace.old) (S.failures trace.new) }
     ensures writes { W.failures answer.new ≡ W.failures answer.old + (if failed_write result then 1 else 0) }
 {
-    let verdict = checked(alloc, config, trace)?;
-    let text = text_of(verdict);
+    let judged = judged_texts(alloc, config, trace)?;
+    let text = text_of(judged.verdict);
     write_out(answer, text.as_str().as_bytes())?;
-    Ok(verdict)
+    Ok(judged.verdict)
 }

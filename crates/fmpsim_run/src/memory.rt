@@ -85,8 +85,8 @@ impl Source for MemSource<'_> {
             return Err(Failed);
         }
         let count = self.rest.len().min(buffer.len());
-        let (front, rest) = self.rest.split_at(count);
-        buffer[..count].copy_from_slice(front);
+        let (prefix, rest) = self.rest.split_at(count);
+        buffer[..count].copy_from_slice(prefix);
         self.rest = rest;
         Ok(count)
     }

@@ -76,7 +76,7 @@ fn compared<R: Source, S: Source>(
     comparison_from(alloc, &configuration, trace, shown)
 }
 
-/// Writes what stands before the lines that differ. After a failed call a front of it is out.
+/// Writes what stands before the lines that differ. After a failed call a prefix of it is out.
 fn write_head<W: Sink>(sink: &mut W, shown: Shown, verdict: Verdict) -> Result<(), Failed>
     requires { W.failures sink.old < 2 ^ 64 - 1 }
     ensures count { W.failures sink.new ≡ W.failures sink.old + (if is_err result then 1 else 0) }
@@ -90,7 +90,7 @@ fn write_head<W: Sink>(sink: &mut W, shown: Shown, verdict: Verdict) -> Result<(
     }
 }
 
-/// Writes a report, and holds none of it back. After a failed call a front of it is written.
+/// Writes a report, and holds none of it back. After a failed call a prefix of it is written.
 fn write_report<W: Sink>(
     sink: &mut W,
     shown: Shown,

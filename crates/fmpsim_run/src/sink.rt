@@ -21,7 +21,7 @@ pub trait Sink {
     fn failures(&self) -> u64
         ensures { result ≡ failures self.now };
 
-    /// Writes a front of the piece, and answers its length. An answer of 0 for a piece that is not empty is a failed call
+    /// Writes a prefix of the piece, and answers its length. An answer of 0 for a piece that is not empty is a failed call
     /// too. After a failed call the same bytes were written.
     fn write(&mut self, piece: &[u8]) -> Result<usize, Failed>
         requires { failures self.old < 2 ^ 64 - 1 }
@@ -38,7 +38,7 @@ pub trait Sink {
         ensures bytes { IsTrue tells → written self.new ≡ written self.old };
 }
 
-/// Writes all of the bytes. After a failed call a front of them is out.
+/// Writes all of the bytes. After a failed call a prefix of them is out.
 pub fn write_all<W: Sink>(sink: &mut W, bytes: &[u8]) -> Result<(), Failed>
     requires { W.failures sink.old < 2 ^ 64 - 1 }
     ensures count { W.failures sink.new ≡ W.failures sink.old + (if is_err result then 1 else 0) }
@@ -56,7 +56,7 @@ pub fn write_all<W: Sink>(sink: &mut W, bytes: &[u8]) -> Result<(), Failed>
     Ok(())
 }
 
-/// Writes all of the bytes, and holds none back. After a failed call a front of them is written.
+/// Writes all of the bytes, and holds none back. After a failed call a prefix of them is written.
 pub fn write_out<W: Sink>(sink: &mut W, bytes: &[u8]) -> Result<(), Failed>
     requires { W.failures sink.old < 2 ^ 64 - 1 }
     ensures count { W.failures sink.new ≡ W.failures sink.old + (if is_err result then 1 else 0) }

@@ -19,7 +19,7 @@ pub trait Source {
     fn failures(&self) -> u64
         ensures { result ≡ failures self.now };
 
-    /// Reads into the front of the buffer, and answers how many bytes. A read of 0 bytes is the end. After a failed call
+    /// Reads into the beginning of the buffer, and answers how many bytes. A read of 0 bytes is the end. After a failed call
     /// the same bytes are left.
     fn read(&mut self, buffer: &mut [u8]) -> Result<usize, Failed>
         requires { failures self.old < 2 ^ 64 - 1 }

@@ -22,7 +22,7 @@ pub(crate) fn new_piece(alloc: Global) -> Result<Vec<u8>, AllocError>
     vec![in alloc; 0u8; PIECE]
 }
 
-/// Reads the whole text, or, of a text longer than the limit, a front that is longer than the limit too.
+/// Reads the whole text, or, of a text longer than the limit, a prefix that is longer than the limit too.
 pub fn read_up_to<S: Source>(
     alloc: Global,
     source: &mut S,

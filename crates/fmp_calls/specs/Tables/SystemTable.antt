@@ -3,7 +3,7 @@ use Rattle.std.specs.Prelude.{[], ◌∷◌, codes}
 use Rattle.fmp_codes.specs.declared.calls.SystemCall.{SystemCall}
 use Rattle.fmp_codes.specs.declared.calls.SystemCall.TheVariants.{RotRdq, IrotRdq, MrotRdq, ImrotRdq, GetTid, IgetTid, GetPid, IgetPid, LocCpu, IlocCpu, UnlCpu, IunlCpu, DisDsp, EnaDsp, SnsCtx, SnsLoc, SnsDsp, SnsDpn}
 use Rattle.fmp_calls.specs.Entries.{Line, line}
-use Rattle.fmp_calls.specs.Kinds.{priority, processor}
+use Rattle.fmp_calls.specs.declared.kinds.ArgumentKind.TheVariants.{Priority as priority, Processor as processor}
 
 abbrev pub line_of : SystemCall → Line SystemCall
 line_of (RotRdq n) = line (codes "rot_rdq") (priority ∷ []) RotRdq (n, tt)

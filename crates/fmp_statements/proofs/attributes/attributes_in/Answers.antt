@@ -1,6 +1,6 @@
 use Rattle.std.proofs.Common.{◌∙◌, sym}
 use Rattle.std.proofs.lemmas.Result.{err_from_is_err_and}
-use Rattle.fmp_statements.specs.Attributes.{attribute_step, attributes_in}
+use Rattle.fmp_statements.specs.Attributes.{attribute_step}
 use Rattle.fmp_statements.proofs.Turns.{goes_on, fails, is_done}
 use Rattle.fmp_statements.proofs.attributes.attributes_in.Goals as goal
 

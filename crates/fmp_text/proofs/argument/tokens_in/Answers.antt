@@ -5,19 +5,19 @@ use Rattle.std.proofs.lemmas.List.{map_push, length-map}
 use Rattle.fmp_bytes.specs.Bytes.{cut_at, pieces_of}
 use Rattle.fmp_bytes.proofs.Cutting.{fewer_left}
 use Rattle.fmp_text.specs.Argument.{token_in, tokens_in, at_most}
-use Rattle.fmp_text.proofs.Pieces.{with_front, goes_on, ends, is_full, is_done}
+use Rattle.fmp_text.proofs.Pieces.{with_prefix, goes_on, ends, is_full, is_done}
 use Rattle.fmp_text.proofs.argument.tokens_in.Goals as goal
 use Rattle.fmp_text.proofs.argument.tokens_in.Goals.{In-Some, In_ok-token}
 
-so_far : (c : In-Some) → at_most 4 (with_front (map (λ t. t.now) c.loop-rest.tokens.items) (tokens_in (pieces_of 44 c.in-Some.text.now))) ≡ at_most 4 (tokens_in (pieces_of 44 c.args.text.now))
+so_far : (c : In-Some) → at_most 4 (with_prefix (map (λ t. t.now) c.loop-rest.tokens.items) (tokens_in (pieces_of 44 c.in-Some.text.now))) ≡ at_most 4 (tokens_in (pieces_of 44 c.args.text.now))
 so_far c = rw c.in-Some.is at c.loop-rest.invariant.0
 
 read : (c : In_ok-token) → token_in (cut_at 44 c.in-Some.text.now).0 ≡ Some c.in_ok-token.token.now
-read c = ap token_in (sym c.cut.ensures.front) ∙ sym c.token_in.ensures ∙ ap option_copied c.in_ok-token.was
+read c = ap token_in (sym c.cut.ensures.prefix) ∙ sym c.token_in.ensures ∙ ap option_copied c.in_ok-token.was
 
 pub returns-in_err-token : goal.returns-in_err-token
 returns-in_err-token c =
-    let none : token_in (cut_at 44 c.in-Some.text.now).0 ≡ None = ap token_in (sym c.cut.ensures.front) ∙ sym c.token_in.ensures ∙ ap option_copied c.in_err-token.was in
+    let none : token_in (cut_at 44 c.in-Some.text.now).0 ≡ None = ap token_in (sym c.cut.ensures.prefix) ∙ sym c.token_in.ensures ∙ ap option_copied c.in_err-token.was in
     rw c.from_residual.ensures (ends 4 (map (λ t. t.now) c.loop-rest.tokens.items) c.in-Some.text.now _ none (so_far (goal.at.returns-in_err-token c).In-Some))
 
 pub returns-then-is_full : goal.returns-then-is_full

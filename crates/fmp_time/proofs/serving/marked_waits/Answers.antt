@@ -2,7 +2,7 @@ use Rattle.std.proofs.Common.{◌≡◌, ℕ, ◌+◌, Bool, false, Some, List, 
 use Rattle.std.proofs.lemmas.List.{length_push}
 use Rattle.fmp_codes.specs.declared.numbers.Task.{Task}
 use Rattle.fmp_links.specs.Lists.{first_of}
-use Rattle.fmp_links.proofs.Walking.{part, front, ended}
+use Rattle.fmp_links.proofs.Walking.{part, prefix, ended}
 use Rattle.fmp_time.specs.Times.{is_marked}
 use Rattle.fmp_time.proofs.Served.{filter_more, filter_same}
 use Rattle.fmp_time.proofs.serving.marked_waits.Goals as goal
@@ -23,14 +23,14 @@ loop-preserved c =
     elim c.if-marks-index.branch [
       | then-marks-index w ↦ record {
         items = ap (λ (v : _). v.items) w.marked-is ∙ w.push.ensures.items ∙ ap (λ (xs : List Task). xs ++ t ∷ []) c.loop.invariant.items
-            ∙ sym (filter_more p (take k ts) t (at ∙ w.if-marks-index.true)) ∙ ap (filter p) (sym (front ts k t e));
+            ∙ sym (filter_more p (take k ts) t (at ∙ w.if-marks-index.true)) ∙ ap (filter p) (sym (prefix ts k t e));
         here = on;
         some = omega (arith, ap (λ (v : _). length v.items) w.marked-is, ap length w.push.ensures.items, length_push c.loop.marked.items t, c.loop.invariant.some);
         few = c.loop.invariant.few;
       }
       | else-marks-index w ↦ record {
         items = ap (λ (v : _). v.items) w.marked-is ∙ c.loop.invariant.items
-            ∙ sym (filter_same p (take k ts) t (at ∙ w.if-marks-index.false)) ∙ ap (filter p) (sym (front ts k t e));
+            ∙ sym (filter_same p (take k ts) t (at ∙ w.if-marks-index.false)) ∙ ap (filter p) (sym (prefix ts k t e));
         here = on;
         some = omega (arith, ap (λ (v : _). length v.items) w.marked-is, c.loop.invariant.some);
         few = c.loop.invariant.few;

@@ -13,7 +13,7 @@ so_far c = rw c.in-Some.is at c.loop-rest.invariant.read
 pub returns-in_err-processor : goal.returns-in_err-processor
 returns-in_err-processor c =
     let none : request_in c.args.names.now c.loop-rest.least (cut_at 44 c.in-Some.text.now).0 ≡ None =
-    ap (request_in c.args.names.now c.loop-rest.least) (sym c.cut.ensures.front) ∙ sym c.request_in.ensures.value ∙ c.in_err-processor.was in
+    ap (request_in c.args.names.now c.loop-rest.least) (sym c.cut.ensures.prefix) ∙ sym c.request_in.ensures.value ∙ c.in_err-processor.was in
     rw c.from_residual.ensures (no_request c.args.names.now c.loop-rest.least c.loop-rest.requests c.in-Some.text.now _ (so_far (goal.at.returns-in_err-processor c).In-Some) none)
 
 pub loop-rest-smaller : goal.loop-rest-smaller
@@ -22,7 +22,7 @@ loop-rest-smaller c = fewer_left 44 (option_copied c.loop-rest.rest) (option_cop
 pub loop-rest-preserved : goal.loop-rest-preserved
 loop-rest-preserved c =
     let here : request_in c.args.names.now c.loop-rest.least (cut_at 44 c.in-Some.text.now).0 ≡ Some c.in_ok-processor.processor =
-    ap (request_in c.args.names.now c.loop-rest.least) (sym c.cut.ensures.front) ∙ sym c.request_in.ensures.value ∙ c.in_ok-processor.was in
+    ap (request_in c.args.names.now c.loop-rest.least) (sym c.cut.ensures.prefix) ∙ sym c.request_in.ensures.value ∙ c.in_ok-processor.was in
     let more = one_request c.args.names.now c.loop-rest.least c.loop-rest.requests c.in-Some.text.now _ (so_far (goal.at.loop-rest-preserved c).In-Some) c.in_ok-processor.processor here in
     let above = c.in_ok-processor.ensures.above in
     record {

@@ -13,7 +13,7 @@ so_far c = rw c.in-Some.is at c.loop-rest.invariant
 pub returns-in_err-entry : goal.returns-in_err-entry
 returns-in_err-entry c =
     let none : with_word c.args.names.now c.loop-rest.entry (cut_at 32 c.in-Some.text.now).0 ≡ None =
-    ap (with_word c.args.names.now c.loop-rest.entry) (sym c.cut.ensures.front) ∙ sym c.with_word.ensures ∙ c.in_err-entry.was in
+    ap (with_word c.args.names.now c.loop-rest.entry) (sym c.cut.ensures.prefix) ∙ sym c.with_word.ensures ∙ c.in_err-entry.was in
     rw c.from_residual.ensures (no_word c.args.names.now c.loop-rest.entry c.in-Some.text.now _ (so_far (goal.at.returns-in_err-entry c).In-Some) none)
 
 pub loop-rest-smaller : goal.loop-rest-smaller
@@ -22,5 +22,5 @@ loop-rest-smaller c = fewer_left 32 (option_copied c.loop-rest.rest) (option_cop
 pub loop-rest-preserved : goal.loop-rest-preserved
 loop-rest-preserved c =
     let here : with_word c.args.names.now c.loop-rest.entry (cut_at 32 c.in-Some.text.now).0 ≡ Some c.in_ok-entry.entry =
-    ap (with_word c.args.names.now c.loop-rest.entry) (sym c.cut.ensures.front) ∙ sym c.with_word.ensures ∙ c.in_ok-entry.was in
+    ap (with_word c.args.names.now c.loop-rest.entry) (sym c.cut.ensures.prefix) ∙ sym c.with_word.ensures ∙ c.in_ok-entry.was in
     rw c.cut.ensures.rest (one_word c.args.names.now c.loop-rest.entry c.in-Some.text.now _ (so_far (goal.at.loop-rest-preserved c).In-Some) _ here)

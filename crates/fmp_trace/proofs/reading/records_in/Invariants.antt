@@ -1,12 +1,12 @@
 use Rattle.std.proofs.Common.{◌≡◌, ◌≤◌, ◌+◌, length}
 use Rattle.fmp_bytes.specs.Bytes.{pieces_of}
 use Rattle.fmp_trace.specs.Reading.{records_from}
-use Rattle.fmp_trace.proofs.Numbered.{with_front}
+use Rattle.fmp_trace.proofs.Numbered.{with_prefix}
 use Rattle.fmp_trace.proofs.reading.records_in.Given as goal
 
 abbrev pub invariant-loop-line : goal.invariant-loop-line
 invariant-loop-line l = record {
-  read : with_front l.records.items (records_from l.names l.number (pieces_of 10 l.rest)) ≡ records_from l.names 1 (pieces_of 10 l.text);
+  read : with_prefix l.records.items (records_from l.names l.number (pieces_of 10 l.rest)) ≡ records_from l.names 1 (pieces_of 10 l.text);
   left : l.number + length l.rest ≤ length l.text + 1;
 }
 

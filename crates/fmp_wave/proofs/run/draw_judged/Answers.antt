@@ -9,10 +9,10 @@ pub returns-in_err-flush-in-Yes-clause-leaves : goal.returns-in_err-flush-in-Yes
 returns-in_err-flush-in-Yes-clause-leaves g c = λ tell.
     let p = err_from_is_err_and c.from_residual-in_err-flush-in-Yes.result c.from_residual-in_err-flush-in-Yes.ensures.1 in
     let judged = c.requires.judged in
-    let wave = wave_of c.args.config.now (events_of judged.records) in
+    let wave = wave_of c.args.judged.now.config (events_of judged.records) in
     rw (p.1, p.2, c.flush.ensures.bytes tell) (
       wave,
       record { records = judged.records; prints = judged.prints; own = rw c.in-Yes.is at judged.compares; drawn = refl },
       all_begun (g.W.Sink.written c.args.wave.now) wave _ (c.in_ok-draw-in-Yes.ensures.drawn tell judged.records
-          (subst (λ (xs : List ℕ). PrintsWithin c.args.config.now.names xs judged.records) (sym c.as_slice.ensures.value) judged.prints)),
+          (subst (λ (xs : List ℕ). PrintsWithin c.args.judged.now.config.names xs judged.records) (sym c.as_slice.ensures.value) judged.prints)),
     )

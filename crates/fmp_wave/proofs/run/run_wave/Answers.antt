@@ -1,27 +1,12 @@
-use Rattle.std.proofs.Common.{subst}
 use Rattle.std.proofs.lemmas.Result.{err_from_is_err_and}
-use Rattle.fmp_names.specs.Names.{AreValid}
-use Rattle.fmpsim_run.proofs.Yes.{answered_prints, played_prints}
-use Rattle.fmpsim_run.proofs.Grammars.{only_memory}
 use Rattle.fmp_wave.proofs.run.run_wave.Goals as goal
 
-pub returns-in_err-configuration-clause-answers : goal.returns-in_err-configuration-clause-answers
-returns-in_err-configuration-clause-answers g c = λ tells tells_too event_text answered short.
+pub returns-in_err-judged-clause-answers : goal.returns-in_err-judged-clause-answers
+returns-in_err-judged-clause-answers g c = λ tells tells_too event_text answered short.
     let p = err_from_is_err_and c.from_residual.result c.from_residual.ensures.1 in
-    rw (p.1, p.2) (only_memory _ answered.config c.in_err-configuration.field-0.0 answered.says (c.in_err-configuration.ensures.fault tells) c.in_err-configuration.ensures.kinds.0)
+    rw (p.1, p.2) (c.in_err-judged.ensures.answers tells tells_too event_text answered short)
 
-pub returns-clause-answers : goal.returns-clause-answers
-returns-clause-answers g c = λ tells tells_too event_text answered short.
-    let names_valid = subst AreValid c.names.ensures.value c.validity.ensures in
-    c.draw_from.ensures.answers tells_too answered.events
-    (answered_prints _ event_text _ c.in_ok-configuration.configuration (c.in_ok-configuration.ensures.ok tells) c.names.ensures.valid names_valid answered short)
-
-pub returns-in_err-configuration-clause-plays : goal.returns-in_err-configuration-clause-plays
-returns-in_err-configuration-clause-plays g c = λ tells tells_too script_text ticks turns ended played short.
+pub returns-in_err-judged-clause-plays : goal.returns-in_err-judged-clause-plays
+returns-in_err-judged-clause-plays g c = λ tells tells_too script_text ticks turns ended played short.
     let p = err_from_is_err_and c.from_residual.result c.from_residual.ensures.1 in
-    rw (p.1, p.2) (only_memory _ played.config c.in_err-configuration.field-0.0 played.says (c.in_err-configuration.ensures.fault tells) c.in_err-configuration.ensures.kinds.0)
-
-pub returns-clause-plays : goal.returns-clause-plays
-returns-clause-plays g c = λ tells tells_too script_text ticks turns ended played short.
-    c.draw_from.ensures.answers tells_too _
-    (played_prints _ script_text _ ticks turns ended c.in_ok-configuration.configuration (c.in_ok-configuration.ensures.ok tells) played short)
+    rw (p.1, p.2) (c.in_err-judged.ensures.plays tells tells_too script_text ticks turns ended played short)

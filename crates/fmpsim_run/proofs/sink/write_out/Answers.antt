@@ -9,6 +9,6 @@ returns-clause-err g c = λ tells.
     let old = g.W.Sink.written c.args.sink.now in
     let bytes = c.args.bytes.now in
     let written = c.flush.ensures.bytes tells ∙ c.in_ok-write_all.ensures.ok tells in
-    let front = ap (λ bs. old ++ bs) (sym (take_all (length bytes) bytes (omega arith))) in
-    let begun : BeginsWith old bytes (g.W.Sink.written c.flush.new.self) = (length bytes, written ∙ front) in
+    let prefix = ap (λ bs. old ++ bs) (sym (take_all (length bytes) bytes (omega arith))) in
+    let begun : BeginsWith old bytes (g.W.Sink.written c.flush.new.self) = (length bytes, written ∙ prefix) in
     elim c.flush.result as (λ r. OnErr r (BeginsWith old bytes (g.W.Sink.written c.flush.new.self))) [ Ok done ↦ tt | Err failed ↦ begun ]

@@ -1,15 +1,15 @@
 use Rattle.std.proofs.Common.{◌∙◌, ap, sym, subst}
 use Rattle.fmp_config.specs.Reading.{config_in}
 use Rattle.fmp_config.specs.Faults.{IsFirstFault}
-use Rattle.fmp_config.proofs.Fronts.{IsFirstFault-front}
-use Rattle.fmpsim_run.proofs.Fronts.{config_in-front, config_in-ok}
+use Rattle.fmp_config.proofs.Prefixes.{IsFirstFault-prefix}
+use Rattle.fmpsim_run.proofs.Prefixes.{config_in-prefix, config_in-ok}
 use Rattle.fmpsim_run.proofs.Grammars.{said}
 use Rattle.fmpsim_run.proofs.texts.config_from.Goals as goal
 
 pub returns-in-Ok-clause-ok : goal.returns-in-Ok-clause-ok
 returns-in-Ok-clause-ok g c = λ tells.
     let read = c.in_ok-text.ensures.ok tells in
-    said _ _ (config_in-front _ _ _ read.front read.whole ∙ ap config_in (sym c.as_slice.ensures.value) ∙ c.in-Ok.ensures.exact)
+    said _ _ (config_in-prefix _ _ _ read.prefix read.whole ∙ ap config_in (sym c.as_slice.ensures.value) ∙ c.in-Ok.ensures.exact)
 
 pub returns-in-Ok-clause-read : goal.returns-in-Ok-clause-read
 returns-in-Ok-clause-read g c = λ tells.
@@ -18,4 +18,4 @@ returns-in-Ok-clause-read g c = λ tells.
 pub returns-clause-fault : goal.returns-clause-fault
 returns-clause-fault g c = λ tells.
     let read = c.in_ok-text.ensures.ok tells in
-    IsFirstFault-front _ _ _ read.front read.whole c.in-Err.fault (subst (λ text. IsFirstFault text c.in-Err.fault) c.as_slice.ensures.value c.in-Err.ensures.exact)
+    IsFirstFault-prefix _ _ _ read.prefix read.whole c.in-Err.fault (subst (λ text. IsFirstFault text c.in-Err.fault) c.as_slice.ensures.value c.in-Err.ensures.exact)

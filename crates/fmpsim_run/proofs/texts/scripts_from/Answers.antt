@@ -4,14 +4,14 @@ use Rattle.fmp_scripts.specs.Scripts.{Steps}
 use Rattle.fmp_scripts.specs.Texts.{scripts_in}
 use Rattle.fmp_text.specs.declared.fault.TextFault.{TextFault}
 use Rattle.fmp_text.specs.Events.{IsMemory}
-use Rattle.fmpsim_run.proofs.Fronts.{scripts_in-front, scripts_in-ok}
+use Rattle.fmpsim_run.proofs.Prefixes.{scripts_in-prefix, scripts_in-ok}
 use Rattle.fmpsim_run.proofs.texts.scripts_from.Goals as goal
 
 pub returns-in-Ok-clause-ok : goal.returns-in-Ok-clause-ok
 returns-in-Ok-clause-ok g c = λ tells.
     let read = c.in_ok-text.ensures.ok tells in
     let names = c.args.names.now in
-    text_is_spelled names _ _ (scripts_in-front names _ _ _ read.front read.whole ∙ ap (scripts_in names) (sym c.as_slice.ensures.value) ∙ c.in-Ok.ensures.exact)
+    text_is_spelled names _ _ (scripts_in-prefix names _ _ _ read.prefix read.whole ∙ ap (scripts_in names) (sym c.as_slice.ensures.value) ∙ c.in-Ok.ensures.exact)
 
 pub returns-in-Ok-clause-read : goal.returns-in-Ok-clause-read
 returns-in-Ok-clause-read g c = λ tells.
@@ -21,5 +21,5 @@ pub returns-clause-fault : goal.returns-clause-fault
 returns-clause-fault g c = λ tells.
     let read = c.in_ok-text.ensures.ok tells in
     let names = c.args.names.now in
-    let same = scripts_in-front names _ _ _ read.front read.whole ∙ ap (scripts_in names) (sym c.as_slice.ensures.value) in
+    let same = scripts_in-prefix names _ _ _ read.prefix read.whole ∙ ap (scripts_in names) (sym c.as_slice.ensures.value) in
     subst (λ (r : Result (List Steps) TextFault). (r ≡ Err c.in-Err.fault) ⊎ IsMemory c.in-Err.fault) (sym same) c.in-Err.ensures.exact

@@ -5,7 +5,7 @@ abbrev pub invariant-loop-source : goal.invariant-loop-source
 invariant-loop-source g l = record {
   room : 0 < vec_len l.piece;
   failures : g.S.Source.failures l.source ≡ g.S.Source.failures l.fn.source;
-  front : IsTrue g.S.Source.tells → g.S.Source.left l.fn.source ≡ l.text.items ++ g.S.Source.left l.source;
+  prefix : IsTrue g.S.Source.tells → g.S.Source.left l.fn.source ≡ l.text.items ++ g.S.Source.left l.source;
 }
 
 abbrev pub decreases-loop-source : goal.decreases-loop-source

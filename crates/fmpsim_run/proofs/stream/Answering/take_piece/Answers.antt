@@ -1,9 +1,9 @@
 use Rattle.std.proofs.Common.{◌≡◌, ◌∙◌, true, rules, refl, inr}
-use Rattle.fmpsim_run.proofs.Streaming.{front_out, stream_close, stream_push}
+use Rattle.fmpsim_run.proofs.Streaming.{prefix_out, stream_close, stream_push}
 use Rattle.fmpsim_run.proofs.stream.Answering.take_piece.Goals as goal
 
 pub returns-in-Err-clause-leaves : goal.returns-in-Err-clause-leaves
-returns-in-Err-clause-leaves g c = λ tells d config whole old written before. front_out d true config whole old c.args.self.now written _ refl before
+returns-in-Err-clause-leaves g c = λ tells d config whole old written before. prefix_out d true config whole old c.args.self.now written _ refl before
 
 pub returns-in-Ok-eq0-clause-streams : goal.returns-in-Ok-eq0-clause-streams
 returns-in-Ok-eq0-clause-streams g c = λ tells d told config whole old written before.
@@ -20,4 +20,4 @@ returns-in-Ok-push-clause-streams g c = λ tells d told config whole old written
 pub returns-in-Err-push-clause-leaves : goal.returns-in-Err-push-clause-leaves
 returns-in-Err-push-clause-leaves g c = λ tells d config whole old written before.
     let memory = rw c.in-Err-push.is at (c.push.ensures.memory c.requires.fine) in
-    inr (rw memory (refl, refl), front_out d true config whole old c.args.self.now written _ refl before)
+    inr (rw memory (refl, refl), prefix_out d true config whole old c.args.self.now written _ refl before)

@@ -1,4 +1,4 @@
--- A text past its limit is judged the same from any front that is past it too.
+-- A text past its limit is judged the same from any prefix that is past it too.
 use Rattle.std.proofs.Common.{◌≡◌, ◌∙◌, ℕ, ◌<◌, ◌≤◌, Bool, true, false, List, [], ◌++◌, length, refl, ap, sym, arith, length-append}
 use Rattle.std.specs.Prelude.{nat_lt, Ok, Err}
 use Rattle.std.proofs.lemmas.Bool.{lt-ltb, ltb-true, ltb-false}
@@ -26,9 +26,9 @@ same limit f past gives all text rest split whole = go (nat_lt limit (length tex
         gives all longer ∙ sym (gives text long)
     go false is = ap f (split ∙ ap (λ xs. text ++ xs) (whole (ltb-false limit (length text) is)) ∙ append-nil text)
 
-pub config_in-front : (all text rest : List ℕ) → all ≡ text ++ rest → (length text ≤ MOST_CONFIG_BYTES → rest ≡ []) → config_in all ≡ config_in text
+pub config_in-prefix : (all text rest : List ℕ) → all ≡ text ++ rest → (length text ≤ MOST_CONFIG_BYTES → rest ≡ []) → config_in all ≡ config_in text
 unfolding config_in
-config_in-front all text rest split whole =
+config_in-prefix all text rest split whole =
     same MOST_CONFIG_BYTES config_in (Err (fault_of_line config_kind.TooMany 0)) (λ t long. rw (lt-ltb MOST_CONFIG_BYTES (length t) long) refl) all text rest split whole
 
 -- what is accepted is within the limit
@@ -42,10 +42,10 @@ config_in-ok text config is = go (nat_lt MOST_CONFIG_BYTES (length text)) refl
         cc
     go false short = ltb-false MOST_CONFIG_BYTES (length text) short
 
-pub scripts_in-front : (names : NameLists) (all text rest : List ℕ) → all ≡ text ++ rest → (length text ≤ MOST_TEXT_BYTES → rest ≡ []) →
+pub scripts_in-prefix : (names : NameLists) (all text rest : List ℕ) → all ≡ text ++ rest → (length text ≤ MOST_TEXT_BYTES → rest ≡ []) →
     scripts_in names all ≡ scripts_in names text
 unfolding scripts_in
-scripts_in-front names all text rest split whole =
+scripts_in-prefix names all text rest split whole =
     same MOST_TEXT_BYTES (scripts_in names) (fault_at text_kind.TooMany 0) (λ t long. rw (lt-ltb MOST_TEXT_BYTES (length t) long) refl) all text rest split whole
 
 pub scripts_in-ok : (names : NameLists) (text : List ℕ) (scripts : List Steps) → scripts_in names text ≡ Ok scripts → length text ≤ MOST_TEXT_BYTES

@@ -1,4 +1,4 @@
--- The first fault of a text that is too long is that of its front, so no more of it need be read.
+-- The first fault of a text that is too long is that of its prefix, so no more of it need be read.
 use Rattle.std.proofs.Common.{◌≡◌, ℕ, ◌<◌, ◌≤◌, Bool, true, false, nat_lt, List, [], ◌++◌, length, Err, refl, sym, ap, subst, ◌∙◌, inl, inr, arith, append-nil, length-append}
 use Rattle.std.proofs.lemmas.Bool.{lt-ltb, ltb-true, ltb-false}
 use Rattle.fmp_statements.specs.declared.fault.ConfigKind.TheVariants.{TooMany}
@@ -13,8 +13,8 @@ unfolding config_in
 refused text long = let test = lt-ltb most_bytes (length text) long in rw test refl
 
 module _ (all text rest : List ℕ) (split : all ≡ text ++ rest) (whole : length text ≤ most_bytes → rest ≡ []) (told : ConfigFault) where
-  long_front : most_bytes < length text → FaultIs told (config_in text) → FaultIs told (config_in all)
-  long_front long (fault, gives, is) =
+  long_prefix : most_bytes < length text → FaultIs told (config_in text) → FaultIs told (config_in all)
+  long_prefix long (fault, gives, is) =
       let same : fault ≡ fault_of_line TooMany 0 = let e = refused text long in cc in
       let longer : most_bytes < length all = rw split (omega (arith, long, length-append text rest)) in
       (fault_of_line TooMany 0, refused all longer, subst (λ (f : Fault). IsTold told f) same is)
@@ -23,10 +23,10 @@ module _ (all text rest : List ℕ) (split : all ≡ text ++ rest) (whole : leng
   same_text short = sym (split ∙ ap (λ (r : List ℕ). text ++ r) (whole short) ∙ append-nil text)
 
   by_length : (b : Bool) → nat_lt most_bytes (length text) ≡ b → FaultIs told (config_in text) → FaultIs told (config_in all)
-  by_length true test is = long_front (ltb-true most_bytes (length text) test) is
+  by_length true test is = long_prefix (ltb-true most_bytes (length text) test) is
   by_length false test is = subst (λ (t : List ℕ). FaultIs told (config_in t)) (same_text (ltb-false most_bytes (length text) test)) is
 
   -- the first fault of what was read of a text is that of the text, where all of it was read or too much
-  pub IsFirstFault-front : IsFirstFault text told → IsFirstFault all told
-  IsFirstFault-front (inl is) = inl (by_length (nat_lt most_bytes (length text)) refl is)
-  IsFirstFault-front (inr memory) = inr memory
+  pub IsFirstFault-prefix : IsFirstFault text told → IsFirstFault all told
+  IsFirstFault-prefix (inl is) = inl (by_length (nat_lt most_bytes (length text)) refl is)
+  IsFirstFault-prefix (inr memory) = inr memory

@@ -3,7 +3,7 @@ use Rattle.std.proofs.lemmas.Result.{err_from_is_err_and}
 use Rattle.fmp_names.specs.Names.{AreValid}
 use Rattle.fmpsim_run.proofs.Yes.{answered_prints, played_prints}
 use Rattle.fmpsim_run.proofs.Grammars.{only_memory}
-use Rattle.fmpsim_run.proofs.check.checked.Goals as goal
+use Rattle.fmpsim_run.proofs.check.judged_texts.Goals as goal
 
 pub returns-in_err-configuration-clause-answers : goal.returns-in_err-configuration-clause-answers
 returns-in_err-configuration-clause-answers g c = λ tells tells_too event_text answered short.
@@ -13,7 +13,7 @@ returns-in_err-configuration-clause-answers g c = λ tells tells_too event_text 
 pub returns-clause-answers : goal.returns-clause-answers
 returns-clause-answers g c = λ tells tells_too event_text answered short.
     let names_valid = subst AreValid c.names.ensures.value c.validity.ensures in
-    c.verdict_from.ensures.answers tells_too answered.events
+    c.judged_by.ensures.answers tells_too answered.events
     (answered_prints _ event_text _ c.in_ok-configuration.configuration (c.in_ok-configuration.ensures.ok tells) c.names.ensures.valid names_valid answered short)
 
 pub returns-in_err-configuration-clause-plays : goal.returns-in_err-configuration-clause-plays
@@ -23,5 +23,5 @@ returns-in_err-configuration-clause-plays g c = λ tells tells_too script_text t
 
 pub returns-clause-plays : goal.returns-clause-plays
 returns-clause-plays g c = λ tells tells_too script_text ticks turns ended played short.
-    c.verdict_from.ensures.answers tells_too _
+    c.judged_by.ensures.answers tells_too _
     (played_prints _ script_text _ ticks turns ended c.in_ok-configuration.configuration (c.in_ok-configuration.ensures.ok tells) played short)
