@@ -1,5 +1,5 @@
 -- The order in which a clock gives its ticks: round by round one taken tick to each processor whose ticks count.
-use Rattle.std.specs.Prelude.{◌≡◌, ℕ, ◌+◌, ◌*◌, ◌%◌, Bool, false, ◌&&◌, List, nat_le, if◌then◌else◌}
+use Rattle.std.specs.Prelude.{◌≡◌, ℕ, ◌+◌, ◌*◌, ◌%◌, ◌<◌, ◌≤◌, ◌⊎◌, Bool, true, false, ◌&&◌, List, nat_le, if◌then◌else◌}
 use Rattle.std.specs.List.{count_by}
 use Rattle.fmp_codes.specs.Numbers.{as_proc}
 use Rattle.fmp_codes.specs.declared.numbers.Proc.{Proc}
@@ -9,7 +9,7 @@ use Rattle.fmp_machine.specs.declared.setup.Timer.{Timer}
 use Rattle.fmp_machine.specs.declared.setup.Timer.TheVariants.{Local, Global}
 use Rattle.fmp_machine.specs.Setup.{Setup}
 use Rattle.fmp_world.specs.declared.seats.Turn.{Turn}
-use Rattle.fmp_world.specs.declared.seats.Turn.TheVariants.{Made}
+use Rattle.fmp_world.specs.declared.seats.Turn.TheVariants.{Made, Nothing, Full}
 use Rattle.fmp_world.specs.Ends.{is_of_clock}
 use Rattle.fmp_world.specs.Positions.{is_taken}
 use Rattle.fmp_world.specs.Turns.{Ticks, Turns}
@@ -51,24 +51,36 @@ next_of r = as_proc (r.first + r.given % r.count)
 abbrev pub after_tick : Rounds → Answer → Rounds
 after_tick r a = if is_taken a then record r { given = r.given + 1 } else r
 
--- the clock gave its next tick, or nothing changed
+-- `Nothing` where no tick is left. Else a tick of the next processor, and `Full` too where the world has no such processor
 abbrev pub Gives : Rounds → History → ClockSeat → Turn → Rounds → History → ClockSeat → Type 0
-Gives r w s (Made told) r' w' s' = (is_over r ≡ false) × Ticks w s (next_of r) (Made told) w' s' × (r' ≡ after_tick r told.answer)
-Gives r w s other r' w' s' = (r' ≡ r) × (w' ≡ w) × (s' ≡ s)
+Gives r w s Nothing r' w' s' = (is_over r ≡ true) × (r' ≡ r) × (w' ≡ w) × (s' ≡ s)
+Gives r w s Full r' w' s' =
+    (is_over r ≡ false)
+    × ((w.config.processors < (next_of r).number) ⊎ Ticks w s (next_of r) Full w' s')
+    × (r' ≡ r) × (w' ≡ w) × (s' ≡ s)
+Gives r w s (Made told) r' w' s' =
+    (is_over r ≡ false)
+    × ((next_of r).number ≤ w.config.processors)
+    × Ticks w s (next_of r) (Made told) w' s'
+    × (r' ≡ after_tick r told.answer)
 
 -- the turn made a tick that was taken
 abbrev pub is_taken_turn : Turn → Bool
 is_taken_turn (Made told) = is_taken told.answer
 is_taken_turn other = false
 
--- the processor took its turn, or nothing changed
+-- a turn of a seat, and `Full` too where the world has no such processor
 abbrev pub Takes : History → Seat → Turn → History → Seat → Type 0
-Takes w s (Made told) w' s' = Turns w s (Made told) w' s'
-Takes w s other w' s' = (w' ≡ w) × (s' ≡ s)
+Takes w s Full w' s' = ((w.config.processors < s.processor.number) ⊎ Turns w s Full w' s') × (w' ≡ w) × (s' ≡ s)
+Takes w s other w' s' = (s.processor.number ≤ w.config.processors) × Turns w s other w' s'
 
--- how many ticks of a history were taken
 abbrev pub is_taken_tick : Record → Bool
 is_taken_tick r = is_of_clock r.event && is_taken r.answer
 
+-- what a clock has to give after one more record
+abbrev pub after_record : Rounds → Record → Rounds
+after_record r made = if is_taken_tick made then record r { given = r.given + 1 } else r
+
+-- how many ticks of a history were taken
 unfoldable pub ticks_taken : List Record → ℕ
 ticks_taken h = count_by is_taken_tick h

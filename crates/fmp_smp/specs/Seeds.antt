@@ -1,7 +1,6 @@
 -- The order that a seed gives.
-use Rattle.std.specs.Prelude.{◌≡◌, ℕ, zero, suc, ◌%◌, Bool, true, false, List, [], ◌∷◌, ◌++◌, length, take, Option, Some, None, is_some, slice_get, if◌then◌else◌}
+use Rattle.std.specs.Prelude.{◌≡◌, ℕ, zero, suc, ◌%◌, ◌<◌, ◌≤◌, ◌⊎◌, Bool, true, false, List, [], ◌∷◌, ◌++◌, length, take, Option, Some, None, IsSome, is_some, slice_get, slice_index_or, if◌then◌else◌}
 use Rattle.fmp_codes.specs.Numbers.{as_proc}
-use Rattle.fmp_codes.specs.declared.numbers.Proc.{Proc}
 use Rattle.fmp_codes.specs.declared.records.Event.{Event}
 use Rattle.fmp_codes.specs.declared.records.Event.TheVariants.{Tick}
 use Rattle.fmp_codes.specs.declared.records.Record.{Record}
@@ -9,12 +8,13 @@ use Rattle.fmp_machine.specs.Setup.{Setup}
 use Rattle.fmp_scripts.specs.Scripts.{Steps}
 use Rattle.fmp_smp.specs.declared.seeded.Mover.{Mover}
 use Rattle.fmp_smp.specs.declared.seeded.Mover.TheVariants.{Cpu, Clock}
-use Rattle.fmp_smp.specs.Rounds.{Rounds, rounds_of, is_over, next_of, ticks_taken}
+use Rattle.fmp_smp.specs.Rounds.{Rounds, rounds_of, is_over, next_of, after_record, ticks_taken}
 use Rattle.fmp_world.specs.declared.seats.Turn.{Turn}
 use Rattle.fmp_world.specs.declared.seats.Turn.TheVariants.{Made}
+use Rattle.fmp_world.specs.Ends.{AreSeats}
 use Rattle.fmp_world.specs.Scripted.{choice}
-use Rattle.fmp_world.specs.Turns.{AddsRecord}
-use Rattle.fmp_world.specs.Views.{History}
+use Rattle.fmp_world.specs.Turns.{is_full, told_after}
+use Rattle.fmp_world.specs.Views.{History, Seat, ClockSeat}
 use Rattle.rand_xoshiro.specs.SplitMix64.{mix_u64, next_state}
 
 -- the state of SplitMix64 from a seed after n numbers, and the number behind them
@@ -60,26 +60,37 @@ abbrev pub IsInOrderOf : ℕ → Setup → List Steps → ℕ → List Record �
 IsInOrderOf seed c scripts rounds h =
     (k : ℕ) (r : Record) → slice_get h k ≡ Some r → event_drawn c scripts rounds (take k h) (number_at seed k) ≡ Some r.event
 
+-- a mover that has something to do, on a processor of the world
+abbrev pub CanMove : History → Rounds → Mover → Type 0
+CanMove w r (Cpu p) = IsSome (choice w.config w.scripts w.records p) × (p.number ≤ w.config.processors)
+CanMove w r Clock = (is_over r ≡ false) × ((next_of r).number ≤ w.config.processors)
+
+-- the seats are those of the processors in order, with the receipts of the records, and have room for all turns
+pub record AreSeated (w : History) (cpus : List Seat) (clock : ClockSeat) : Type 0 where
+  pub seats : AreSeats w.config.processors cpus clock w.records
+  pub rooms : (k : ℕ) (d : Seat) → k < length cpus → (slice_index_or cpus k d).room ≡ w.turns
+  pub clock_room : clock.room ≡ w.turns
+
+-- a turn that made a record
+abbrev pub is_recorded : Turn → Bool
+is_recorded (Made told) = true
+is_recorded other = false
+
 -- the history has one more record, that of what this mover does, and the clock goes on by it
 pub record Moves (w : History) (r : Rounds) (m : Mover) (w' : History) (r' : Rounds) : Type 0 where
-  pub made : Record
-  pub event : event_of w.config w.scripts w.records r (Some m) ≡ Some made.event
-  pub history : w' ≡ record w { records = w.records ++ made ∷ [] }
-  pub rounds : r.given ≡ ticks_taken w.records → r' ≡ record r { given = ticks_taken w'.records }
+  pub event : Event
+  pub does : event_of w.config w.scripts w.records r (Some m) ≡ Some event
+  pub room : length w.records < w.turns
+  pub history : w' ≡ record w { records = w.records ++ told_after w event ∷ [] }
+  pub rounds : r' ≡ after_record r (told_after w event)
 
--- this processor did what it has to do, or nothing changed
-abbrev pub TakesOf : Proc → History → Turn → History → Type 0
-TakesOf p w (Made told) w' =
-    (choice w.config w.scripts w.records p ≡ Some told.event) × AddsRecord w told.event told w'
-TakesOf p w other w' = w' ≡ w
+-- the mover made its record, or the history is full and nothing changed
+abbrev pub Goes : History → Rounds → Mover → Bool → History → Rounds → Type 0
+Goes w r m true w' r' = Moves w r m w' r'
+Goes w r m false w' r' = (is_full w ≡ true) × (w' ≡ w) × (r' ≡ r)
 
--- the mover made its record, or nothing changed
-abbrev pub Goes : History → Rounds → Mover → Turn → History → Rounds → Type 0
-Goes w r m (Made told) w' r' = Moves w r m w' r'
-Goes w r m other w' r' = (w' ≡ w) × (r' ≡ r)
-
--- the one whom the generator's number draws made its record, or nothing changed
+-- the one whom the generator's number draws made its record, or nobody can make one, or the history is full, and nothing changed
 abbrev pub GoesOn : History → Rounds → ℕ → Bool → History → Rounds → ℕ → Type 0
 GoesOn w r x true w' r' x' =
     (m : Mover) × (drawn (movers w.config w.scripts w.records r) (mix_u64 x).0 ≡ Some m) × Moves w r m w' r' × (x' ≡ next_state x)
-GoesOn w r x false w' r' x' = w' ≡ w
+GoesOn w r x false w' r' x' = ((movers w.config w.scripts w.records r ≡ []) ⊎ (is_full w ≡ true)) × (w' ≡ w) × (r' ≡ r) × (x' ≡ next_state x)

@@ -1,11 +1,11 @@
-//! Why there is no run.
+//! Why there is no run with threads.
 ghost use Rattle.std.specs.Prelude.{◌≡◌};
 ghost use Rattle.fmp_smp.specs.declared.fault.SmpFault.TheVariants.{Memory};
 
 use std::alloc::AllocError;
 use thiserror::Error;
 
-/// Why there is no run.
+/// Why there is no run with threads.
 #[derive(Clone, Copy, PartialEq, Eq, Debug, Drop, Error)]
 pub enum SmpFault {
     #[error("want of memory")]

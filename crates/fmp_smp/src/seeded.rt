@@ -1,11 +1,11 @@
 //! All processors and the clock on one thread, in an order that a seed gives.
-ghost use Rattle.std.specs.Prelude.{◌≡◌, ◌≢◌, ◌≤◌, map, length, IfOk, IfErr};
+ghost use Rattle.std.specs.Prelude.{◌≡◌, ◌≤◌, map, length, IfOk};
+ghost use Rattle.fmp_smp.specs.Rounds.{next_of};
 ghost use Rattle.fmp_smp.specs.Seeds as spec;
-ghost use Rattle.fmp_smp.specs.Seeds.{IsInOrderOf};
+ghost use Rattle.fmp_smp.specs.Seeds.{AreSeated, IsInOrderOf};
 ghost use Rattle.fmp_world.specs.Ends.{IsSmpRun};
 
-use crate::fault::SmpFault;
-use crate::rounds::{Rounds, take_turn};
+use crate::rounds::Rounds;
 use arrayvec::ArrayVec;
 use fmp_codes::Proc;
 use fmp_machine::Config;
@@ -14,7 +14,7 @@ use fmp_world::{Cpu, Seats, SmpRun, Turn, World};
 use rand_core::SeedableRng;
 use rand_core::utils::NextWord;
 use rand_xoshiro::SplitMix64;
-use std::alloc::Global;
+use std::alloc::{AllocError, Global};
 
 /// Plays all processors and the clock on one thread, in an order that the seed gives: the same seed gives the same run.
 ///
@@ -28,7 +28,7 @@ use std::alloc::Global;
 /// The run ends when the list is empty, which says that all ticks are taken and no processor has anything to do, or when the history
 /// has `turns` records. All memory is taken before the first turn.
 ///
-/// Errors: `Memory` where there is none for that, `Disagree` where this made no run.
+/// The error is want of that memory, and there is no other.
 pub fn run_seeded(
     alloc: Global,
     config: &Config,
@@ -36,25 +36,19 @@ pub fn run_seeded(
     ticks: u32,
     turns: u32,
     seed: u64,
-) -> Result<SmpRun, SmpFault>
+) -> Result<SmpRun, AllocError>
     requires ticks { ticks ≤ 1000000 }
     requires least { 1 ≤ turns }
     requires most { turns ≤ 1000000 }
     ensures run { IfOk result (λ r. IsSmpRun config.now scripts ticks turns r.records.items (map (λ v. v.items) r.receipts.items) r.ended) }
     ensures order { IfOk result (λ r. IsInOrderOf seed config.now scripts ticks r.records.items) }
-    ensures no_start { IfErr result (λ f. f ≢ SmpFault.Start) }
 {
     let (mut world, mut seats) = World::boot(alloc, config, &scripts, turns)?;
     let mut rounds = Rounds::new(config, ticks);
     let mut numbers = SplitMix64::seed_from_u64(seed);
-    for _ in 0..turns {
-        if !go_on(alloc, &mut world, &mut seats, &mut rounds, &mut numbers) {
-            break;
-        }
-    }
-    world
-        .finish(seats, config, &scripts, ticks, turns)
-        .ok_or(SmpFault::Disagree)
+    while go_on(alloc, &mut world, &mut seats, &mut rounds, &mut numbers) {}
+    let run = world.finish(seats, config, &scripts, ticks, turns);
+    Ok(run.unwrap())
 }
 
 /// Who makes the next record.
@@ -105,26 +99,25 @@ fn movers(alloc: Global, world: &World<'_>, rounds: &Rounds) -> ArrayVec<Mover, 
     movers
 }
 
-// The turn of a seat, if it is that of this processor.
-fn take_turn_of(p: Proc, world: &mut World<'_>, cpu: &mut Cpu) -> Turn
-    ensures { spec.TakesOf p world.old result world.new }
+// Whether a turn made a record.
+fn is_recorded(turn: Turn) -> bool
+    ensures { result ≡ spec.is_recorded turn }
 {
-    if cpu.processor().number == p.number {
-        take_turn(world, cpu)
-    } else {
-        Turn::Full
-    }
+    matches!(turn, Turn::Made(_))
 }
 
-// What a mover does.
-fn go(mover: Mover, world: &mut World<'_>, seats: &mut Seats, rounds: &mut Rounds) -> Turn
-    ensures { spec.Goes world.old rounds.old mover result world.new rounds.new }
+// What a mover does that has something to do. Says whether it made a record; if not, the history is full.
+fn go(mover: Mover, world: &mut World<'_>, seats: &mut Seats, rounds: &mut Rounds) -> bool
+    requires seated { AreSeated world.old seats.old.cpus.items seats.old.clock }
+    requires can { spec.CanMove world.old rounds.old mover }
+    ensures goes { spec.Goes world.old rounds.old mover result world.new rounds.new }
+    ensures seated { AreSeated world.new seats.new.cpus.items seats.new.clock }
 {
     match mover {
-        Mover::Clock => rounds.give(world, &mut seats.clock),
+        Mover::Clock => is_recorded(rounds.give(world, &mut seats.clock)),
         Mover::Cpu(p) => match seats.cpus.get_mut(p.index()) {
-            Some(cpu) => take_turn_of(p, world, cpu),
-            None => Turn::Full,
+            Some(cpu) => is_recorded(world.turn(cpu)),
+            None => false,
         },
     }
 }
@@ -137,11 +130,14 @@ fn go_on(
     rounds: &mut Rounds,
     numbers: &mut SplitMix64,
 ) -> bool
-    ensures { spec.GoesOn world.old rounds.old numbers.old result world.new rounds.new numbers.new }
+    requires seated { AreSeated world.old seats.old.cpus.items seats.old.clock }
+    requires next { (next_of rounds.old).number ≤ world.old.config.processors }
+    ensures goes { spec.GoesOn world.old rounds.old numbers.old result world.new rounds.new numbers.new }
+    ensures seated { AreSeated world.new seats.new.cpus.items seats.new.clock }
 {
     let movers = movers(alloc, world, rounds);
     let Some(mover) = drawn(movers.as_slice(), numbers.next_word()) else {
         return false;
     };
-    matches!(go(mover, world, seats, rounds), Turn::Made(_))
+    go(mover, world, seats, rounds)
 }

@@ -1,5 +1,5 @@
 //! The run that draws a trace.
-ghost use Rattle.std.specs.Prelude.{◌≡◌, ℕ, ◌+◌, ◌-◌, ◌^◌, ◌<◌, ◌≤◌, List, ◌++◌, [], length, map, IsTrue, OnOk, OnErr, IfOk, IfErr, Ok, Err, if◌then◌else◌};
+ghost use Rattle.std.specs.Prelude.{◌≡◌, ℕ, ◌+◌, ◌-◌, ◌^◌, ◌<◌, ◌≤◌, List, ◌++◌, [], length, map, IsTrue, OnOk, OnErr, IfOk, IfErr, Ok, Err, false, if◌then◌else◌};
 ghost use Rattle.fmp_codes.specs.declared.records.Record.{Record as AnyRecord};
 ghost use Rattle.fmp_text.specs.Limits.{most_bytes as MOST_BYTES};
 ghost use Rattle.fmp_check.specs.Checking.{Judges};
@@ -7,7 +7,7 @@ ghost use Rattle.fmp_trace.specs.Prints.{PrintsWithin};
 ghost use Rattle.fmp_world.specs.declared.finishing.Ended.{Ended};
 ghost use Rattle.fmpsim_run.specs.Checks.{FirstTraceFault, IsYes};
 ghost use Rattle.fmpsim_run.specs.Devices.{BeginsWith};
-ghost use Rattle.fmpsim_run.specs.Faults.{failed_write};
+ghost use Rattle.fmpsim_run.specs.Faults.{failed_write, is_thread_fault};
 ghost use Rattle.fmpsim_run.specs.Runs.{Answered, CountsReads, FirstConfigFault};
 ghost use Rattle.fmpsim_run.specs.Scripted.{Played};
 ghost use Rattle.fmp_wave.specs.Runs.{Drawn, IsDrawnBy, IsLate, LeavesBy, LeavesDrawn};
@@ -29,6 +29,7 @@ fn draw<W: Sink>(alloc: Global, config: &Config, text: &[u8], wave: &mut W) -> R
     ensures begun { IsTrue W.tells → (records : List AnyRecord) → PrintsWithin config.now.names text.now records
         → OnErr result (BeginsWith (W.written wave.old) (wave_of config.now (map (λ r. r.event) records)) (W.written wave.new)) }
     ensures kinds { (records : List AnyRecord) → PrintsWithin config.now.names text.now records → IfErr result IsLate }
+    ensures no_thread_fault { IfErr result (λ fault. is_thread_fault fault ≡ false) }
     ensures writes { W.failures wave.new ≡ W.failures wave.old + (if failed_write result then 1 else 0) }
 {
     let names = config.names();
@@ -58,6 +59,7 @@ fn draw_judged<W: Sink>(alloc: Global, judged: &Judged, wave: &mut W) -> Result<
     ensures passed { OnOk result (judged.now.verdict ≡ Verdict.Yes → W.buffered wave.new ≡ []) }
     ensures leaves { IsTrue W.tells → IfErr result (LeavesBy judged.now.config judged.now.text.items (W.written wave.old) (W.written wave.new)) }
     ensures kinds { IfErr result IsLate }
+    ensures no_thread_fault { IfErr result (λ fault. is_thread_fault fault ≡ false) }
     ensures writes { W.failures wave.new ≡ W.failures wave.old + (if failed_write result then 1 else 0) }
 {
     match judged.verdict {
@@ -107,6 +109,9 @@ pub fn run_wave<R: Source, S: Source, W: Sink>(
     // after any other fault nothing is.
     ensures leaves { IsTrue R.tells → IsTrue S.tells → IsTrue W.tells
         → IfErr result (LeavesDrawn (R.left config.old) (S.left trace.old) (W.written wave.old) (W.written wave.new)) }
+
+    // No thread was started.
+    ensures no_thread_fault { IfErr result (λ fault. is_thread_fault fault ≡ false) }
 
     // Which calls of the devices failed.
     ensures reads { CountsReads result (R.failures config.old) (R.failures config.new) (S.failures trace.old) (S.failures trace.new) }

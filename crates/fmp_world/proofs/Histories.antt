@@ -70,10 +70,13 @@ count_replay m (e ∷ es) safe on =
     let P : Event → Type 0 = λ x. (processor_of x).number ≤ length m.processors in
     count_replay (step numbered m e).0 es one.safe (rw one.count (All-tail P e es on)) ∙ one.count
 
--- what stands for the state after a run has the processors of its configuration
-pub stands_count : (c : Setup) (h : List Record) (k : World Queues) → IsValid c → IsRunOf c h → Stands k (state_after c h) → length k.processors ≡ c.processors
+-- after a run there are the processors of its configuration
+pub count_after : (c : Setup) (h : List Record) → IsValid c → IsRunOf c h → length (state_after c h).processors ≡ c.processors
 unfolding state_after
-stands_count c h k valid run stands =
-    ap (λ (w : World Queues). length w.processors) stands.same
-    ∙ count_replay (booted c) (events_of h) (booted_safe c valid) (rw (count_booted c) run.on)
+count_after c h valid run =
+    count_replay (booted c) (events_of h) (booted_safe c valid) (rw (count_booted c) run.on)
     ∙ count_booted c
+
+-- what stands for that state has as many
+pub stands_count : (c : Setup) (h : List Record) (k : World Queues) → IsValid c → IsRunOf c h → Stands k (state_after c h) → length k.processors ≡ c.processors
+stands_count c h k valid run stands = ap (λ (w : World Queues). length w.processors) stands.same ∙ count_after c h valid run

@@ -36,9 +36,11 @@ abbrev pub is_text : RunFault → Bool
 is_text (run.Text fault) = true
 is_text other = false
 
-abbrev pub is_start : RunFault → Bool
-is_start run.Start = true
-is_start other = false
+-- a fault that only threads have
+abbrev pub is_thread_fault : RunFault → Bool
+is_thread_fault run.Start = true
+is_thread_fault run.Disagree = true
+is_thread_fault other = false
 
 -- the run ended with a failed read, or with a failed write
 abbrev pub failed_read : {T : Type 0} → Result T RunFault → Bool

@@ -4,7 +4,7 @@ ghost use Rattle.fmp_machine.specs.Valid.{IsValid};
 ghost use Rattle.fmp_text.specs.Events.{Reading, reading_by_line};
 ghost use Rattle.fmp_text.specs.Limits.{most_bytes, most_events};
 ghost use Rattle.fmpsim_run.specs.Details.{AreStatesTold, LeavesStates};
-ghost use Rattle.fmpsim_run.specs.Faults.{failed_read, failed_write, is_config};
+ghost use Rattle.fmpsim_run.specs.Faults.{failed_read, failed_write, is_config, is_thread_fault};
 ghost use Rattle.fmpsim_run.specs.Runs.{CountsReads, FirstConfigFault, FirstEventFault, FirstTextFault, IsAnswered, LeavesOut};
 ghost use Rattle.fmpsim_run.specs.Streams.{IsAllOut, Leaves, Streams};
 
@@ -45,6 +45,7 @@ fn answer_all<S: Source, W: Sink>(
         → IfErr result (Leaves d config.now whole old (W.written trace.new)) }
     ensures events_read { IsTrue S.tells → OnOk result (S.left events.new ≡ []) }
     ensures kinds { IfErr result (λ fault. is_config fault ≡ false) }
+    ensures no_thread_fault { IfErr result (λ fault. is_thread_fault fault ≡ false) }
     ensures reads { S.failures events.new ≡ S.failures events.old + (if failed_read result then 1 else 0) }
     ensures writes { W.failures trace.new ≡ W.failures trace.old + (if failed_write result then 1 else 0) }
 {
@@ -74,6 +75,7 @@ fn answer_text<S: Source, W: Sink>(
         → IfErr result (Leaves detail config.now (reading_by_line config.now.names (S.left events.old)) (W.written trace.old) (W.written trace.new)) }
     ensures events_read { IsTrue S.tells → OnOk result (S.left events.new ≡ []) }
     ensures kinds { IfErr result (λ fault. is_config fault ≡ false) }
+    ensures no_thread_fault { IfErr result (λ fault. is_thread_fault fault ≡ false) }
     ensures reads { S.failures events.new ≡ S.failures events.old + (if failed_read result then 1 else 0) }
     ensures writes { W.failures trace.new ≡ W.failures trace.old + (if failed_write result then 1 else 0) }
 {
@@ -113,6 +115,9 @@ pub fn run_calls<R: Source, S: Source, W: Sink>(
     ensures unwritten { IsTrue W.tells → IfErr result (λ fault. is_config fault ≡ true → W.written trace.new ≡ W.written trace.old) }
     ensures leaves { IsTrue R.tells → IsTrue S.tells → IsTrue W.tells → IfErr result (LeavesOut (R.left config.old) (S.left events.old) (W.written trace.old) (W.written trace.new)) }
 
+    // No thread was started.
+    ensures no_thread_fault { IfErr result (λ fault. is_thread_fault fault ≡ false) }
+
     // Which calls of the devices failed.
     ensures reads { CountsReads result (R.failures config.old) (R.failures config.new) (S.failures events.old) (S.failures events.new) }
     ensures writes { W.failures trace.new ≡ W.failures trace.old + (if failed_write result then 1 else 0) }
@@ -151,6 +156,9 @@ pub fn run_states<R: Source, S: Source, W: Sink>(
     // of all.
     ensures unwritten { IsTrue W.tells → IfErr result (λ fault. is_config fault ≡ true → W.written trace.new ≡ W.written trace.old) }
     ensures leaves { IsTrue R.tells → IsTrue S.tells → IsTrue W.tells → IfErr result (LeavesStates (R.left config.old) (S.left events.old) (W.written trace.old) (W.written trace.new)) }
+
+    // No thread was started.
+    ensures no_thread_fault { IfErr result (λ fault. is_thread_fault fault ≡ false) }
 
     // Which calls of the devices failed.
     ensures reads { CountsReads result (R.failures config.old) (R.failures config.new) (S.failures events.old) (S.failures events.new) }

@@ -3,7 +3,7 @@ ghost use Rattle.std.specs.Prelude.{◌≡◌, ◌≢◌, ℕ, ◌+◌, ◌-◌,
 ghost use Rattle.fmp_codes.specs.declared.records.Event.{Event as AnyEvent};
 ghost use Rattle.fmp_text.specs.Limits.{most_bytes as MOST_BYTES};
 ghost use Rattle.fmp_check.specs.Checking.{Judges, PrintsAnswers};
-ghost use Rattle.fmpsim_run.specs.Faults.{failed_read, failed_write, is_config, is_write};
+ghost use Rattle.fmpsim_run.specs.Faults.{failed_read, failed_write, is_config, is_write, is_thread_fault};
 ghost use Rattle.fmpsim_run.specs.Runs.{Answered, CountsReads, FirstConfigFault, SaysConfig};
 ghost use Rattle.fmp_world.specs.declared.finishing.Ended.{Ended};
 ghost use Rattle.fmpsim_run.specs.Scripted.{Played};
@@ -41,6 +41,7 @@ fn judged_by<S: Source>(alloc: Global, config: Config, trace: &mut S) -> Result<
     ensures read { IsTrue S.tells → OnOk result (S.left trace.new ≡ []) }
     ensures fault { IsTrue S.tells → IfErr result (IsFirstOfTrace config.names (S.left trace.old)) }
     ensures kinds { IfErr result (λ fault. (is_config fault ≡ false) × (is_write fault ≡ false)) }
+    ensures no_thread_fault { IfErr result (λ fault. is_thread_fault fault ≡ false) }
     ensures count { S.failures trace.new ≡ S.failures trace.old + (if failed_read result then 1 else 0) }
 {
     let text = read_up_to(alloc, trace, fmp_text::MOST_BYTES)?;
@@ -80,6 +81,7 @@ pub fn judged_texts<R: Source, S: Source>(
     ensures text_fault { IsTrue R.tells → IsTrue S.tells → IfErr result (FirstTraceFault (R.left config.old) (S.left trace.old)) }
     ensures reads { CountsReads result (R.failures config.old) (R.failures config.new) (S.failures trace.old) (S.failures trace.new) }
     ensures no_write { failed_write result ≡ false }
+    ensures no_thread_fault { IfErr result (λ fault. is_thread_fault fault ≡ false) }
 {
     let configuration = config_from(alloc, config)?;
     configuration.names().validity();
@@ -137,6 +139,9 @@ pub fn run_check<R: Source, S: Source, W: Sink>(
     ensures write { IsTrue R.tells → IsTrue S.tells → IsTrue W.tells → (result ≡ Err RunFault.Write)
         → IsCheckBegun (R.left config.old) (S.left trace.old) (W.written answer.old) (W.written answer.new) }
     ensures unwritten { IsTrue W.tells → IfErr result (λ fault. fault ≢ RunFault.Write → W.written answer.new ≡ W.written answer.old) }
+
+    // No thread was started.
+    ensures no_thread_fault { IfErr result (λ fault. is_thread_fault fault ≡ false) }
 
     // Which calls of the devices failed.
     ensures reads { CountsReads result (R.failures config.old) (R.failures config.new) (S.failures trace.old) (S.failures trace.new) }

@@ -7,7 +7,7 @@ ghost use Rattle.fmp_check.specs.Differences.{Contrasts};
 ghost use Rattle.fmp_world.specs.declared.finishing.Ended.{Ended};
 ghost use Rattle.fmpsim_run.specs.Checks.{IsFirstOfTrace, IsYes, FirstTraceFault};
 ghost use Rattle.fmpsim_run.specs.Devices.{BeginsWith};
-ghost use Rattle.fmpsim_run.specs.Faults.{failed_read, failed_write, is_config, is_write};
+ghost use Rattle.fmpsim_run.specs.Faults.{failed_read, failed_write, is_config, is_write, is_thread_fault};
 ghost use Rattle.fmpsim_run.specs.Reports.{Compared, IsReported, IsReportBegun, head_text, verdict_in};
 ghost use Rattle.fmpsim_run.specs.Runs.{Answered, CountsReads, FirstConfigFault};
 ghost use Rattle.fmpsim_run.specs.Scripted.{Played};
@@ -39,6 +39,7 @@ fn comparison_from<S: Source>(
     ensures read { IsTrue S.tells → OnOk result (S.left source.new ≡ []) }
     ensures fault { IsTrue S.tells → IfErr result (IsFirstOfTrace config.now.names (S.left source.old)) }
     ensures kinds { IfErr result (λ fault. (is_config fault ≡ false) × (is_write fault ≡ false)) }
+    ensures no_thread_fault { IfErr result (λ fault. is_thread_fault fault ≡ false) }
     ensures count { S.failures source.new ≡ S.failures source.old + (if failed_read result then 1 else 0) }
 {
     let text = read_up_to(alloc, source, fmp_text::MOST_BYTES)?;
@@ -70,6 +71,7 @@ fn compared<R: Source, S: Source>(
     ensures text_fault { IsTrue R.tells → IsTrue S.tells → IfErr result (FirstTraceFault (R.left config.old) (S.left trace.old)) }
     ensures reads { CountsReads result (R.failures config.old) (R.failures config.new) (S.failures trace.old) (S.failures trace.new) }
     ensures no_write { failed_write result ≡ false }
+    ensures no_thread_fault { IfErr result (λ fault. is_thread_fault fault ≡ false) }
 {
     let configuration = config_from(alloc, config)?;
     configuration.names().validity();
@@ -150,6 +152,9 @@ pub fn run_report<R: Source, S: Source, W: Sink>(
     ensures write { IsTrue R.tells → IsTrue S.tells → IsTrue W.tells → (result ≡ Err RunFault.Write)
         → IsReportBegun shown (R.left config.old) (S.left trace.old) (W.written report.old) (W.written report.new) }
     ensures unwritten { IsTrue W.tells → IfErr result (λ fault. fault ≢ RunFault.Write → W.written report.new ≡ W.written report.old) }
+
+    // No thread was started.
+    ensures no_thread_fault { IfErr result (λ fault. is_thread_fault fault ≡ false) }
 
     // Which calls of the devices failed.
     ensures reads { CountsReads result (R.failures config.old) (R.failures config.new) (S.failures trace.old) (S.failures trace.new) }

@@ -12,7 +12,7 @@ ghost use Rattle.fmp_text.specs.Events.{Reading};
 ghost use Rattle.fmp_text.specs.Limits.{most_bytes, most_events};
 ghost use Rattle.fmpsim_run.specs.Details.{behind_line, entry_text};
 ghost use Rattle.fmpsim_run.specs.Devices.{BeginsWith};
-ghost use Rattle.fmpsim_run.specs.Faults.{failed_read, failed_write, is_config, is_read, is_write};
+ghost use Rattle.fmpsim_run.specs.Faults.{failed_read, failed_write, is_config, is_read, is_write, is_thread_fault};
 ghost use Rattle.fmpsim_run.specs.Runs.{FirstEventFault};
 ghost use Rattle.fmpsim_run.specs.Streams.{Leaves, Streams};
 
@@ -115,6 +115,7 @@ impl Answering {
         ensures write { IsTrue W.tells → (m : State) → Stands self.old.kernel m → result ≡ Err RunFault.Write
             → BeginsWith (W.written trace.old) (entry_text self.old.detail names.now (self.old.count + 1) (step_of numbered m event)) (W.written trace.new) }
         ensures kinds { IfErr result (λ fault. (fault ≡ RunFault.Memory) ⊎ (fault ≡ RunFault.Write)) }
+        ensures no_thread_fault { IfErr result (λ fault. is_thread_fault fault ≡ false) }
         ensures writes { W.failures trace.new ≡ W.failures trace.old + (if failed_write result then 1 else 0) }
     {
         self.kernel.step_into(event, &mut self.told);
@@ -147,6 +148,7 @@ impl Answering {
         ensures done { IfOk result (λ more. more ≡ false → self.new.feed.ended ≡ true → IsDone config.now.names self.new.feed) }
         ensures same { (self.new.feed.ended ≡ self.old.feed.ended) × (self.new.feed.taken ≡ self.old.feed.taken) × (self.new.feed.dropped ≡ self.old.feed.dropped) }
         ensures kinds { IfErr result (λ fault. (is_read fault ≡ false) × (is_config fault ≡ false)) }
+        ensures no_thread_fault { IfErr result (λ fault. is_thread_fault fault ≡ false) }
         ensures writes { W.failures trace.new ≡ W.failures trace.old + (if failed_write result then 1 else 0) }
     {
         let names = config.names();
@@ -185,6 +187,7 @@ impl Answering {
         ensures done { OnOk result (self.new.feed.ended ≡ true → IsDone config.now.names self.new.feed) }
         ensures same { (self.new.feed.ended ≡ self.old.feed.ended) × (self.new.feed.taken ≡ self.old.feed.taken) × (self.new.feed.dropped ≡ self.old.feed.dropped) }
         ensures kinds { IfErr result (λ fault. (is_read fault ≡ false) × (is_config fault ≡ false)) }
+        ensures no_thread_fault { IfErr result (λ fault. is_thread_fault fault ≡ false) }
         ensures writes { W.failures trace.new ≡ W.failures trace.old + (if failed_write result then 1 else 0) }
     {
         while self.answer_next(config, trace)? {}
@@ -215,6 +218,7 @@ impl Answering {
         ensures fits { OnOk result (self.new.feed.taken ≤ most_bytes) }
         ensures moves { OnOk result (self.new.feed.ended ≡ false → self.new.feed.dropped ≡ false → (self.old.feed.taken < self.new.feed.taken) × (self.new.feed.taken ≤ most_bytes)) }
         ensures kinds { IfErr result (λ fault. (is_write fault ≡ false) × (is_config fault ≡ false)) }
+        ensures no_thread_fault { IfErr result (λ fault. is_thread_fault fault ≡ false) }
         ensures reads { S.failures events.new ≡ S.failures events.old + (if failed_read result then 1 else 0) }
     {
         match events.read(piece) {

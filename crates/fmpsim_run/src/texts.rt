@@ -2,7 +2,7 @@
 ghost use Rattle.std.specs.Prelude.{◌≡◌, ◌+◌, ◌-◌, ◌≤◌, ◌^◌, ◌<◌, [], IsTrue, OnOk, IfOk, IfErr, false, if◌then◌else◌};
 ghost use Rattle.fmp_scripts.specs.ScriptGrammar.{SpellsScripts};
 ghost use Rattle.fmp_scripts.specs.Scripts.{AreInBits};
-ghost use Rattle.fmpsim_run.specs.Faults.{failed_read, is_config, is_start, is_text, is_write};
+ghost use Rattle.fmpsim_run.specs.Faults.{failed_read, is_config, is_thread_fault, is_text, is_write};
 ghost use Rattle.fmpsim_run.specs.Runs.{FirstConfigFault, SaysConfig};
 ghost use Rattle.fmpsim_run.specs.Scripted.{IsFirstOfScripts};
 
@@ -21,7 +21,7 @@ pub fn config_from<R: Source>(alloc: Global, source: &mut R) -> Result<Config, R
     ensures read { IsTrue R.tells → OnOk result (R.left source.new ≡ []) }
     ensures fault { IsTrue R.tells → IfErr result (FirstConfigFault (R.left source.old)) }
     ensures kinds { IfErr result (λ fault. (is_text fault ≡ false) × (is_write fault ≡ false)) }
-    ensures no_start { IfErr result (λ fault. is_start fault ≡ false) }
+    ensures no_thread_fault { IfErr result (λ fault. is_thread_fault fault ≡ false) }
     ensures count { R.failures source.new ≡ R.failures source.old + (if failed_read result then 1 else 0) }
 {
     let text = read_up_to(alloc, source, fmp_config::MOST_BYTES)?;
@@ -43,7 +43,7 @@ pub fn scripts_from<S: Source>(
     ensures read { IsTrue S.tells → OnOk result (S.left source.new ≡ []) }
     ensures fault { IsTrue S.tells → IfErr result (IsFirstOfScripts names.now (S.left source.old)) }
     ensures kinds { IfErr result (λ fault. (is_config fault ≡ false) × (is_write fault ≡ false)) }
-    ensures no_start { IfErr result (λ fault. is_start fault ≡ false) }
+    ensures no_thread_fault { IfErr result (λ fault. is_thread_fault fault ≡ false) }
     ensures count { S.failures source.new ≡ S.failures source.old + (if failed_read result then 1 else 0) }
 {
     let text = read_up_to(alloc, source, fmp_text::MOST_BYTES)?;

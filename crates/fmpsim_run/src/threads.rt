@@ -4,7 +4,7 @@ ghost use Rattle.fmp_scripts.specs.ScriptGrammar.{SpellsScripts};
 ghost use Rattle.fmp_scripts.specs.Scripts.{AreInBits};
 ghost use Rattle.fmp_trace.specs.Lines.{lines_from};
 ghost use Rattle.fmpsim_run.specs.Devices.{BeginsWith};
-ghost use Rattle.fmpsim_run.specs.Faults.{failed_read, failed_write, is_config, is_read, is_start, is_text};
+ghost use Rattle.fmpsim_run.specs.Faults.{failed_read, failed_write, is_config, is_read, is_thread_fault, is_text};
 ghost use Rattle.fmpsim_run.specs.Runs.{CountsReads, FirstConfigFault, SaysConfig};
 ghost use Rattle.fmpsim_run.specs.Scripted.{FirstScriptFault, IsPlayBegun, IsPlayed, IsPlayedInOrder};
 
@@ -40,7 +40,7 @@ fn texts_from<R: Source, S: Source>(
     ensures text_fault { IsTrue R.tells → IsTrue S.tells → IfErr result (FirstScriptFault (R.left config.old) (S.left scripts.old)) }
     ensures reads { CountsReads result (R.failures config.old) (R.failures config.new) (S.failures scripts.old) (S.failures scripts.new) }
     ensures no_write { failed_write result ≡ false }
-    ensures no_start { IfErr result (λ fault. is_start fault ≡ false) }
+    ensures no_thread_fault { IfErr result (λ fault. is_thread_fault fault ≡ false) }
 {
     let configuration = config_from(alloc, config)?;
     let list = scripts_from(alloc, configuration.names(), scripts)?;
@@ -62,7 +62,7 @@ fn write_records<W: Sink>(
         → BeginsWith (W.written trace.old) (lines_from names.now 1 records.now) (W.written trace.new) }
     ensures unwritten { IsTrue W.tells → IfErr result (λ fault. fault ≢ RunFault.Write → W.written trace.new ≡ W.written trace.old) }
     ensures kinds { IfErr result (λ fault. (is_config fault ≡ false) × (is_text fault ≡ false) × (is_read fault ≡ false)) }
-    ensures no_start { IfErr result (λ fault. is_start fault ≡ false) }
+    ensures no_thread_fault { IfErr result (λ fault. is_thread_fault fault ≡ false) }
     ensures writes { W.failures trace.new ≡ W.failures trace.old + (if failed_write result then 1 else 0) }
 {
     let text = trace_text(alloc, records, names)?;
@@ -151,8 +151,8 @@ pub fn run_seeded<R: Source, S: Source, W: Sink>(
         → IsPlayBegun (R.left config.old) (S.left scripts.old) ticks turns (W.written trace.old) (W.written trace.new) }
     ensures unwritten { IsTrue W.tells → IfErr result (λ fault. fault ≢ RunFault.Write → W.written trace.new ≡ W.written trace.old) }
 
-    // There is no thread that could not be started.
-    ensures no_start { IfErr result (λ fault. is_start fault ≡ false) }
+    // No thread was started.
+    ensures no_thread_fault { IfErr result (λ fault. is_thread_fault fault ≡ false) }
 
     // Which calls of the devices failed.
     ensures reads { CountsReads result (R.failures config.old) (R.failures config.new) (S.failures scripts.old) (S.failures scripts.new) }

@@ -1,23 +1,50 @@
-use Rattle.std.proofs.Common.{rules}
+use Rattle.std.proofs.Common.{◌≡◌, ◌∙◌, Some, rules, refl, sym, subst}
+use Rattle.fmp_machine.specs.Valid.{IsValid}
 use Rattle.fmp_smp.specs.Seeds.{IsInOrderOf}
-use Rattle.fmp_smp.proofs.Moving.{follows_at_first, follows_on, stays_in_order, judged_in_order}
+use Rattle.fmp_smp.proofs.Following.{Carries, carries, follows_at_first}
+use Rattle.fmp_smp.proofs.Seating.{seated_at_first}
+use Rattle.fmp_smp.proofs.Wholes.{judged_records, whole_at_end}
 use Rattle.fmp_smp.proofs.seeded.run_seeded.Goals as goal
-use Rattle.fmp_smp.proofs.seeded.run_seeded.Goals.{else-loop-test, then-loop-test+then-not-go_on}
 
-pub loop-init : goal.loop-init
-loop-init c =
-    rw (c.in_ok-world.ensures.world, c.new-rounds.ensures, c.seed_from_u64-numbers.ensures.same)
-    (follows_at_first c.args.seed c.args.config.now c.args.scripts c.args.ticks c.args.turns)
+pub loop-alloc-init : goal.loop-alloc-init
+loop-alloc-init c =
+    rw (c.in_ok-world.ensures.world, c.new-rounds.ensures, c.seed_from_u64-numbers.ensures.same) (record {
+      configured = refl;
+      scripted = refl;
+      room = refl;
+      follows = follows_at_first c.args.seed c.args.config.now c.args.scripts c.args.ticks c.args.turns;
+      seated = seated_at_first c.args.config.now c.args.scripts c.args.turns _ _ c.in_ok-world.ensures.cpus c.in_ok-world.ensures.clock;
+    })
 
-pub loop-preserved : goal.loop-preserved
-loop-preserved c = follows_on _ _ _ _ _ _ _ _ _ _ _ (search rules) c.loop.invariant c.go_on.ensures
+pub loop-alloc-preserved : goal.loop-alloc-preserved
+loop-alloc-preserved c =
+    let before = c.loop-alloc.invariant in
+    let of_config : IsValid c.args.config.now = search rules in
+    let valid : IsValid c.loop-alloc.world.config = subst IsValid (sym before.configured) of_config in
+    let more : Carries c.args.seed c.args.ticks c.loop-alloc.world c.go_on.new.world c.go_on.new.rounds c.go_on.new.numbers =
+    carries _ _ _ _ _ _ _ _ _ (search rules) valid before.follows c.go_on.ensures.goes in
+    record {
+      configured = more.config ∙ before.configured;
+      scripted = more.scripted ∙ before.scripted;
+      room = more.turns ∙ before.room;
+      follows = more.follows;
+      seated = c.go_on.ensures.seated;
+    }
+
+pub unwrap-requires : goal.unwrap-requires
+unwrap-requires c =
+    let before = c.loop-alloc.invariant in
+    let of_config : IsValid c.args.config.now = search rules in
+    let valid : IsValid c.loop-alloc.world.config = subst IsValid (sym before.configured) of_config in
+    let end = whole_at_end _ _ _ _ _ _ _ _ _ _ _ _ _ _ (search rules) valid before.follows before.configured before.scripted before.room c.go_on.ensures.seated c.go_on.ensures.goes in
+    c.finish-run.ensures.whole.1 end.0
 
 pub returns-clause-order : goal.returns-clause-order
 returns-clause-order c =
-    let ordered : IsInOrderOf c.args.seed c.args.config.now c.args.scripts c.args.ticks c.loop-test.world.records =
-    elim c.loop-test.branch [
-      | else-loop-test w ↦ rw w.world-is c.loop.invariant.ordered
-      | then-loop-test+then-not-go_on w ↦ rw w.world-is (stays_in_order _ _ _ _ _ _ _ _ _ _ _ (search rules) c.loop.invariant.ordered w.go_on.ensures)
-    ] in
-    let judged = judged_in_order c.args.seed c.args.config.now c.args.scripts c.args.ticks c.loop-test.world.records c.finish.result ordered c.finish.ensures.records in
-    search rules
+    let before = c.loop-alloc.invariant in
+    let of_config : IsValid c.args.config.now = search rules in
+    let valid : IsValid c.loop-alloc.world.config = subst IsValid (sym before.configured) of_config in
+    let end = whole_at_end _ _ _ _ _ _ _ _ _ _ _ _ _ _ (search rules) valid before.follows before.configured before.scripted before.room c.go_on.ensures.seated c.go_on.ensures.goes in
+    let is : c.finish-run.result ≡ Some c.unwrap.result = search rules in
+    let same = judged_records c.finish-run.result c.unwrap.result _ c.finish-run.ensures.records is in
+    subst (IsInOrderOf c.args.seed c.args.config.now c.args.scripts c.args.ticks) (sym same) end.1
