@@ -22,38 +22,9 @@ abbrev pub is_zero : ℤ → Bool
 is_zero (pos n) = n == 0
 is_zero (negsuc n) = false
 
--- the task that calls from p
-abbrev pub caller : {Q : Type 0} → World Q → Proc → Task
-caller w p = unwrap_or (processor w p).running (as_task 1)
-
--- the task that an argument names
-abbrev pub task_named : {Q : Type 0} → World Q → ℤ → Option Task
-task_named w id = option_map as_task (named w.tasks id)
-
--- the task that an argument names, where 0 is the caller
-abbrev pub task_or_caller : {Q : Type 0} → World Q → Proc → ℤ → Option Task
-task_or_caller w p id = if is_zero id then (processor w p).running else task_named w id
-
--- the processor that an argument names
-abbrev pub processor_named : {Q : Type 0} → World Q → ℤ → Option Proc
-processor_named w id = option_map as_proc (named w.processors id)
-
--- the processor that an argument names, where 0 is the initial one of a class
-abbrev pub processor_or_initial : {Q : Type 0} → World Q → Class → ℤ → Option Proc
-processor_or_initial w c id = if is_zero id then Some c.initial else processor_named w id
-
 -- the object, of all objects of one kind, that an argument names
 abbrev pub object_named : {X : Type 0} → List X → ℤ → Option Object
 object_named xs id = option_map as_object (named xs id)
-
--- the class of the task that an argument names
-abbrev pub class_of : {Q : Type 0} → World Q → Option Task → Class
-class_of w t = (task w (unwrap_or t (as_task 1))).setup.class
-
--- what an argument names is the task that calls from p
-abbrev pub is_caller : {Q : Type 0} → World Q → Proc → Option Task → Bool
-is_caller w p None = false
-is_caller w p (Some t) = is_some (processor w p).running && (caller w p).number == t.number
 
 -- a number of a priority, or 0
 abbrev pub is_priority_or_zero : Limits → ℤ → Bool
@@ -87,3 +58,33 @@ forever = negsuc 0
 abbrev pub ticks_of : ℤ → Option ℕ
 ticks_of (pos n) = Some (n + 1)
 ticks_of (negsuc n) = None
+
+module _ {Q : Type 0} (w : World Q) where
+  -- the task that calls from p
+  abbrev pub caller : Proc → Task
+  caller p = unwrap_or (processor w p).running (as_task 1)
+
+  -- the task that an argument names
+  abbrev pub task_named : ℤ → Option Task
+  task_named id = option_map as_task (named w.tasks id)
+
+  -- the task that an argument names, where 0 is the caller
+  abbrev pub task_or_caller : Proc → ℤ → Option Task
+  task_or_caller p id = if is_zero id then (processor w p).running else task_named id
+
+  -- the processor that an argument names
+  abbrev pub processor_named : ℤ → Option Proc
+  processor_named id = option_map as_proc (named w.processors id)
+
+  -- the processor that an argument names, where 0 is the initial one of a class
+  abbrev pub processor_or_initial : Class → ℤ → Option Proc
+  processor_or_initial c id = if is_zero id then Some c.initial else processor_named id
+
+  -- the class of the task that an argument names
+  abbrev pub class_of : Option Task → Class
+  class_of t = (task w (unwrap_or t (as_task 1))).setup.class
+
+  -- what an argument names is the task that calls from p
+  abbrev pub is_caller : Proc → Option Task → Bool
+  is_caller p None = false
+  is_caller p (Some t) = is_some (processor w p).running && (caller p).number == t.number

@@ -42,41 +42,42 @@ no_alarm = record { class = no_task.setup.class; handler = 1 }
 abbrev pub blank_semaphore : Semaphore
 blank_semaphore = record { setup = no_semaphore; count = 0 }
 
-abbrev pub semaphore : {Q : Type 0} → World Q → Object → Semaphore
-semaphore w s = item blank_semaphore w.semaphores s.number
-
 abbrev pub blank_eventflag : Eventflag
 blank_eventflag = record { setup = no_eventflag; pattern = 0 }
-
-abbrev pub eventflag : {Q : Type 0} → World Q → Object → Eventflag
-eventflag w f = item blank_eventflag w.eventflags f.number
-
-abbrev pub data_queue : {Q : Type 0} → World Q → Object → DataQueueSetup
-data_queue w d = item no_data_queue w.data_queues d.number
-
--- the values of a data queue, the oldest first
-abbrev pub values : {Q : Type 0} → World Q → Object → List ℤ
-values w d = item [] w.contents d.number
 
 abbrev pub blank_pool : Pool
 blank_pool = record { setup = no_pool; handed = replicate 64 false }
 
-abbrev pub pool : {Q : Type 0} → World Q → Object → Pool
-pool w m = item blank_pool w.pools m.number
+module _ {Q : Type 0} (w : World Q) where
+  abbrev pub semaphore : Object → Semaphore
+  semaphore s = item blank_semaphore w.semaphores s.number
 
--- the least block of a pool that is not handed out
-abbrev pub free_block : {Q : Type 0} → World Q → Object → Option ℕ
-free_block w m = position not (take (pool w m).setup.blocks (pool w m).handed)
+  abbrev pub eventflag : Object → Eventflag
+  eventflag f = item blank_eventflag w.eventflags f.number
 
-abbrev pub cyclic : {Q : Type 0} → World Q → Object → Cyclic
-cyclic w c = item (record { setup = no_cyclic; assigned = as_proc 1 }) w.cyclics c.number
+  abbrev pub data_queue : Object → DataQueueSetup
+  data_queue d = item no_data_queue w.data_queues d.number
 
-abbrev pub alarm : {Q : Type 0} → World Q → Object → Alarm
-alarm w a = item (record { setup = no_alarm; assigned = as_proc 1 }) w.alarms a.number
+  -- the values of a data queue, the oldest first
+  abbrev pub values : Object → List ℤ
+  values d = item [] w.contents d.number
 
--- the processor that holds a spin lock
-abbrev pub holder : {Q : Type 0} → World Q → Object → Option Proc
-holder w l = item None w.holders l.number
+  abbrev pub pool : Object → Pool
+  pool m = item blank_pool w.pools m.number
+
+  -- the least block of a pool that is not handed out
+  abbrev pub free_block : Object → Option ℕ
+  free_block m = position not (take (pool m).setup.blocks (pool m).handed)
+
+  abbrev pub cyclic : Object → Cyclic
+  cyclic c = item (record { setup = no_cyclic; assigned = as_proc 1 }) w.cyclics c.number
+
+  abbrev pub alarm : Object → Alarm
+  alarm a = item (record { setup = no_alarm; assigned = as_proc 1 }) w.alarms a.number
+
+  -- the processor that holds a spin lock
+  abbrev pub holder : Object → Option Proc
+  holder l = item None w.holders l.number
 
 -- the bits of a pattern are set in x: all of them, or one
 abbrev pub holds : ℕ → ℕ → Mode → Bool

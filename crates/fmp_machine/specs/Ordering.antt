@@ -63,68 +63,70 @@ order_among semaphores eventflags data_queues pools kind.Send o = (item no_data_
 order_among semaphores eventflags data_queues pools kind.Receive o = order.First
 order_among semaphores eventflags data_queues pools kind.Pool o = (item blank_pool pools o.number).setup.order
 
--- the order of a queue. It unfolds to lists of objects, so that what leaves these alone leaves it as it is
-abbrev pub order_in : {Q : Type 0} → World Q → QueueKind → Object → Order
-order_in w = λ x o. order_among w.semaphores w.eventflags w.data_queues w.pools x o
+module _ {Q : Type 0} (w : World Q) where
+  -- the order of a queue. It unfolds to lists of objects, so that what leaves these alone leaves it as it is
+  abbrev pub order_in : QueueKind → Object → Order
+  order_in = λ x o. order_among w.semaphores w.eventflags w.data_queues w.pools x o
 
--- the order of the queue in which a wait stands
-abbrev pub order_of : {Q : Type 0} → World Q → Wait → Order
-order_of w (wait.Semaphore s) = order_in w kind.Semaphore s
-order_of w (wait.Eventflag f pattern mode) = order_in w kind.Eventflag f
-order_of w (wait.Send d value) = order_in w kind.Send d
-order_of w (wait.Receive d) = order_in w kind.Receive d
-order_of w (wait.Pool m) = order_in w kind.Pool m
-order_of w _ = order.First
+  -- the order of the queue in which a wait stands
+  abbrev pub order_of : Wait → Order
+  order_of (wait.Semaphore s) = order_in kind.Semaphore s
+  order_of (wait.Eventflag f pattern mode) = order_in kind.Eventflag f
+  order_of (wait.Send d value) = order_in kind.Send d
+  order_of (wait.Receive d) = order_in kind.Receive d
+  order_of (wait.Pool m) = order_in kind.Pool m
+  order_of _ = order.First
 
--- the tasks that wait in the queue of an object, in their order
-abbrev pub queue : {Q : Type 0} → Ordering Q → World Q → QueueKind → Object → List Task
-queue k w x o = k.waiters w.order w.tasks (order_in w x o) x o
+  -- The fields of t change, and t keeps its place.
+  abbrev pub with_task : Task → TaskRecord → World Q
+  with_task t r = record w { tasks = with_item w.tasks t.number r }
 
--- the task that comes first on a processor
-abbrev pub top : {Q : Type 0} → Ordering Q → World Q → Proc → Option Task
-top k w p = k.top w.order w.tasks p
+module _ {Q : Type 0} (k : Ordering Q) where
+  -- a task of this record leaves its ready queue, if it is in one
+  abbrev pub depart : Q → TaskRecord → Task → Q
+  depart q r t = if is_runnable r then k.take_out q r t else q
 
--- The fields of t change, and t keeps its place.
-abbrev pub with_task : {Q : Type 0} → World Q → Task → TaskRecord → World Q
-with_task w t r = record w { tasks = with_item w.tasks t.number r }
+  -- a task of this record goes last in its ready queue, if it is to be in one
+  abbrev pub arrive : Q → TaskRecord → Task → Q
+  arrive q r t = if is_runnable r then k.put_last q r t else q
 
--- a task of this record leaves its ready queue, if it is in one
-abbrev pub depart : {Q : Type 0} → Ordering Q → Q → TaskRecord → Task → Q
-depart k q r t = if is_runnable r then k.take_out q r t else q
+  -- in a queue by priority a task of this record leaves and joins again, with the ticks that it has left
+  abbrev pub rejoin : Q → Order → TaskRecord → Option ℕ → Task → Q
+  rejoin q order.First r left t = q
+  rejoin q order.Priority r left t = k.join (k.leave q r t) order.Priority r left t
 
--- a task of this record goes last in its ready queue, if it is to be in one
-abbrev pub arrive : {Q : Type 0} → Ordering Q → Q → TaskRecord → Task → Q
-arrive k q r t = if is_runnable r then k.put_last q r t else q
+  -- The fields of t change. It leaves its ready queue, and goes last where it is ready then.
+  abbrev pub place : World Q → Task → TaskRecord → World Q
+  place w t r = record w { tasks = with_item w.tasks t.number r; order = arrive (depart w.order (task w t) t) r t }
 
--- The fields of t change. It leaves its ready queue, and goes last where it is ready then.
-abbrev pub place : {Q : Type 0} → Ordering Q → World Q → Task → TaskRecord → World Q
-place k w t r = record w { tasks = with_item w.tasks t.number r; order = arrive k (depart k w.order (task w t) t) r t }
+module _ {Q : Type 0} (k : Ordering Q) (w : World Q) where
+  -- the tasks that wait in the queue of an object, in their order
+  abbrev pub queue : QueueKind → Object → List Task
+  queue x o = k.waiters w.order w.tasks (order_in w x o) x o
 
--- The wait of t is over, if it has one, and its fields change: it leaves its queue and the timed waits, and goes last where it is ready then.
-abbrev pub end_wait : {Q : Type 0} → Ordering Q → World Q → Task → TaskRecord → World Q
-end_wait k w t r =
-    place k (record w { order = k.leave w.order (task w t) t; waits_left = with_item w.waits_left t.number None }) t r
+  -- the task that comes first on a processor
+  abbrev pub top : Proc → Option Task
+  top p = k.top w.order w.tasks p
 
--- The task t waits for this with so many ticks left, or for ever. It leaves its ready queue, and is the last in the queue and of the timed waits.
-abbrev pub begin_wait : {Q : Type 0} → Ordering Q → World Q → Task → Wait → Option ℕ → World Q
-begin_wait k w t x left =
-    let r = record (task w t) { wait = Some x } in
-    record w {
-      tasks = with_item w.tasks t.number r;
-      waits_left = with_item w.waits_left t.number left;
-      order = k.join (depart k w.order (task w t) t) (order_of w x) r left t;
-    }
+  -- The wait of t is over, if it has one, and its fields change: it leaves its queue and the timed waits, and goes last where it is ready then.
+  abbrev pub end_wait : Task → TaskRecord → World Q
+  end_wait t r = place k (record w { order = k.leave w.order (task w t) t; waits_left = with_item w.waits_left t.number None }) t r
 
--- in a queue by priority a task of this record leaves and joins again, with the ticks that it has left
-abbrev pub rejoin : {Q : Type 0} → Ordering Q → Q → Order → TaskRecord → Option ℕ → Task → Q
-rejoin k q order.First r left t = q
-rejoin k q order.Priority r left t = k.join (k.leave q r t) order.Priority r left t
+  -- The task t waits for this with so many ticks left, or for ever. It leaves its ready queue, and is the last in the queue and of the timed waits.
+  abbrev pub begin_wait : Task → Wait → Option ℕ → World Q
+  begin_wait t x left =
+      let r = record (task w t) { wait = Some x } in
+      record w {
+        tasks = with_item w.tasks t.number r;
+        waits_left = with_item w.waits_left t.number left;
+        order = k.join (depart k w.order (task w t) t) (order_of w x) r left t;
+      }
 
--- the order when t, which has this wait or none, comes last among its equals where it stands
-abbrev pub behind : {Q : Type 0} → Ordering Q → World Q → Task → TaskRecord → Option Wait → Q
-behind k w t r None = arrive k (depart k w.order (task w t) t) r t
-behind k w t r (Some x) = rejoin k w.order (order_of w x) r (item None w.waits_left t.number) t
+  -- the order when t, which has this wait or none, comes last among its equals where it stands
+  abbrev pub behind : Task → TaskRecord → Option Wait → Q
+  behind t r None = arrive k (depart k w.order (task w t) t) r t
+  behind t r (Some x) = rejoin k w.order (order_of w x) r (item None w.waits_left t.number) t
 
--- The fields of t change. Where it is ready it goes last, and where it waits in a queue by priority its wait begins anew.
-abbrev pub requeue : {Q : Type 0} → Ordering Q → World Q → Task → TaskRecord → World Q
-requeue k w t r = record w { tasks = with_item w.tasks t.number r; order = behind k w t r (task w t).wait }
+  -- The fields of t change. Where it is ready it goes last, and where it waits in a queue by priority its wait begins anew.
+  abbrev pub requeue : Task → TaskRecord → World Q
+  requeue t r = record w { tasks = with_item w.tasks t.number r; order = behind t r (task w t).wait }
