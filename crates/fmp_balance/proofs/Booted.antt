@@ -10,14 +10,14 @@ use Rattle.fmp_codes.specs.declared.numbers.Proc.{Proc}
 use Rattle.fmp_codes.specs.declared.numbers.Task.{Task}
 use Rattle.fmp_codes.specs.declared.numbers.Object.{Object}
 use Rattle.fmp_codes.specs.declared.records.Event.{Event}
-use Rattle.fmp_machine.specs.declared.setup.TaskSetup.{TaskSetup}
-use Rattle.fmp_machine.specs.declared.setup.SemaphoreSetup.{SemaphoreSetup}
+use Rattle.fmp_setup.specs.declared.setup.TaskSetup.{TaskSetup}
+use Rattle.fmp_setup.specs.declared.setup.SemaphoreSetup.{SemaphoreSetup}
 use Rattle.fmp_machine.specs.declared.machine.TaskRecord.{TaskRecord}
 use Rattle.fmp_machine.specs.declared.machine.Semaphore.{Semaphore}
 use Rattle.fmp_machine.specs.declared.machine.Pool.{Pool}
 use Rattle.fmp_machine.specs.declared.machine.Wait.TheVariants as wait
-use Rattle.fmp_machine.specs.Setup.{Setup}
-use Rattle.fmp_machine.specs.Valid.{AreFew}
+use Rattle.fmp_setup.specs.Setup.{Setup}
+use Rattle.fmp_setup.specs.Valid.{AreFew}
 use Rattle.fmp_machine.specs.World.{World, no_task, item, task, processors_to, resting}
 use Rattle.fmp_machine.specs.Objects.{blank_semaphore, semaphore, pool, values}
 use Rattle.fmp_machine.specs.Ordering.{Ordering}

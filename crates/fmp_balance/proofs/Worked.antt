@@ -12,13 +12,13 @@ use Rattle.fmp_codes.specs.declared.calls.BufferCall.{BufferCall}
 use Rattle.fmp_codes.specs.declared.calls.BufferCall.TheVariants as buffer
 use Rattle.fmp_codes.specs.declared.records.Event.{Event}
 use Rattle.fmp_codes.specs.declared.records.Record.{Record}
-use Rattle.fmp_machine.specs.declared.setup.Order.TheVariants as order
+use Rattle.fmp_setup.specs.declared.setup.Order.TheVariants as order
 use Rattle.fmp_names.specs.Names.{times, is_name, is_object, is_defined, is_reserved, is_processor_word, is_constant}
 use Rattle.fmp_bytes.specs.Bytes.{is_of, behind}
-use Rattle.fmp_machine.specs.declared.setup.DataQueueSetup.{DataQueueSetup}
-use Rattle.fmp_machine.specs.declared.setup.TaskSetup.{TaskSetup}
-use Rattle.fmp_machine.specs.Setup.{Setup, of_tasks}
-use Rattle.fmp_machine.specs.Valid.{IsSemaphore, IsPool, AreInRange, AreFew, IsValid}
+use Rattle.fmp_setup.specs.declared.setup.DataQueueSetup.{DataQueueSetup}
+use Rattle.fmp_setup.specs.declared.setup.TaskSetup.{TaskSetup}
+use Rattle.fmp_setup.specs.Setup.{Setup, of_tasks}
+use Rattle.fmp_setup.specs.Valid.{IsSemaphore, IsPool, AreInRange, AreFew, IsValid}
 use Rattle.fmp_machine.specs.Objects.{semaphore, values}
 use Rattle.fmp_machine.specs.Arrivals.{numbered}
 use Rattle.fmp_machine.specs.SyncCalls.{sig_sem, twai_sem}

@@ -3,7 +3,7 @@ use Rattle.std.specs.Prelude.{ℕ, List, take}
 use Rattle.fmp_codes.specs.declared.numbers.Object.{Object}
 use Rattle.fmp_codes.specs.declared.records.Event.{Event}
 use Rattle.fmp_codes.specs.declared.records.Record.{Record}
-use Rattle.fmp_machine.specs.Setup.{Setup}
+use Rattle.fmp_setup.specs.Setup.{Setup}
 use Rattle.fmp_machine.specs.World.{World}
 use Rattle.fmp_machine.specs.Arrivals.{numbered}
 use Rattle.fmp_machine.specs.Step.{replay}

@@ -1,8 +1,8 @@
 //! The law of what came in and went out.
 ghost use Rattle.std.specs.Prelude.{List};
 ghost use Rattle.fmp_codes.specs.declared.records.Event.{Event};
-ghost use Rattle.fmp_machine.specs.Setup.{Setup};
-ghost use Rattle.fmp_machine.specs.Valid.{IsValid};
+ghost use Rattle.fmp_setup.specs.Setup.{Setup};
+ghost use Rattle.fmp_setup.specs.Valid.{IsValid};
 ghost use Rattle.fmp_machine.specs.Arrivals.{numbered};
 ghost use Rattle.fmp_machine.specs.Step.{answers};
 ghost use Rattle.fmp_machine.specs.Boot.{booted};

@@ -18,11 +18,11 @@ use Rattle.fmp_calls.specs.declared.kinds.ObjectKind.{ObjectKind}
 use Rattle.fmp_calls.specs.declared.kinds.ObjectKind.TheVariants as objects
 use Rattle.fmp_machine.specs.Boot.{booted}
 use Rattle.fmp_machine.specs.Arrivals.{State, numbered}
-use Rattle.fmp_machine.specs.Setup.{Setup, has_time}
+use Rattle.fmp_setup.specs.Setup.{Setup, has_time}
 use Rattle.fmp_machine.specs.Step.{settled, before_event, unchanged, step, answers}
-use Rattle.fmp_machine.specs.Valid.{IsValid}
+use Rattle.fmp_setup.specs.Valid.{IsValid}
 use Rattle.fmp_machine.specs.World.{processor, handler, runner_of, is_held}
-use Rattle.fmp_machine.proofs.Named.{length_at}
+use Rattle.fmp_setup.proofs.Named.{length_at}
 use Rattle.fmp_safety.proofs.Telling.{runs_name}
 use Rattle.fmp_safety.specs.Counts.{counts_of, IsRunnerOf, IsTaskOf, IsReleaseOf, NamesOnly}
 use Rattle.fmp_names.specs.Names.{NameLists, names_of, name_of}

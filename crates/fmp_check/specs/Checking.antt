@@ -9,7 +9,7 @@ use Rattle.fmp_bytes.specs.Bytes.{pieces_of, line_feed}
 use Rattle.fmp_calls.specs.Arguments.{EventInBits}
 use Rattle.fmp_machine.specs.Boot.{booted}
 use Rattle.fmp_machine.specs.Arrivals.{State, numbered}
-use Rattle.fmp_machine.specs.Setup.{Setup}
+use Rattle.fmp_setup.specs.Setup.{Setup}
 use Rattle.fmp_machine.specs.Step.{step, answers}
 use Rattle.fmp_text.specs.Limits.{most_bytes, most_events}
 use Rattle.fmp_text.specs.declared.fault.TextFault.{TextFault}

@@ -5,7 +5,7 @@ use Rattle.std.specs.Str.{bytes_eq}
 use Rattle.fmp_bytes.specs.Bytes.{pieces_of, line_feed}
 use Rattle.fmp_machine.specs.Boot.{booted}
 use Rattle.fmp_machine.specs.Arrivals.{State, numbered}
-use Rattle.fmp_machine.specs.Setup.{Setup}
+use Rattle.fmp_setup.specs.Setup.{Setup}
 use Rattle.fmp_machine.specs.Step.{step}
 use Rattle.fmp_text.specs.declared.fault.TextFault.{TextFault}
 use Rattle.fmp_text.specs.declared.fault.TextKind.TheVariants.{BadWord}

@@ -22,14 +22,14 @@ use Rattle.fmp_config.proofs.Defined.{new_and_room, still_open}
 use Rattle.fmp_config.proofs.Places.{start_is_no_body}
 use Rattle.fmp_config.proofs.Ranges.{numbers_in_range}
 use Rattle.fmp_config.proofs.Steps.{bound, found, not_ok, ok_is, passed}
-use Rattle.fmp_machine.specs.declared.parts.Fields.{Fields}
-use Rattle.fmp_machine.specs.declared.parts.Fields.TheVariants as fields
-use Rattle.fmp_machine.specs.declared.setup.Class.{Class}
-use Rattle.fmp_machine.specs.declared.setup.Timer.{Timer}
-use Rattle.fmp_machine.specs.declared.setup.Timer.TheVariants as timers
-use Rattle.fmp_machine.specs.Building.{FieldsInRange, is_refused, kind_of, with_object, with_setup}
-use Rattle.fmp_machine.specs.Setup.{Setup, MayHandle, alone}
-use Rattle.fmp_machine.proofs.Growing.{object_added}
+use Rattle.fmp_setup.specs.declared.parts.Fields.{Fields}
+use Rattle.fmp_setup.specs.declared.parts.Fields.TheVariants as fields
+use Rattle.fmp_setup.specs.declared.setup.Class.{Class}
+use Rattle.fmp_setup.specs.declared.setup.Timer.{Timer}
+use Rattle.fmp_setup.specs.declared.setup.Timer.TheVariants as timers
+use Rattle.fmp_setup.specs.Building.{FieldsInRange, is_refused, kind_of, with_object, with_setup}
+use Rattle.fmp_setup.specs.Setup.{Setup, MayHandle, alone}
+use Rattle.fmp_setup.proofs.Growing.{object_added}
 
 -- ---- the fields of an object
 

@@ -17,9 +17,9 @@ use Rattle.fmp_config.specs.Places.{place_fault}
 use Rattle.fmp_config.specs.Sound.{IsSound, IsSoundOpen}
 use Rattle.fmp_config.proofs.Places.{place_beside}
 use Rattle.fmp_config.proofs.Steps.{bound, not_ok, ok_is, passed, refused}
-use Rattle.fmp_machine.specs.Building.{is_refused, with_defined}
-use Rattle.fmp_machine.specs.Setup.{Setup}
-use Rattle.fmp_machine.proofs.Growing.{defined_added}
+use Rattle.fmp_setup.specs.Building.{is_refused, with_defined}
+use Rattle.fmp_setup.specs.Setup.{Setup}
+use Rattle.fmp_setup.proofs.Growing.{defined_added}
 
 pub new_and_room : (c : Setup) (room : Bool) (line : ℕ) (name : Word) → new_name c room line name ≡ Ok tt → (is_refused c name.text ≡ false) × (room ≡ true)
 unfolding new_name

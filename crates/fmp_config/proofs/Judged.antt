@@ -26,13 +26,13 @@ use Rattle.fmp_config.proofs.Defined.{new_and_room, still_open}
 use Rattle.fmp_config.proofs.Places.{class_past_start, limits_in_head, processors_at_start, start_is_no_body, timer_in_head}
 use Rattle.fmp_config.proofs.Ranges.{numbers_in_range, within_range}
 use Rattle.fmp_config.proofs.Steps.{bound, not_ok, ok_is, passed, some_of}
-use Rattle.fmp_machine.specs.declared.setup.Class.{Class}
-use Rattle.fmp_machine.specs.declared.setup.Timer.{Timer}
-use Rattle.fmp_machine.specs.declared.setup.Timer.TheVariants as timers
-use Rattle.fmp_machine.specs.Building.{class_named, is_refused, with_class, with_limits, with_processors, with_timer}
-use Rattle.fmp_machine.specs.Setup.{Setup}
-use Rattle.fmp_machine.specs.Valid.{IsTimerOf, IsValid, is_class_of}
-use Rattle.fmp_machine.proofs.Growing.{class_added, limits_set, named_is_sound, processors_set, timer_set}
+use Rattle.fmp_setup.specs.declared.setup.Class.{Class}
+use Rattle.fmp_setup.specs.declared.setup.Timer.{Timer}
+use Rattle.fmp_setup.specs.declared.setup.Timer.TheVariants as timers
+use Rattle.fmp_setup.specs.Building.{class_named, is_refused, with_class, with_limits, with_processors, with_timer}
+use Rattle.fmp_setup.specs.Setup.{Setup}
+use Rattle.fmp_setup.specs.Valid.{IsTimerOf, IsValid, is_class_of}
+use Rattle.fmp_setup.proofs.Growing.{class_added, limits_set, named_is_sound, processors_set, timer_set}
 
 never : {A : Type 0} (b : Bool) → b ≡ false → b ≡ true → A
 never b is other = absurd (false≢true (sym is ∙ other))

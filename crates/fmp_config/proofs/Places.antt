@@ -11,7 +11,7 @@ use Rattle.fmp_config.specs.declared.draft.Phase.{Phase}
 use Rattle.fmp_config.specs.declared.draft.Phase.TheVariants as phases
 use Rattle.fmp_config.specs.Drafts.{Draft, is_start, is_body}
 use Rattle.fmp_config.specs.Places.{place_fault}
-use Rattle.fmp_machine.specs.Setup.{Setup}
+use Rattle.fmp_setup.specs.Setup.{Setup}
 
 -- the same in another configuration
 pub place_beside : (d : Draft) (setup : Setup) (name : StatementName) → place_fault (record d { setup = setup }) name ≡ place_fault d name

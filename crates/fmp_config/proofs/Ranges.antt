@@ -18,7 +18,7 @@ use Rattle.fmp_config.specs.Objects.{counts_fit}
 use Rattle.fmp_config.specs.Numbers.{AreInRanges, IsInRange, is_within, number_at, number_within, numbers_of, value_at}
 use Rattle.fmp_config.specs.Sound.{Fit}
 use Rattle.fmp_config.proofs.Steps.{bound, ok_is, passed}
-use Rattle.fmp_machine.specs.Setup.{Setup}
+use Rattle.fmp_setup.specs.Setup.{Setup}
 
 pub within_range : (names : NameLists) (range : Range) (word : Word) (n : ℕ) → number_within names range word ≡ Ok n → (range.least ≤ n) × (n ≤ range.most)
 unfolding number_within

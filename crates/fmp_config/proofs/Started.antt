@@ -3,8 +3,8 @@ use Rattle.std.proofs.Common.{[], refl, arith}
 use Rattle.std.specs.Prelude.{All}
 use Rattle.fmp_config.specs.Reading.{at_start}
 use Rattle.fmp_config.specs.Sound.{IsSoundState}
-use Rattle.fmp_machine.specs.Building.{of_processors}
-use Rattle.fmp_machine.specs.Valid.{IsValid}
+use Rattle.fmp_setup.specs.Building.{of_processors}
+use Rattle.fmp_setup.specs.Valid.{IsValid}
 
 none : {A : Type 0} (P : A → Type 0) → All P []
 none P k d lt = absurd (omega (arith, lt))

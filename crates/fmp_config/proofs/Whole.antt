@@ -16,7 +16,7 @@ use Rattle.fmp_statements.specs.Named.{IsPromised, awaits, comes_next, has_such,
 use Rattle.fmp_statements.specs.Parts.{is_nothing}
 use Rattle.fmp_statements.specs.Table.{parts_of}
 use Rattle.fmp_config.specs.Sound.{IsNamedAs, IsWhole}
-use Rattle.fmp_machine.specs.Building.{has_function}
+use Rattle.fmp_setup.specs.Building.{has_function}
 
 nothing_comes : (test : Item → Bool) (scan : Scan) (rest : List Part) → nat_eq (length rest) 0 ≡ true → is_nothing scan ≡ true → comes_next test scan || list_any (is_part_of test) rest ≡ false
 nothing_comes test scans.Nothing [] none is = refl

@@ -4,9 +4,9 @@ use Rattle.fmp_config.specs.declared.draft.OpenClass.{OpenClass}
 use Rattle.fmp_config.specs.declared.draft.Phase.{Phase}
 use Rattle.fmp_config.specs.declared.draft.Phase.TheVariants as phases
 use Rattle.fmp_config.specs.declared.draft.Draft.{Draft as Drafted}
-use Rattle.fmp_machine.specs.Building.{of_processors}
-use Rattle.fmp_machine.specs.Parts.{setup_of}
-use Rattle.fmp_machine.specs.Setup.{Setup}
+use Rattle.fmp_setup.specs.Building.{of_processors}
+use Rattle.fmp_setup.specs.Parts.{setup_of}
+use Rattle.fmp_setup.specs.Setup.{Setup}
 
 -- the configuration so far, the class whose statements follow, how far the text has come, and which statements stood
 pub record Draft : Type 0 where

@@ -14,10 +14,10 @@ use Rattle.fmp_statements.specs.Words.{Word}
 use Rattle.fmp_config.specs.declared.draft.Phase.TheVariants as phases
 use Rattle.fmp_config.specs.Drafts.{Draft}
 use Rattle.fmp_config.specs.Numbers.{number_within, numbers_of, class_of}
-use Rattle.fmp_machine.specs.declared.setup.Timer.{Timer}
-use Rattle.fmp_machine.specs.declared.setup.Timer.TheVariants as timer
-use Rattle.fmp_machine.specs.Building.{class_named, with_class, with_defined, with_timer, with_limits, with_processors}
-use Rattle.fmp_machine.specs.Setup.{Setup}
+use Rattle.fmp_setup.specs.declared.setup.Timer.{Timer}
+use Rattle.fmp_setup.specs.declared.setup.Timer.TheVariants as timer
+use Rattle.fmp_setup.specs.Building.{class_named, with_class, with_defined, with_timer, with_limits, with_processors}
+use Rattle.fmp_setup.specs.Setup.{Setup}
 use Rattle.fmp_config.specs.Objects.{new_name, create}
 
 -- ---- directives

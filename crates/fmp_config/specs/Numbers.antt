@@ -14,9 +14,9 @@ use Rattle.fmp_statements.specs.Pieces.{Pieces}
 use Rattle.fmp_statements.specs.Table.{first_range, second_range}
 use Rattle.fmp_statements.specs.Words.{Word}
 use Rattle.fmp_config.specs.declared.numbers.Numbers.{Numbers}
-use Rattle.fmp_machine.specs.declared.setup.Class.{Class}
-use Rattle.fmp_machine.specs.Setup.{Setup}
-use Rattle.fmp_machine.specs.Valid.{is_class_of}
+use Rattle.fmp_setup.specs.declared.setup.Class.{Class}
+use Rattle.fmp_setup.specs.Setup.{Setup}
+use Rattle.fmp_setup.specs.Valid.{is_class_of}
 
 -- what a word stands for: a numeral, or a defined name
 unfoldable pub value_of : NameLists → List ℕ → Option ℕ

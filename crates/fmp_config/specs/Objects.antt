@@ -18,15 +18,15 @@ use Rattle.fmp_statements.specs.Words.{Word}
 use Rattle.fmp_config.specs.declared.numbers.Numbers.{Numbers}
 use Rattle.fmp_config.specs.Drafts.{Draft}
 use Rattle.fmp_config.specs.Numbers.{numbers_of}
-use Rattle.fmp_machine.specs.declared.parts.Fields.{Fields}
-use Rattle.fmp_machine.specs.declared.parts.Fields.TheVariants as fields
-use Rattle.fmp_machine.specs.declared.setup.Class.{Class}
-use Rattle.fmp_machine.specs.declared.setup.Order.{Order}
-use Rattle.fmp_machine.specs.declared.setup.Order.TheVariants as orders
-use Rattle.fmp_machine.specs.declared.setup.Timer.{Timer}
-use Rattle.fmp_machine.specs.declared.setup.Timer.TheVariants as timer
-use Rattle.fmp_machine.specs.Building.{is_refused, with_object}
-use Rattle.fmp_machine.specs.Setup.{Setup, alone}
+use Rattle.fmp_setup.specs.declared.parts.Fields.{Fields}
+use Rattle.fmp_setup.specs.declared.parts.Fields.TheVariants as fields
+use Rattle.fmp_setup.specs.declared.setup.Class.{Class}
+use Rattle.fmp_setup.specs.declared.setup.Order.{Order}
+use Rattle.fmp_setup.specs.declared.setup.Order.TheVariants as orders
+use Rattle.fmp_setup.specs.declared.setup.Timer.{Timer}
+use Rattle.fmp_setup.specs.declared.setup.Timer.TheVariants as timer
+use Rattle.fmp_setup.specs.Building.{is_refused, with_object}
+use Rattle.fmp_setup.specs.Setup.{Setup, alone}
 
 -- a name that is to be new, where there is room for one more
 unfoldable pub new_name : Setup → Bool → ℕ → Word → Result (Unit {0}) Fault

@@ -19,7 +19,7 @@ use Rattle.fmp_config.specs.Drafts.{Draft, blank_draft, is_start}
 use Rattle.fmp_config.specs.Places.{place_fault}
 use Rattle.fmp_config.specs.Judging.{ended, judged}
 use Rattle.fmp_config.specs.Limits.{most_bytes}
-use Rattle.fmp_machine.specs.Setup.{Setup}
+use Rattle.fmp_setup.specs.Setup.{Setup}
 
 -- what was read, the statement and the directive whose tokens follow
 pub record State : Type 0 where

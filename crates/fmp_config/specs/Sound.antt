@@ -15,10 +15,10 @@ use Rattle.fmp_config.specs.declared.numbers.Numbers.{Numbers}
 use Rattle.fmp_config.specs.Drafts.{Draft, is_start, is_body}
 use Rattle.fmp_config.specs.Places.{place_fault}
 use Rattle.fmp_config.specs.Reading.{State}
-use Rattle.fmp_machine.specs.declared.setup.Timer.TheVariants as timer
-use Rattle.fmp_machine.specs.Building.{IsSoundClass, has_function}
-use Rattle.fmp_machine.specs.Setup.{Setup}
-use Rattle.fmp_machine.specs.Valid.{IsValid}
+use Rattle.fmp_setup.specs.declared.setup.Timer.TheVariants as timer
+use Rattle.fmp_setup.specs.Building.{IsSoundClass, has_function}
+use Rattle.fmp_setup.specs.Setup.{Setup}
+use Rattle.fmp_setup.specs.Valid.{IsValid}
 
 -- the class that is open is one of the configuration
 abbrev pub IsSoundOpen : Draft → Option OpenClass → Type 0

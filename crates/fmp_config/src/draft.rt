@@ -1,18 +1,18 @@
 //! What was read of a configuration, and how it grows by whole statements and directives.
 ghost use Rattle.std.specs.Prelude.{◌≡◌, ◌≤◌, true, false, OnOk, IfOk};
-ghost use Rattle.fmp_machine.specs.Building.{is_refused, kind_of};
+ghost use Rattle.fmp_setup.specs.Building.{is_refused, kind_of};
 ghost use Rattle.fmp_names.specs.Names.{has_room};
 ghost use Rattle.fmp_calls.specs.declared.kinds.NameKind.TheVariants.{Object};
 ghost use Rattle.fmp_config.specs.Judging as spec;
 ghost use Rattle.fmp_config.specs.Objects as objects;
 ghost use Rattle.fmp_config.specs.Places as places;
 ghost use Rattle.fmp_config.specs.Sound.{Fit};
-ghost use Rattle.fmp_machine.specs.Parts.{setup_of};
+ghost use Rattle.fmp_setup.specs.Parts.{setup_of};
 
 use crate::numbers::{Numbers, class_of, number_within, numbers_of};
 use fmp_calls::{NameKind, ObjectKind};
 use fmp_codes::{Pri, Proc};
-use fmp_machine::{
+use fmp_setup::{
     Class, CyclicFields, DataQueueSetup, EventflagSetup, Fields, Limits, Order, Parts, PoolSetup,
     SemaphoreSetup, TaskFields, Timer,
 };
@@ -251,7 +251,7 @@ impl Draft {
     ghost use Rattle.fmp_config.specs.Objects as objects;
     ghost use Rattle.fmp_config.specs.Places as places;
     ghost use Rattle.fmp_config.specs.Sound.{IsSound, IsSoundDirective, IsWhole, MayStandFor};
-    ghost use Rattle.fmp_machine.specs.Building.{has_function};
+    ghost use Rattle.fmp_setup.specs.Building.{has_function};
     ghost use Rattle.fmp_names.specs.Names.{is_name};
     ghost use Rattle.fmp_statements.specs.Outcomes.{Leads};
 

@@ -16,7 +16,7 @@ mod reading;
 
 pub use draft::{Draft, OpenClass, Phase};
 pub use fault::ConfigFault;
-pub use fmp_machine::Config;
+pub use fmp_setup::Config;
 pub use fmp_statements::ConfigKind;
 pub use numbers::Numbers;
 pub use reader::Reader;

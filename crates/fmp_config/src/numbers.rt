@@ -1,12 +1,12 @@
 //! The numbers of a statement, and classes.
 ghost use Rattle.std.specs.Prelude.{◌≡◌, ◌≤◌, ◌<◌, ◌^◌, length, true, Some, IfOk};
 ghost use Rattle.fmp_config.specs.Numbers as spec;
-ghost use Rattle.fmp_machine.specs.Parts.{setup_of};
-ghost use Rattle.fmp_machine.specs.Valid.{is_class_of};
+ghost use Rattle.fmp_setup.specs.Parts.{setup_of};
+ghost use Rattle.fmp_setup.specs.Valid.{is_class_of};
 
 use fmp_codes::Proc;
-use fmp_machine::{Class, Parts, is_class_of};
 use fmp_names::Names;
+use fmp_setup::{Class, Parts, is_class_of};
 use fmp_statements::{ConfigKind, Fault, Pieces, Range, StatementName, Word, numeral};
 
 /// The numbers of a statement, 0 where it has none.

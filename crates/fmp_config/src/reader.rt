@@ -5,7 +5,7 @@ ghost use Rattle.fmp_config.specs.Reading as spec;
 ghost use Rattle.fmp_config.specs.Sound.{IsSound};
 
 use crate::draft::Draft;
-use fmp_machine::Config;
+use fmp_setup::Config;
 use fmp_statements::{
     ConfigKind, Directive, Fault, Form, ReadError, StatementName, Word, find_statement, is_mark,
 };

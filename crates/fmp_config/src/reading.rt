@@ -7,7 +7,7 @@ ghost use Rattle.fmp_tokens.specs.Lexing.{lexed_text};
 
 use crate::fault::ConfigFault;
 use crate::reader::Reader;
-use fmp_machine::Config;
+use fmp_setup::Config;
 use fmp_statements::{ConfigKind, Fault, ReadError};
 use fmp_tokens::Lexer;
 use std::alloc::Global;

@@ -5,8 +5,8 @@ use Rattle.fmp_statements.specs.declared.table.StatementName.TheVariants as stat
 use Rattle.fmp_config.specs.Objects.{fields_of}
 use Rattle.fmp_statements.specs.Attributes.{no_attributes}
 use Rattle.fmp_names.specs.Names.{is_name}
-use Rattle.fmp_machine.specs.Building.{with_defined}
-use Rattle.fmp_machine.specs.Setup.{Setup}
+use Rattle.fmp_setup.specs.Building.{with_defined}
+use Rattle.fmp_setup.specs.Setup.{Setup}
 use Rattle.fmp_config_laws.specs.Elements.{Definition}
 use Rattle.fmp_config_laws.specs.Phrases.{Phrase}
 use Rattle.fmp_config_laws.specs.Stages.{Stage, Adds}

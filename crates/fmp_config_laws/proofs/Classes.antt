@@ -12,9 +12,9 @@ use Rattle.fmp_statements.specs.Folds.{each}
 use Rattle.fmp_statements.specs.Pieces.{Pieces}
 use Rattle.fmp_statements.specs.Words.{Word}
 use Rattle.fmp_config.specs.Numbers.{value_at, processor_of, processor_at, number_step, member_step, all_numbers, members_in, sound_class, class_of}
-use Rattle.fmp_machine.specs.declared.setup.Class.{Class}
-use Rattle.fmp_machine.specs.Setup.{Setup}
-use Rattle.fmp_machine.specs.Valid.{is_class_of}
+use Rattle.fmp_setup.specs.declared.setup.Class.{Class}
+use Rattle.fmp_setup.specs.Setup.{Setup}
+use Rattle.fmp_setup.specs.Valid.{is_class_of}
 use Rattle.fmp_config_laws.specs.Stages.{SpellsNumber, SpellNumbers, is_processor}
 use Rattle.fmp_config_laws.specs.Meaning.{members_of}
 use Rattle.fmp_config_laws.proofs.Results.{ok_is, bind_parts, passed, ok_or_parts, tested_some, each-cons, each_parts, each-none}

@@ -15,7 +15,7 @@ use Rattle.fmp_config.specs.Drafts.{Draft, blank_draft, is_start}
 use Rattle.fmp_config.specs.Limits.{most_bytes}
 use Rattle.fmp_config.specs.Reading.{State, at_start, take_token, closed, finished, setup_in, config_in}
 use Rattle.fmp_names.specs.Names.{number_defined}
-use Rattle.fmp_machine.specs.Setup.{Setup}
+use Rattle.fmp_setup.specs.Setup.{Setup}
 use Rattle.fmp_token_laws.specs.Tokens.{Glyph, glyph_of}
 use Rattle.fmp_token_laws.proofs.Reading.{tokens_are_read}
 use Rattle.fmp_token_laws.proofs.Spelled.{tokens_are_spelled}

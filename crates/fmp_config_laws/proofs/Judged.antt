@@ -19,11 +19,11 @@ use Rattle.fmp_config.specs.Drafts.{Draft}
 use Rattle.fmp_config.specs.Objects.{new_name, fitting_counts, counts_fit, is_handled, served, fields_of, fields_in, create_in, create}
 use Rattle.fmp_config.specs.Judging.{define}
 use Rattle.fmp_config.specs.Numbers.{numbers_of}
-use Rattle.fmp_machine.specs.declared.parts.Fields.{Fields}
-use Rattle.fmp_machine.specs.declared.setup.Class.{Class}
-use Rattle.fmp_machine.specs.declared.setup.Timer.{Timer}
-use Rattle.fmp_machine.specs.Building.{is_refused, with_object, with_defined}
-use Rattle.fmp_machine.specs.Setup.{Setup}
+use Rattle.fmp_setup.specs.declared.parts.Fields.{Fields}
+use Rattle.fmp_setup.specs.declared.setup.Class.{Class}
+use Rattle.fmp_setup.specs.declared.setup.Timer.{Timer}
+use Rattle.fmp_setup.specs.Building.{is_refused, with_object, with_defined}
+use Rattle.fmp_setup.specs.Setup.{Setup}
 use Rattle.fmp_config_laws.specs.Stages.{Stage, Adds}
 use Rattle.fmp_config_laws.specs.Meaning.{CreatesObject, together}
 use Rattle.fmp_config_laws.proofs.Results.{some_is, none_is, ok_is, err_is, bind_parts, passed, refused}

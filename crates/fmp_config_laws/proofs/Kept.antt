@@ -6,11 +6,11 @@ use Rattle.std.proofs.lemmas.Bool.{cases_Bool}
 use Rattle.std.proofs.lemmas.Slice.Eq.{bytes_eq-Decides}
 use Rattle.fmp_calls.specs.declared.kinds.ObjectKind.{ObjectKind}
 use Rattle.fmp_names.specs.Names.{NameLists, is_name, has_name, number_defined}
-use Rattle.fmp_machine.specs.declared.parts.Fields.{Fields}
-use Rattle.fmp_machine.specs.declared.parts.Fields.TheVariants.{Task, Semaphore, Eventflag, DataQueue, Pool, Cyclic, Alarm, SpinLock}
-use Rattle.fmp_machine.specs.declared.setup.Class.{Class}
-use Rattle.fmp_machine.specs.Building.{has_function, with_class, with_function, with_object_names, with_object, with_setup, with_defined, with_processors}
-use Rattle.fmp_machine.specs.Setup.{Setup}
+use Rattle.fmp_setup.specs.declared.parts.Fields.{Fields}
+use Rattle.fmp_setup.specs.declared.parts.Fields.TheVariants.{Task, Semaphore, Eventflag, DataQueue, Pool, Cyclic, Alarm, SpinLock}
+use Rattle.fmp_setup.specs.declared.setup.Class.{Class}
+use Rattle.fmp_setup.specs.Building.{has_function, with_class, with_function, with_object_names, with_object, with_setup, with_defined, with_processors}
+use Rattle.fmp_setup.specs.Setup.{Setup}
 use Rattle.fmp_config_laws.proofs.Numerals.{AreNames}
 use Rattle.fmp_config_laws.proofs.Results.{none_is}
 

@@ -4,7 +4,7 @@ use Rattle.std.specs.Prelude.{slice_set, slice_index_or, replicate}
 use Rattle.std.specs.List.{list_all, list_any, drop-map}
 use Rattle.std.proofs.lemmas.Bool.{and_parts, leb-true, ltb-true, ne_eqb}
 use Rattle.fmp_codes.specs.Numbers.{as_proc}
-use Rattle.fmp_machine.specs.Valid.{is_class_of}
+use Rattle.fmp_setup.specs.Valid.{is_class_of}
 use Rattle.fmp_config_laws.specs.Stages.{is_processor}
 use Rattle.fmp_config_laws.specs.Meaning.{members_of}
 

@@ -8,7 +8,7 @@ use Rattle.fmp_config.specs.declared.draft.Phase.{Phase}
 use Rattle.fmp_config.specs.declared.draft.Phase.TheVariants as phases
 use Rattle.fmp_config.specs.Drafts.{Draft}
 use Rattle.fmp_config.specs.Places.{place_fault}
-use Rattle.fmp_machine.specs.Setup.{Setup}
+use Rattle.fmp_setup.specs.Setup.{Setup}
 use Rattle.fmp_config_laws.specs.Meaning.{may_stand}
 use Rattle.fmp_config_laws.proofs.Stages.{stage_of}
 

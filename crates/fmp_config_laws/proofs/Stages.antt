@@ -15,7 +15,7 @@ use Rattle.fmp_config.specs.declared.numbers.Numbers.{Numbers}
 use Rattle.fmp_config.specs.Drafts.{Draft}
 use Rattle.fmp_config.specs.Objects.{counts_fit}
 use Rattle.fmp_config.specs.Numbers.{number_at, numbers_of}
-use Rattle.fmp_machine.specs.Setup.{Setup}
+use Rattle.fmp_setup.specs.Setup.{Setup}
 use Rattle.fmp_config_laws.specs.Stages.{Stage, SayNumbers}
 use Rattle.fmp_config_laws.specs.Phrases.{Phrase}
 use Rattle.fmp_config_laws.proofs.Results.{ok_is, bind_parts}

@@ -15,11 +15,11 @@ use Rattle.fmp_config.specs.Drafts.{Draft}
 use Rattle.fmp_config.specs.Objects.{new_name}
 use Rattle.fmp_config.specs.Judging.{count_processors, timer_of, choose_timer, set_limits, define_class, begin_class, judged}
 use Rattle.fmp_config.specs.Numbers.{number_within, numbers_of, class_of}
-use Rattle.fmp_machine.specs.declared.setup.Class.{Class}
-use Rattle.fmp_machine.specs.declared.setup.Timer.{Timer}
-use Rattle.fmp_machine.specs.declared.setup.Timer.TheVariants as timer
-use Rattle.fmp_machine.specs.Building.{class_named, with_class, with_timer, with_limits, with_processors}
-use Rattle.fmp_machine.specs.Setup.{Setup}
+use Rattle.fmp_setup.specs.declared.setup.Class.{Class}
+use Rattle.fmp_setup.specs.declared.setup.Timer.{Timer}
+use Rattle.fmp_setup.specs.declared.setup.Timer.TheVariants as timer
+use Rattle.fmp_setup.specs.Building.{class_named, with_class, with_timer, with_limits, with_processors}
+use Rattle.fmp_setup.specs.Setup.{Setup}
 use Rattle.fmp_config_laws.specs.Stages.{Stage, SpellsNumber, is_processor}
 use Rattle.fmp_config_laws.specs.Meaning.{DefinesClass, ChoosesTimer, Says}
 use Rattle.fmp_config_laws.proofs.Results.{ok_is, bind_parts, ok_or_parts}

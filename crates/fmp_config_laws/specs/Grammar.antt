@@ -1,7 +1,7 @@
 -- The grammar of configuration texts, apart from how they are read: which texts say which configuration.
 use Rattle.std.specs.Prelude.{◌≡◌, ℕ, false, List, None}
 use Rattle.fmp_config.specs.Drafts.{is_start}
-use Rattle.fmp_machine.specs.Setup.{Setup}
+use Rattle.fmp_setup.specs.Setup.{Setup}
 use Rattle.fmp_token_laws.specs.Tokens.{Glyph, SpellsTokens}
 use Rattle.fmp_config_laws.specs.Elements.{Element, SpellsElements}
 use Rattle.fmp_config_laws.specs.Clauses.{Clause, SpellsClauses}

@@ -15,9 +15,9 @@ use Rattle.fmp_config.specs.declared.draft.Phase.TheVariants as phases
 use Rattle.fmp_config.specs.declared.numbers.Numbers.{Numbers}
 use Rattle.fmp_config.specs.Drafts.{is_start}
 use Rattle.fmp_config.specs.Objects.{counts_fit, is_handled, fields_of}
-use Rattle.fmp_machine.specs.declared.setup.Class.{Class}
-use Rattle.fmp_machine.specs.declared.setup.Timer.TheVariants as timer
-use Rattle.fmp_machine.specs.Building.{class_named, is_refused, with_class, with_object, with_timer, with_limits, with_processors}
+use Rattle.fmp_setup.specs.declared.setup.Class.{Class}
+use Rattle.fmp_setup.specs.declared.setup.Timer.TheVariants as timer
+use Rattle.fmp_setup.specs.Building.{class_named, is_refused, with_class, with_object, with_timer, with_limits, with_processors}
 use Rattle.fmp_config_laws.specs.Phrases.{Phrase}
 use Rattle.fmp_config_laws.specs.Clauses.{Clause, Statement, EndOfClass, Defining, Skipping}
 use Rattle.fmp_config_laws.specs.Stages.{Stage, is_head, Adds, AddsAll, SpellsNumber, SayNumbers, SpellNumbers, is_processor}

@@ -8,9 +8,9 @@ use Rattle.fmp_statements.specs.Table.{first_range, second_range}
 use Rattle.fmp_config.specs.declared.draft.Phase.{Phase}
 use Rattle.fmp_config.specs.declared.draft.Phase.TheVariants as phases
 use Rattle.fmp_config.specs.declared.numbers.Numbers.{Numbers}
-use Rattle.fmp_machine.specs.declared.setup.Class.{Class}
-use Rattle.fmp_machine.specs.Building.{of_processors, is_refused, with_defined}
-use Rattle.fmp_machine.specs.Setup.{Setup}
+use Rattle.fmp_setup.specs.declared.setup.Class.{Class}
+use Rattle.fmp_setup.specs.Building.{of_processors, is_refused, with_defined}
+use Rattle.fmp_setup.specs.Setup.{Setup}
 use Rattle.fmp_config_laws.specs.Elements.{Definition}
 use Rattle.fmp_config_laws.specs.Phrases.{Phrase}
 

@@ -2,7 +2,7 @@
 ghost use Rattle.std.specs.Prelude.{◌≡◌, ◌≤◌, ℕ, List, length, Ok};
 ghost use Rattle.fmp_config.specs.Limits.{most_bytes};
 ghost use Rattle.fmp_config.specs.Reading.{config_in};
-ghost use Rattle.fmp_machine.specs.Setup.{Setup};
+ghost use Rattle.fmp_setup.specs.Setup.{Setup};
 ghost use Rattle.fmp_config_laws.specs.Grammar.{Configures};
 
 /// A text that says a configuration, within the limit, is read as that configuration.

@@ -1,7 +1,7 @@
 -- A data queue as an object: what the configuration says of it, its values, and its two wait queues.
 use Rattle.std.specs.Prelude.{ℤ, List, map, Option}
 use Rattle.fmp_codes.specs.declared.numbers.Task.{Task}
-use Rattle.fmp_machine.specs.declared.setup.DataQueueSetup.{DataQueueSetup}
+use Rattle.fmp_setup.specs.declared.setup.DataQueueSetup.{DataQueueSetup}
 use Rattle.fmp_machine.specs.World.{first}
 use Rattle.fmp_waitq.specs.Queue.{Waiter, task_of}
 

@@ -36,7 +36,7 @@ pub struct Dtq {
 
 impl Model for Dtq {
     ghost use Rattle.std.specs.Prelude.{◌≡◌, ◌≤◌, length};
-    ghost use Rattle.fmp_machine.specs.declared.setup.Order.TheVariants as order;
+    ghost use Rattle.fmp_setup.specs.declared.setup.Order.TheVariants as order;
     ghost use Rattle.fmp_dtq.specs.DataQueue.{DataQueue};
 
     ghost Value = { DataQueue };

@@ -1,12 +1,24 @@
 -- How the faults of texts are listed.
 use Rattle.std.specs.Prelude.{ℕ, List, [], ◌∷◌, ◌++◌, codes}
-use Rattle.fmp_help.specs.declared.faults.TheConstants.{CONFIG_KINDS, TEXT_KINDS}
 use Rattle.fmp_statements.specs.declared.fault.ConfigKind.{ConfigKind}
 use Rattle.fmp_statements.specs.declared.fault.ConfigKind.TheVariants as config
 use Rattle.fmp_statements.specs.Faults as configs
 use Rattle.fmp_text.specs.declared.fault.TextKind.{TextKind}
 use Rattle.fmp_text.specs.declared.fault.TextKind.TheVariants as text
 use Rattle.fmp_text.specs.Faults as texts
+
+-- the faults of a configuration, in the order of their numbers
+abbrev pub config_kinds : List ConfigKind
+config_kinds =
+    config.Syntax ∷ config.CutShort ∷ config.Unsupported ∷ config.OutsideClass ∷ config.UnknownClass ∷ config.NameTaken
+    ∷ config.OutOfRange ∷ config.BadAttribute ∷ config.TooMany ∷ config.NoProcessors ∷ config.BadClass ∷ config.Memory
+    ∷ config.ForeignHandler ∷ []
+
+-- the faults of events, scripts and traces, in the order of their numbers
+abbrev pub text_kinds : List TextKind
+text_kinds =
+    text.BadByte ∷ text.BadWord ∷ text.UnknownName ∷ text.WrongArguments ∷ text.NumberOutOfRange ∷ text.CutShort ∷ text.TooMany
+    ∷ text.Memory ∷ []
 
 -- what to do about a fault of a configuration
 abbrev pub config_advice : ConfigKind → List ℕ
@@ -62,8 +74,8 @@ text_lines (kind ∷ kinds) = text_line kind ++ text_lines kinds
 
 -- a line for each fault of a configuration
 unfoldable pub all_of_config : List ℕ
-all_of_config = config_lines CONFIG_KINDS
+all_of_config = config_lines config_kinds
 
 -- a line for each fault of events, scripts and traces
 unfoldable pub all_of_texts : List ℕ
-all_of_texts = text_lines TEXT_KINDS
+all_of_texts = text_lines text_kinds

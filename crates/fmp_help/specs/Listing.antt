@@ -3,7 +3,6 @@ use Rattle.std.specs.Prelude.{ℕ, Bool, true, false, List, ◌++◌, Option, So
 use Rattle.std.specs.Option.{option_or}
 use Rattle.std.specs.Str.{bytes_eq}
 use Rattle.fmp_calls.specs.Table.{named}
-use Rattle.fmp_help.specs.declared.faults.TheConstants.{CONFIG_KINDS, TEXT_KINDS}
 use Rattle.fmp_help.specs.Calls as calls
 use Rattle.fmp_help.specs.Faults as faults
 use Rattle.fmp_help.specs.LeftOut.{is_left_out}
@@ -26,8 +25,8 @@ left_out_line word = word ++ codes " is left out\n"
 -- what is told of a fault's number or of a name that is left out
 unfoldable pub of_fault_or_left_out : List ℕ → Option (List ℕ)
 of_fault_or_left_out word =
-    option_or (option_map faults.about_config (find (λ kind. bytes_eq (config.code_of kind) word) CONFIG_KINDS)) (
-    option_or (option_map faults.about_text (find (λ kind. bytes_eq (text.code_of kind) word) TEXT_KINDS)) (
+    option_or (option_map faults.about_config (find (λ kind. bytes_eq (config.code_of kind) word) faults.config_kinds)) (
+    option_or (option_map faults.about_text (find (λ kind. bytes_eq (text.code_of kind) word) faults.text_kinds)) (
     if is_left_out word then Some (left_out_line word) else None))
 
 -- what is told of a word: of a call, of a statement, of a fault, or of what is left out

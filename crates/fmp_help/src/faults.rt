@@ -188,7 +188,7 @@ pub(crate) fn put_text_faults(out: &mut Vec<u8>) -> Result<(), AllocError>
 
 /// The fault of a configuration with this number, such as `F7`.
 pub(crate) fn find_config_kind(word: &[u8]) -> Option<ConfigKind>
-    ensures { result ≡ find (λ kind. bytes_eq (config.code_of kind) word.now) CONFIG_KINDS }
+    ensures { result ≡ find (λ kind. bytes_eq (config.code_of kind) word.now) spec.config_kinds }
 {
     CONFIG_KINDS
         .iter()
@@ -198,7 +198,7 @@ pub(crate) fn find_config_kind(word: &[u8]) -> Option<ConfigKind>
 
 /// The fault of events, scripts and traces with this number, such as `E4`.
 pub(crate) fn find_text_kind(word: &[u8]) -> Option<TextKind>
-    ensures { result ≡ find (λ kind. bytes_eq (text.code_of kind) word.now) TEXT_KINDS }
+    ensures { result ≡ find (λ kind. bytes_eq (text.code_of kind) word.now) spec.text_kinds }
 {
     TEXT_KINDS
         .iter()

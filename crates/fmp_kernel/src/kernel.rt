@@ -1,7 +1,7 @@
 //! The kernel, which stands for a safe state of the model.
 ghost use Rattle.std.specs.Prelude.{◌≡◌, ◌≤◌, length, IfOk};
 ghost use Rattle.fmp_machine.specs.Boot.{booted};
-ghost use Rattle.fmp_machine.specs.Valid.{IsValid};
+ghost use Rattle.fmp_setup.specs.Valid.{IsValid};
 ghost use Rattle.fmp_machine.specs.Arrivals.{State, numbered};
 ghost use Rattle.fmp_machine.specs.Step.{step};
 ghost use Rattle.fmp_safety.specs.Safe.{Safe};

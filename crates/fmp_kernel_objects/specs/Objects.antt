@@ -1,9 +1,9 @@
 -- All objects for which tasks wait, with their wait queues.
 use Rattle.std.specs.Prelude.{ℤ, List}
 use Rattle.fmp_codes.specs.declared.numbers.Object.{Object}
-use Rattle.fmp_machine.specs.declared.setup.Order.{Order}
-use Rattle.fmp_machine.specs.declared.setup.Order.TheVariants as order
-use Rattle.fmp_machine.specs.declared.setup.DataQueueSetup.{DataQueueSetup}
+use Rattle.fmp_setup.specs.declared.setup.Order.{Order}
+use Rattle.fmp_setup.specs.declared.setup.Order.TheVariants as order
+use Rattle.fmp_setup.specs.declared.setup.DataQueueSetup.{DataQueueSetup}
 use Rattle.fmp_machine.specs.declared.machine.Semaphore.{Semaphore}
 use Rattle.fmp_machine.specs.declared.machine.Eventflag.{Eventflag}
 use Rattle.fmp_machine.specs.declared.machine.Pool.{Pool}
@@ -11,7 +11,7 @@ use Rattle.fmp_machine.specs.declared.machine.Wait.{Wait}
 use Rattle.fmp_machine.specs.declared.machine.Wait.TheVariants as wait
 use Rattle.fmp_machine.specs.declared.machine.QueueKind.{QueueKind}
 use Rattle.fmp_machine.specs.declared.machine.QueueKind.TheVariants as kind
-use Rattle.fmp_machine.specs.Setup.{Setup}
+use Rattle.fmp_setup.specs.Setup.{Setup}
 use Rattle.fmp_machine.specs.World.{World}
 use Rattle.fmp_machine.specs.Ordering.{order_among}
 use Rattle.fmp_machine.specs.Boot.{blank}

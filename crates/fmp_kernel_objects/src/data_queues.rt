@@ -2,7 +2,7 @@
 ghost use Rattle.std.specs.Prelude.{◌≡◌, ◌≤◌, ◌<◌, ◌++◌, ◌∷◌, [], length, map, slice_index_or, slice_set, IfOk};
 ghost use Rattle.fmp_machine.specs.Objects.{no_data_queue};
 ghost use Rattle.fmp_machine.specs.World.{first, rest, item, with_item};
-ghost use Rattle.fmp_machine.specs.declared.setup.Order.TheVariants as order;
+ghost use Rattle.fmp_setup.specs.declared.setup.Order.TheVariants as order;
 ghost use Rattle.fmp_waitq.specs.Queue.{task_of, left_by, joined_by, waiter_of};
 ghost use Rattle.fmp_kernel_objects.specs.Kinds.{no_queue};
 

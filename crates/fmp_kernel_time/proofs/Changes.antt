@@ -8,7 +8,7 @@ use Rattle.fmp_codes.specs.declared.numbers.Task.{Task}
 use Rattle.fmp_codes.specs.declared.numbers.Object.{Object}
 use Rattle.fmp_links.specs.Tasks.{without}
 use Rattle.fmp_links.proofs.Tasks.{gone_from, without_lacking}
-use Rattle.fmp_machine.specs.declared.setup.Timer.{Timer}
+use Rattle.fmp_setup.specs.declared.setup.Timer.{Timer}
 use Rattle.fmp_machine.specs.declared.machine.TaskRecord.{TaskRecord}
 use Rattle.fmp_machine.specs.declared.machine.Cyclic.{Cyclic}
 use Rattle.fmp_machine.specs.declared.machine.Alarm.{Alarm}

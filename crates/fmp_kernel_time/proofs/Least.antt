@@ -5,13 +5,13 @@ use Rattle.std.proofs.lemmas.Bool.{cases_lt, cases_eq, lt-ltb, le-ltb, eq-eqb, n
 use Rattle.fmp_codes.specs.declared.numbers.Proc.{Proc}
 use Rattle.fmp_codes.specs.declared.numbers.Task.{Task}
 use Rattle.fmp_links.specs.Tasks.{has_task}
-use Rattle.fmp_machine.specs.declared.setup.Timer.{Timer}
-use Rattle.fmp_machine.specs.declared.setup.Timer.TheVariants as timer
+use Rattle.fmp_setup.specs.declared.setup.Timer.{Timer}
+use Rattle.fmp_setup.specs.declared.setup.Timer.TheVariants as timer
 use Rattle.fmp_machine.specs.declared.machine.TaskRecord.{TaskRecord}
 use Rattle.fmp_machine.specs.declared.machine.Cyclic.{Cyclic}
 use Rattle.fmp_machine.specs.declared.machine.Alarm.{Alarm}
 use Rattle.fmp_machine.specs.Due.{HasLeft, AreLeft, IsLeast}
-use Rattle.fmp_machine.specs.Setup.{counts_for}
+use Rattle.fmp_setup.specs.Setup.{counts_for}
 use Rattle.fmp_machine.specs.World.{no_task}
 use Rattle.fmp_time.specs.declared.item.Item.{Item}
 use Rattle.fmp_time.specs.declared.item.Item.TheVariants.{Wait, Alarm as AlarmItem, Cyclic as CyclicItem}

@@ -1,11 +1,11 @@
 -- The timers count on the processors to which things are assigned.
 use Rattle.std.specs.Prelude.{◌≡◌, ℕ, ◌+◌, ◌-◌, ◌<◌, ◌≤◌, Option, None, Some, List, length, nat_lt, slice_index_or, if◌then◌else◌, ◌==◌, min}
 use Rattle.fmp_codes.specs.declared.numbers.Proc.{Proc}
-use Rattle.fmp_machine.specs.declared.setup.Timer.{Timer}
+use Rattle.fmp_setup.specs.declared.setup.Timer.{Timer}
 use Rattle.fmp_machine.specs.declared.machine.TaskRecord.{TaskRecord}
 use Rattle.fmp_machine.specs.declared.machine.Cyclic.{Cyclic}
 use Rattle.fmp_machine.specs.declared.machine.Alarm.{Alarm}
-use Rattle.fmp_machine.specs.Setup.{counts_for}
+use Rattle.fmp_setup.specs.Setup.{counts_for}
 use Rattle.fmp_machine.specs.World.{no_task}
 use Rattle.fmp_time.specs.declared.item.Item.{Item}
 use Rattle.fmp_time.specs.Left.{Left}

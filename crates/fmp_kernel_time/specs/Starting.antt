@@ -1,7 +1,7 @@
 -- The handlers at boot.
 use Rattle.std.specs.Prelude.{ℕ, ◌+◌, ◌-◌, Option, None, Some, List, nat_lt, slice_index_or, if◌then◌else◌}
-use Rattle.fmp_machine.specs.declared.setup.CyclicSetup.{CyclicSetup}
-use Rattle.fmp_machine.specs.declared.setup.AlarmSetup.{AlarmSetup}
+use Rattle.fmp_setup.specs.declared.setup.CyclicSetup.{CyclicSetup}
+use Rattle.fmp_setup.specs.declared.setup.AlarmSetup.{AlarmSetup}
 use Rattle.fmp_machine.specs.declared.machine.Cyclic.{Cyclic}
 use Rattle.fmp_machine.specs.declared.machine.Alarm.{Alarm}
 use Rattle.fmp_time.specs.Left.{Left}

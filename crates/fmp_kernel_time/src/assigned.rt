@@ -2,7 +2,7 @@
 ghost use Rattle.std.specs.Prelude.{◌≡◌, ◌≤◌, None, [], length, map, true};
 ghost use Rattle.fmp_codes.specs.declared.numbers.Task.{Task as AnyTask};
 ghost use Rattle.fmp_machine.specs.Boot.{phase_left};
-ghost use Rattle.fmp_machine.specs.Setup.{counts_for};
+ghost use Rattle.fmp_setup.specs.Setup.{counts_for};
 ghost use Rattle.fmp_machine.specs.Tick.{lowered, expired, tasks_expired};
 ghost use Rattle.fmp_machine.specs.World.{item, with_item, no_task, resting};
 ghost use Rattle.fmp_links.specs.Tasks.{has_task, without};

@@ -7,11 +7,11 @@ use Rattle.fmp_codes.specs.Numbers.{as_task, within}
 use Rattle.fmp_codes.specs.declared.numbers.Proc.{Proc}
 use Rattle.fmp_codes.specs.declared.numbers.Task.{Task}
 use Rattle.fmp_codes.specs.declared.numbers.Object.{Object}
-use Rattle.fmp_machine.specs.declared.setup.TaskSetup.{TaskSetup}
+use Rattle.fmp_setup.specs.declared.setup.TaskSetup.{TaskSetup}
 use Rattle.fmp_machine.specs.declared.machine.TaskRecord.{TaskRecord}
 use Rattle.fmp_machine.specs.declared.machine.QueueKind.{QueueKind}
 use Rattle.fmp_machine.specs.declared.machine.QueueKind.TheVariants as kind
-use Rattle.fmp_machine.specs.Setup.{Setup}
+use Rattle.fmp_setup.specs.Setup.{Setup}
 use Rattle.fmp_machine.specs.World.{World, with_item, no_task, task, processor, with_processor, processors_to, resting}
 use Rattle.fmp_machine.specs.Ordering.{is_runnable, waits_in, order_in}
 use Rattle.fmp_machine.specs.Arrivals.{State, numbered, rank_in}

@@ -13,7 +13,7 @@ use Rattle.fmp_codes.specs.declared.records.Record.{Record}
 use Rattle.fmp_machine.specs.Effects.{Effect}
 use Rattle.fmp_machine.specs.declared.machine.Processor.{Processor}
 use Rattle.fmp_machine.specs.World.{World, item, processor, handler, runner_of, is_held, processors_of}
-use Rattle.fmp_machine.specs.Setup.{has_time}
+use Rattle.fmp_setup.specs.Setup.{has_time}
 use Rattle.fmp_machine.specs.Ordering.{order_in, top}
 use Rattle.fmp_machine.specs.Arrivals.{State, numbered}
 use Rattle.fmp_machine.specs.Rows.{called}

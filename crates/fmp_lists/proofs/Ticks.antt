@@ -8,7 +8,7 @@ use Rattle.fmp_codes.specs.declared.records.Release.{Release}
 use Rattle.fmp_codes.specs.declared.records.Runner.TheVariants as runner
 use Rattle.fmp_codes.specs.declared.records.Answer.TheVariants as answer
 use Rattle.fmp_machine.specs.Effects.{Effect}
-use Rattle.fmp_machine.specs.Setup.{counts_for}
+use Rattle.fmp_setup.specs.Setup.{counts_for}
 use Rattle.fmp_machine.specs.World.{World, task, item}
 use Rattle.fmp_machine.specs.Objects.{cyclic}
 use Rattle.fmp_machine.specs.Ordering.{order_in}

@@ -10,7 +10,7 @@ use Rattle.fmp_codes.specs.declared.numbers.Object.{Object}
 use Rattle.fmp_codes.specs.declared.numbers.Pri.{Pri}
 use Rattle.fmp_machine.specs.declared.machine.TaskRecord.{TaskRecord}
 use Rattle.fmp_machine.specs.declared.machine.QueueKind.{QueueKind}
-use Rattle.fmp_machine.specs.declared.setup.Order.{Order}
+use Rattle.fmp_setup.specs.declared.setup.Order.{Order}
 use Rattle.fmp_machine.specs.World.{no_task, first}
 use Rattle.fmp_machine.specs.Ordering.{is_runnable}
 use Rattle.fmp_machine.specs.Arrivals.{Arrivals, numbered, comes_before, priority_in, is_ready_on, rank_in, in_order}

@@ -5,7 +5,7 @@ use Rattle.std.proofs.lemmas.Bool.{cases_Bool, both_ways, false≢true, false_fr
 use Rattle.std.proofs.lemmas.List.{length-set}
 use Rattle.fmp_codes.specs.declared.numbers.Task.{Task}
 use Rattle.fmp_codes.specs.declared.numbers.Object.{Object}
-use Rattle.fmp_machine.specs.declared.setup.Order.{Order}
+use Rattle.fmp_setup.specs.declared.setup.Order.{Order}
 use Rattle.fmp_machine.specs.declared.machine.TaskRecord.{TaskRecord}
 use Rattle.fmp_machine.specs.declared.machine.Wait.{Wait}
 use Rattle.fmp_machine.specs.declared.machine.QueueKind.{QueueKind}

@@ -6,7 +6,7 @@ use Rattle.std.proofs.lemmas.Option.{none-some, same_Some}
 use Rattle.std.proofs.lemmas.List.{length-set, get_or_past}
 use Rattle.fmp_codes.specs.declared.numbers.Task.{Task}
 use Rattle.fmp_codes.specs.declared.numbers.Object.{Object}
-use Rattle.fmp_machine.specs.declared.setup.Order.{Order}
+use Rattle.fmp_setup.specs.declared.setup.Order.{Order}
 use Rattle.fmp_machine.specs.declared.machine.TaskRecord.{TaskRecord}
 use Rattle.fmp_machine.specs.declared.machine.Wait.{Wait}
 use Rattle.fmp_machine.specs.declared.machine.Wait.TheVariants as wait

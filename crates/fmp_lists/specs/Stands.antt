@@ -6,8 +6,8 @@ use Rattle.fmp_codes.specs.declared.numbers.Object.{Object}
 use Rattle.fmp_codes.specs.declared.numbers.Pri.{Pri}
 use Rattle.fmp_codes.specs.declared.records.Record.{Record}
 use Rattle.fmp_machine.specs.Effects.{Effect}
-use Rattle.fmp_machine.specs.declared.setup.Order.{Order}
-use Rattle.fmp_machine.specs.declared.setup.DataQueueSetup.{DataQueueSetup}
+use Rattle.fmp_setup.specs.declared.setup.Order.{Order}
+use Rattle.fmp_setup.specs.declared.setup.DataQueueSetup.{DataQueueSetup}
 use Rattle.fmp_machine.specs.declared.machine.TaskRecord.{TaskRecord}
 use Rattle.fmp_machine.specs.declared.machine.Semaphore.{Semaphore}
 use Rattle.fmp_machine.specs.declared.machine.Eventflag.{Eventflag}

@@ -1,8 +1,8 @@
 //! Laws of the machine with lists.
 ghost use Rattle.std.specs.Prelude.{◌≡◌, ◌≤◌, length};
 ghost use Rattle.fmp_codes.specs.declared.records.Event.{Event};
-ghost use Rattle.fmp_machine.specs.Setup.{Setup};
-ghost use Rattle.fmp_machine.specs.Valid.{IsValid};
+ghost use Rattle.fmp_setup.specs.Setup.{Setup};
+ghost use Rattle.fmp_setup.specs.Valid.{IsValid};
 ghost use Rattle.fmp_machine.specs.World.{World};
 ghost use Rattle.fmp_machine.specs.Arrivals.{State, numbered};
 ghost use Rattle.fmp_machine.specs.Step as machine;

@@ -8,8 +8,3 @@ mod WorkedObjects  -- Scenarios of objects, computed. Each list is of the record
 mod MoreTasks  -- More scenarios of tasks and processors, computed
 mod MoreTime  -- More scenarios of ticks and handlers, computed
 mod MoreObjects  -- More scenarios of objects, computed. Each list is of the records that the machine makes of its own events.
-pub mod Classes  -- The classes and their names, in two lists or in one.
-pub mod Named  -- Names that are added, and the numbers of functions.
-pub mod Growing  -- A configuration stays valid as it grows.
-pub mod Objects  -- A configuration stays valid as an object is added.
-pub mod Same  -- The comparison of what a configuration says decides equality.

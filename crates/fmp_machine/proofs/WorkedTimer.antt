@@ -9,10 +9,10 @@ use Rattle.fmp_codes.specs.declared.calls.TimeCall.TheVariants as time
 use Rattle.fmp_codes.specs.declared.calls.SystemCall.TheVariants as system
 use Rattle.fmp_codes.specs.declared.codes.Code.TheVariants as code
 use Rattle.fmp_codes.specs.declared.records.Answer.TheVariants as answer
-use Rattle.fmp_machine.specs.declared.setup.Timer.TheVariants as timer
-use Rattle.fmp_machine.specs.declared.setup.TaskSetup.{TaskSetup}
-use Rattle.fmp_machine.specs.Setup.{Setup, of_tasks, MayHandle}
-use Rattle.fmp_machine.specs.Valid.{IsTimerOf, AreLimits}
+use Rattle.fmp_setup.specs.declared.setup.Timer.TheVariants as timer
+use Rattle.fmp_setup.specs.declared.setup.TaskSetup.{TaskSetup}
+use Rattle.fmp_setup.specs.Setup.{Setup, of_tasks, MayHandle}
+use Rattle.fmp_setup.specs.Valid.{IsTimerOf, AreLimits}
 use Rattle.fmp_machine.specs.Arrivals.{numbered}
 use Rattle.fmp_machine.specs.TaskCalls.{act, dly_tsk, mig_tsk, wup, can_wup, chg_pri}
 use Rattle.fmp_machine.specs.SystemCalls.{rotation}

@@ -5,8 +5,8 @@ use Rattle.fmp_codes.specs.declared.numbers.Proc.{Proc}
 use Rattle.fmp_codes.specs.declared.numbers.Task.{Task}
 use Rattle.fmp_codes.specs.declared.numbers.Object.{Object}
 use Rattle.fmp_codes.specs.declared.numbers.Pri.{Pri}
-use Rattle.fmp_machine.specs.declared.setup.Class.{Class}
-use Rattle.fmp_machine.specs.declared.setup.Limits.{Limits}
+use Rattle.fmp_setup.specs.declared.setup.Class.{Class}
+use Rattle.fmp_setup.specs.declared.setup.Limits.{Limits}
 use Rattle.fmp_machine.specs.World.{World, task, processor}
 
 -- the number that an argument names, where there are so many

@@ -1,5 +1,3 @@
-pub mod Setup  -- What a configuration says: lists in the order of the numbers, which begin at 1.
-pub mod Valid  -- When a configuration is valid.
 pub mod World  -- The state of the machine, over any way Q to keep what came before what.
 pub mod Objects  -- Look-ups of the objects, and what of them a task may wait for.
 pub mod Ordering  -- Ways to keep what came before what, and the words by which tasks change.
@@ -19,6 +17,4 @@ pub mod Tick  -- A tick: the counts fall, and what reaches 0 is served.
 pub mod Step  -- One step of the machine, and runs.
 pub mod Boot  -- The state at boot.
 pub mod Outcomes  -- How the code of a call answers: with an effect, or with the code that refuses the call.
-pub mod Parts  -- The configuration that its parts hold.
-pub mod Building  -- A configuration grows by classes, objects and defined names.
 pub mod Due  -- The least ticks left for which a tick on a processor counts.

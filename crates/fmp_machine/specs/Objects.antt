@@ -6,38 +6,20 @@ use Rattle.fmp_codes.specs.Numbers.{as_proc}
 use Rattle.fmp_codes.specs.declared.numbers.Object.{Object}
 use Rattle.fmp_codes.specs.declared.calls.Mode.{Mode}
 use Rattle.fmp_codes.specs.declared.calls.Mode.TheVariants as mode
-use Rattle.fmp_machine.specs.declared.setup.Order.TheVariants as order
-use Rattle.fmp_machine.specs.declared.setup.SemaphoreSetup.{SemaphoreSetup}
-use Rattle.fmp_machine.specs.declared.setup.EventflagSetup.{EventflagSetup}
-use Rattle.fmp_machine.specs.declared.setup.DataQueueSetup.{DataQueueSetup}
-use Rattle.fmp_machine.specs.declared.setup.PoolSetup.{PoolSetup}
-use Rattle.fmp_machine.specs.declared.setup.CyclicSetup.{CyclicSetup}
-use Rattle.fmp_machine.specs.declared.setup.AlarmSetup.{AlarmSetup}
+use Rattle.fmp_setup.specs.declared.setup.Order.TheVariants as order
+use Rattle.fmp_setup.specs.declared.setup.SemaphoreSetup.{SemaphoreSetup}
+use Rattle.fmp_setup.specs.declared.setup.EventflagSetup.{EventflagSetup}
+use Rattle.fmp_setup.specs.declared.setup.DataQueueSetup.{DataQueueSetup}
+use Rattle.fmp_setup.specs.declared.setup.PoolSetup.{PoolSetup}
+use Rattle.fmp_setup.specs.declared.setup.CyclicSetup.{CyclicSetup}
+use Rattle.fmp_setup.specs.declared.setup.AlarmSetup.{AlarmSetup}
 use Rattle.fmp_machine.specs.declared.machine.Semaphore.{Semaphore}
 use Rattle.fmp_machine.specs.declared.machine.Eventflag.{Eventflag}
 use Rattle.fmp_machine.specs.declared.machine.Pool.{Pool}
 use Rattle.fmp_machine.specs.declared.machine.Cyclic.{Cyclic}
 use Rattle.fmp_machine.specs.declared.machine.Alarm.{Alarm}
+pub use Rattle.fmp_setup.specs.Setup.{no_semaphore, no_eventflag, no_data_queue, no_pool, no_cyclic, no_alarm}
 use Rattle.fmp_machine.specs.World.{World, no_task, item}
-
--- what stands where there is no object of a kind
-abbrev pub no_semaphore : SemaphoreSetup
-no_semaphore = record { order = order.First; initial = 0; most = 1 }
-
-abbrev pub no_eventflag : EventflagSetup
-no_eventflag = record { order = order.First; many = false; clears = false; initial = 0 }
-
-abbrev pub no_data_queue : DataQueueSetup
-no_data_queue = record { order = order.First; capacity = 0 }
-
-abbrev pub no_pool : PoolSetup
-no_pool = record { order = order.First; blocks = 1 }
-
-abbrev pub no_cyclic : CyclicSetup
-no_cyclic = record { class = no_task.setup.class; handler = 1; period = 1; phase = 0; starts = false }
-
-abbrev pub no_alarm : AlarmSetup
-no_alarm = record { class = no_task.setup.class; handler = 1 }
 
 abbrev pub blank_semaphore : Semaphore
 blank_semaphore = record { setup = no_semaphore; count = 0 }

@@ -4,9 +4,9 @@ use Rattle.fmp_codes.specs.declared.numbers.Proc.{Proc}
 use Rattle.fmp_codes.specs.declared.numbers.Task.{Task}
 use Rattle.fmp_codes.specs.declared.numbers.Object.{Object}
 use Rattle.fmp_codes.specs.declared.numbers.Pri.{Pri}
-use Rattle.fmp_machine.specs.declared.setup.Order.{Order}
-use Rattle.fmp_machine.specs.declared.setup.Order.TheVariants as order
-use Rattle.fmp_machine.specs.declared.setup.DataQueueSetup.{DataQueueSetup}
+use Rattle.fmp_setup.specs.declared.setup.Order.{Order}
+use Rattle.fmp_setup.specs.declared.setup.Order.TheVariants as order
+use Rattle.fmp_setup.specs.declared.setup.DataQueueSetup.{DataQueueSetup}
 use Rattle.fmp_machine.specs.declared.machine.Semaphore.{Semaphore}
 use Rattle.fmp_machine.specs.declared.machine.Eventflag.{Eventflag}
 use Rattle.fmp_machine.specs.declared.machine.Pool.{Pool}

@@ -12,7 +12,7 @@ use Rattle.fmp_codes.specs.declared.records.Answer.TheVariants as answer
 use Rattle.fmp_codes.specs.declared.records.Record.{Record}
 use Rattle.fmp_codes.specs.declared.records.Runner.{Runner}
 use Rattle.fmp_machine.specs.Effects.{Effect}
-use Rattle.fmp_machine.specs.Setup.{has_time}
+use Rattle.fmp_setup.specs.Setup.{has_time}
 use Rattle.fmp_machine.specs.World.{World, processor, with_processor, handler, runner_of, is_held, item, processors_of}
 use Rattle.fmp_machine.specs.Ordering.{Ordering, top}
 use Rattle.fmp_machine.specs.Rows.{Row, called, plain}

@@ -1,7 +1,7 @@
 //! The plain machine, and how many steps it made.
 ghost use Rattle.std.specs.Prelude.{◌≡◌, ◌+◌, ◌<◌, IfOk};
 ghost use Rattle.fmp_machine.specs.Boot.{booted};
-ghost use Rattle.fmp_machine.specs.Valid.{IsValid};
+ghost use Rattle.fmp_setup.specs.Valid.{IsValid};
 ghost use Rattle.fmp_machine.specs.Arrivals.{numbered};
 ghost use Rattle.fmp_machine.specs.Step.{step};
 ghost use Rattle.fmp_safety.specs.Safe.{Safe};

@@ -2,7 +2,7 @@
 ghost use Rattle.std.specs.Prelude.{◌≡◌, ◌≤◌, None, length, map, filter, slice_index_or, slice_set};
 ghost use Rattle.std.specs.List.{range_with_len};
 ghost use Rattle.fmp_codes.specs.Numbers.{as_object};
-ghost use Rattle.fmp_machine.specs.Setup.{counts_for};
+ghost use Rattle.fmp_setup.specs.Setup.{counts_for};
 ghost use Rattle.fmp_machine.specs.World.{item};
 ghost use Rattle.fmp_machine.specs.Tick.{is_over, one_less, lowered, tasks_expired};
 

@@ -18,7 +18,7 @@ pub(crate) struct Handlers {
 impl Handlers {
     ghost use Rattle.std.specs.Prelude.{◌≡◌, None, map};
     ghost use Rattle.fmp_machine.specs.Boot.{phase_left};
-    ghost use Rattle.fmp_machine.specs.Setup.{counts_for};
+    ghost use Rattle.fmp_setup.specs.Setup.{counts_for};
     ghost use Rattle.fmp_machine.specs.Tick.{lowered};
 
     /// Those of a configuration, before any tick.

@@ -19,9 +19,9 @@ use Rattle.fmp_codes.specs.declared.records.Runner.TheVariants as runner
 use Rattle.fmp_calls.specs.Arguments.{EventInBits}
 use Rattle.fmp_machine.specs.Effects.{Effect}
 use Rattle.fmp_machine.specs.declared.machine.TaskRecord.{TaskRecord}
-use Rattle.fmp_machine.specs.Setup.{Setup}
-use Rattle.fmp_machine.specs.Valid.{IsValid}
-use Rattle.fmp_machine.specs.Setup.{has_time}
+use Rattle.fmp_setup.specs.Setup.{Setup}
+use Rattle.fmp_setup.specs.Valid.{IsValid}
+use Rattle.fmp_setup.specs.Setup.{has_time}
 use Rattle.fmp_machine.specs.World.{World, no_task, item, first, processor, handler, runner_of, is_held}
 use Rattle.fmp_machine.specs.Ordering.{Ordering}
 use Rattle.fmp_machine.specs.Arrivals.{State, numbered}

@@ -8,7 +8,7 @@ use Rattle.fmp_codes.specs.declared.records.Runner.TheVariants as runner
 use Rattle.fmp_codes.specs.declared.records.Release.{Release}
 use Rattle.fmp_codes.specs.declared.records.Record.{Record}
 use Rattle.fmp_machine.specs.declared.machine.Wait.TheVariants as wait
-use Rattle.fmp_machine.specs.Setup.{Setup}
+use Rattle.fmp_setup.specs.Setup.{Setup}
 use Rattle.fmp_machine.specs.World.{World, task}
 
 pub record Counts : Type 0 where

@@ -7,7 +7,7 @@ use Rattle.fmp_codes.specs.declared.numbers.Proc.{Proc}
 use Rattle.fmp_codes.specs.declared.records.Event.{Event}
 use Rattle.fmp_codes.specs.declared.records.Event.TheVariants as event
 use Rattle.fmp_codes.specs.declared.records.Record.{Record}
-use Rattle.fmp_machine.specs.Setup.{Setup}
+use Rattle.fmp_setup.specs.Setup.{Setup}
 use Rattle.fmp_safety.proofs.Items.{proc_same}
 use Rattle.fmp_scripts.specs.Scripts.{Steps}
 use Rattle.fmp_smp.specs.Seeds.{AreSeated}

@@ -10,13 +10,13 @@ use Rattle.fmp_codes.specs.declared.records.Event.{Event}
 use Rattle.fmp_codes.specs.declared.records.Event.TheVariants as event
 use Rattle.fmp_codes.specs.declared.records.Record.{Record}
 use Rattle.fmp_codes.specs.declared.records.Runner.{Runner}
-use Rattle.fmp_machine.specs.declared.setup.Timer.{Timer}
-use Rattle.fmp_machine.specs.declared.setup.Timer.TheVariants.{Local, Global}
+use Rattle.fmp_setup.specs.declared.setup.Timer.{Timer}
+use Rattle.fmp_setup.specs.declared.setup.Timer.TheVariants.{Local, Global}
 use Rattle.fmp_machine.specs.Arrivals.{numbered}
 use Rattle.fmp_machine.specs.Boot.{booted}
-use Rattle.fmp_machine.specs.Setup.{Setup, has_time}
+use Rattle.fmp_setup.specs.Setup.{Setup, has_time}
 use Rattle.fmp_machine.specs.Step.{replay}
-use Rattle.fmp_machine.specs.Valid.{IsValid}
+use Rattle.fmp_setup.specs.Valid.{IsValid}
 use Rattle.fmp_machine.specs.World.{processor, runner_of, is_held}
 use Rattle.fmp_safety.proofs.Booted.{runs_safe}
 use Rattle.fmp_safety.specs.Safe.{Safe, SafeAt}

@@ -5,9 +5,9 @@ use Rattle.fmp_codes.specs.Numbers.{as_proc}
 use Rattle.fmp_codes.specs.declared.numbers.Proc.{Proc}
 use Rattle.fmp_codes.specs.declared.records.Answer.{Answer}
 use Rattle.fmp_codes.specs.declared.records.Record.{Record}
-use Rattle.fmp_machine.specs.declared.setup.Timer.{Timer}
-use Rattle.fmp_machine.specs.declared.setup.Timer.TheVariants.{Local, Global}
-use Rattle.fmp_machine.specs.Setup.{Setup}
+use Rattle.fmp_setup.specs.declared.setup.Timer.{Timer}
+use Rattle.fmp_setup.specs.declared.setup.Timer.TheVariants.{Local, Global}
+use Rattle.fmp_setup.specs.Setup.{Setup}
 use Rattle.fmp_world.specs.declared.seats.Turn.{Turn}
 use Rattle.fmp_world.specs.declared.seats.Turn.TheVariants.{Made, Nothing, Full}
 use Rattle.fmp_world.specs.Ends.{is_of_clock}

@@ -120,20 +120,3 @@ script main1
 end
 ",
 };
-
-/// The one task waits for the next tick, and the ticks of P1 alone count.
-pub const MASTER: Play = Play {
-    config: "\
-PROCESSORS(2);
-TIMER(GLOBAL, 1);
-DEF_CLASS(C1, 1, {1, 2});
-DEF_CLASS(C2, 2, {1, 2});
-CLASS(C1) { CRE_TSK(T1, {TA_ACT, 0, main1, 10, 4096, NULL}); }
-CLASS(C2) { CRE_TSK(T2, {TA_ACT, 0, main2, 10, 4096, NULL}); }
-",
-    scripts: "\
-script main2
-  dly_tsk(0)
-end
-",
-};

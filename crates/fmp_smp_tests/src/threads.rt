@@ -1,18 +1,18 @@
 //! Runs of processors that follow scripts, from bytes to bytes over memory.
-ghost use Rattle.std.specs.Prelude.{◌≡◌, ◌≤◌};
+ghost use Rattle.std.specs.Prelude.{◌≡◌};
 
 use crate::texts::REMOTE;
 use fmp_check::Verdict;
 use fmp_smp::Open;
 use fmp_world::Ended;
-use fmpsim_run::{MemSink, MemSource, RunFault, run_check, run_seeded, run_threads};
+use fmpsim_run::{MemSink, MemSource, RunFault, run_check, run_threads};
 use std::alloc::Global;
 use std::process::Abort;
 use std::sync::Wait;
 use std::test::Fail;
 use std::thread::Threads;
 
-/// In this order where the second to the fourth number of the seed are odd: both processors can move there, and the second does.
+/// One of the orders.
 const TRACE: &[u8] = b"\
 1 P1 T1 act_tsk(T2) E_OK ipi=2
 2 P2 - ipi taken run=T2
@@ -22,45 +22,6 @@ const TRACE: &[u8] = b"\
 ";
 
 const FIRST_LINE: &[u8] = b"1 P1 T1 act_tsk(T2) E_OK ipi=2\n";
-
-/// The second to the fourth number of SplitMix64 from it are odd.
-const SEED: u64 = 3;
-
-/// A run over memory in the order of the seed.
-fn seeded(alloc: Global, trace: &mut MemSink, turns: u32) -> Result<Ended, RunFault>
-    requires calls { trace.old.failures ≡ 0 }
-    requires least { 1 ≤ turns }
-    requires most { turns ≤ 1000000 }
-{
-    let mut config = MemSource::new(REMOTE.config.as_bytes());
-    let mut scripts = MemSource::new(REMOTE.scripts.as_bytes());
-    run_seeded(alloc, &mut config, &mut scripts, trace, 0, turns, SEED)
-}
-
-fn seeded_gives(
-    rt: &impl Abort,
-    alloc: Global,
-    turns: u32,
-    ended: Ended,
-    text: &[u8],
-) -> Result<(), Fail>
-    requires least { 1 ≤ turns }
-    requires most { turns ≤ 1000000 }
-{
-    let mut trace = MemSink::with_room(alloc, 1000)?;
-    assert_eq!(rt; seeded(alloc, &mut trace, turns)?, ended);
-    assert_eq!(rt; trace.bytes(), text);
-    Ok(())
-}
-
-/// A run that is quiet and full at once is quiet.
-#[test]
-fn order_of_a_seed(rt: HostRuntime) -> Result<(), Fail> {
-    let alloc = rt.alloc();
-    seeded_gives(&rt, alloc, 6, Ended::Quiet, TRACE)?;
-    seeded_gives(&rt, alloc, 5, Ended::Quiet, TRACE)?;
-    seeded_gives(&rt, alloc, 1, Ended::Limit, FIRST_LINE)
-}
 
 /// A run over these devices in threads.
 fn threaded<T: Threads + Wait + Sync>(
@@ -122,52 +83,6 @@ fn stops<T: Threads + Wait + Sync + Abort>(
     };
     assert_eq!(rt; format!(in alloc; "{told}")?.as_str(), fault);
     assert_eq!(rt; trace.bytes().len(), written);
-    Ok(())
-}
-
-/// The fault of either text, the configuration's first.
-#[test]
-fn refused_texts(rt: HostRuntime) -> Result<(), Fail> {
-    let alloc = rt.alloc();
-    for (config, scripts, fault) in [
-        (
-            "PROCESSORS(9);\n",
-            "tick\n",
-            "line 1: F7 value out of range",
-        ),
-        (
-            REMOTE.config,
-            "script main1\nipi\nend\n",
-            "line 2: E2 bad word",
-        ),
-        (
-            REMOTE.config,
-            "script main3\nend\n",
-            "line 1: E3 unknown name",
-        ),
-        (
-            REMOTE.config,
-            "script main1\nend\nscript main1\nend\n",
-            "line 3: E4 wrong arguments",
-        ),
-        (
-            REMOTE.config,
-            "script main1\nslp_tsk()\n",
-            "line 1: E6 cut short",
-        ),
-    ] {
-        let config = MemSource::new(config.as_bytes());
-        let scripts = MemSource::new(scripts.as_bytes());
-        stops(
-            &rt,
-            config,
-            scripts,
-            MemSink::with_room(alloc, 1000)?,
-            alloc,
-            fault,
-            0,
-        )?;
-    }
     Ok(())
 }
 

@@ -1,7 +1,7 @@
 //! One step of a machine.
 ghost use Rattle.std.specs.Prelude.{◌≡◌, ◌+◌, ◌≤◌, [], if◌then◌else◌};
 ghost use Rattle.fmp_machine.specs.Effects.{TellsOnce, adding};
-ghost use Rattle.fmp_machine.specs.Setup.{has_time};
+ghost use Rattle.fmp_setup.specs.Setup.{has_time};
 ghost use Rattle.fmp_machine.specs.World.{processor};
 ghost use Rattle.fmp_machine.specs.Step.{before_event, settled, unchanged, step};
 ghost use Rattle.fmp_step.specs.Before.{seen};

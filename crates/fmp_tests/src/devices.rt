@@ -1,8 +1,7 @@
 //! Runs over devices that give or take one byte at a time, that fail at any of their calls, and that never end.
 ghost use Rattle.std.specs.Prelude.{◌≡◌, false, [], IfOk};
 
-use crate::machines::REMOTE;
-use crate::run::{EVENTS, TRACE, trace_of};
+use crate::run::{EVENTS, REMOTE, TRACE, trace_of};
 use fmpsim_run::{Failed, MemSink, MemSource, RunFault, Sink, Source, run_calls, run_check};
 use std::alloc::{AllocError, Global};
 use std::process::Abort;

@@ -2,17 +2,29 @@
 ghost use Rattle.std.specs.Prelude.{◌≡◌, [], IfOk};
 ghost use Rattle.fmpsim_run.specs.Runs.{IsAnswered};
 
-use crate::machines::{NEIGHBOURS, REMOTE};
-use crate::scenarios::ONE_TASK;
 use fmp_check::Verdict;
 use fmp_text::MOST_BYTES;
-use fmpsim_run::{MemSink, MemSource, RunFault, run_calls, run_check};
+use fmpsim_run::{MemSink, MemSource, RunFault, run_calls, run_check, run_states};
 use std::alloc::Global;
 use std::process::Abort;
 use std::test::Fail;
 
 /// No trace of these runs has more bytes.
-const MOST_TRACE: usize = 1 << 22;
+const MOST_TRACE: usize = 1000;
+
+/// A task that runs, and one of another processor.
+pub const REMOTE: &[u8] = b"\
+PROCESSORS(2);
+DEF_CLASS(C1, 1, {1, 2});
+DEF_CLASS(C2, 2, {1, 2});
+DEF_CLASS(FIX1, 1, {1});
+CLASS(C1) {
+  CRE_TSK(T1, {TA_ACT, 0, main1, 10, 4096, NULL});
+}
+CLASS(C2) {
+  CRE_TSK(T2, {TA_NULL, 0, main2, 10, 4096, NULL});
+}
+";
 
 /// An interrupt that comes late and then once more, and then a queued activation.
 pub const EVENTS: &[u8] = b"\
@@ -39,7 +51,7 @@ pub const TRACE: &[u8] = b"\
 
 const TRACE_LINES: u64 = 8;
 
-pub fn line_feeds(text: &[u8]) -> usize {
+fn line_feeds(text: &[u8]) -> usize {
     text.iter().filter(|byte| **byte == b'\n').count()
 }
 
@@ -59,7 +71,7 @@ pub fn trace_of(events: &[u8]) -> &'static [u8] {
 }
 
 /// Runs over memory, and tells what is written.
-pub fn run(alloc: Global, config: &[u8], events: &[u8]) -> Result<MemSink, RunFault>
+fn run(alloc: Global, config: &[u8], events: &[u8]) -> Result<MemSink, RunFault>
     ensures { IfOk result (λ trace. IsAnswered config.now events.now [] trace.bytes.items) }
 {
     let mut trace = MemSink::with_room(alloc, MOST_TRACE)?;
@@ -72,14 +84,22 @@ pub fn run(alloc: Global, config: &[u8], events: &[u8]) -> Result<MemSink, RunFa
     Ok(trace)
 }
 
-fn writes(
-    rt: &impl Abort,
-    alloc: Global,
-    config: &[u8],
-    events: &[u8],
-    trace: &[u8],
-) -> Result<(), Fail> {
-    assert_eq!(rt; run(alloc, config, events)?.bytes(), trace);
+/// The state stands behind the line of its event.
+#[test]
+fn states_are_told(rt: HostRuntime) -> Result<(), Fail> {
+    let mut told = MemSink::with_room(rt.alloc(), 1000)?;
+    run_states(
+        rt.alloc(),
+        &mut MemSource::new(REMOTE),
+        &mut MemSource::new(b"P1 act_tsk(T2)\n"),
+        &mut told,
+    )?;
+    let lines = b"\
+1 P1 T1 act_tsk(T2) E_OK ipi=2
+  P1 run=T1
+  P2 run=- ready=T2 latch
+";
+    assert_eq!(rt; told.bytes(), lines.as_slice());
     Ok(())
 }
 
@@ -103,160 +123,21 @@ fn stops(
     Ok(())
 }
 
-/// The run is refused with this fault, and nothing is written.
-fn is_refused(
+/// The run ends with this fault, and this is what it wrote.
+fn stops_behind(
     rt: &impl Abort,
     alloc: Global,
     config: MemSource<'_>,
     events: MemSource<'_>,
     fault: &str,
+    written: &[u8],
 ) -> Result<(), Fail>
     requires config_calls { config.failures ≡ 0 }
     requires event_calls { events.failures ≡ 0 }
 {
     let mut trace = MemSink::with_room(alloc, 1000)?;
     stops(rt, alloc, config, events, &mut trace, fault)?;
-    assert!(rt; trace.bytes().is_empty());
-    Ok(())
-}
-
-#[test]
-fn no_event(rt: HostRuntime) -> Result<(), Fail> {
-    writes(&rt, rt.alloc(), ONE_TASK.as_bytes(), b"", b"")
-}
-
-#[test]
-fn activation_on_the_same_processor(rt: HostRuntime) -> Result<(), Fail> {
-    let trace = b"1 P1 T1 act_tsk(T2) E_OK run=T2\n";
-    writes(&rt, rt.alloc(), NEIGHBOURS, b"P1 act_tsk(T2)\n", trace)
-}
-
-#[test]
-fn late_interrupt_and_queued_activation(rt: HostRuntime) -> Result<(), Fail> {
-    writes(&rt, rt.alloc(), REMOTE, EVENTS, TRACE)
-}
-
-/// The run ends with this fault, and this is what it wrote.
-fn stops_behind(
-    rt: &impl Abort,
-    alloc: Global,
-    config: &[u8],
-    events: MemSource<'_>,
-    fault: &str,
-    written: &[u8],
-) -> Result<(), Fail>
-    requires { events.failures ≡ 0 }
-{
-    let mut trace = MemSink::with_room(alloc, 1000)?;
-    stops(rt, alloc, MemSource::new(config), events, &mut trace, fault)?;
     assert_eq!(rt; trace.bytes(), written);
-    Ok(())
-}
-
-/// The events of the lines before a fault are answered, also where that line is cut short.
-#[test]
-fn faults_behind_an_event(rt: HostRuntime) -> Result<(), Fail> {
-    let trace = b"1 P1 T1 act_tsk(T2) E_OK run=T2\n";
-    for (events, fault) in [
-        (
-            b"P1 act_tsk(T2)\nP1 jump(T1)\n".as_slice(),
-            "line 2: E2 bad word",
-        ),
-        (
-            b"# begin\nP1 act_tsk(T2)\n\nP1 tick".as_slice(),
-            "line 4: E6 cut short",
-        ),
-        (
-            b"P1 act_tsk(T2)\nP3 tick\nP1 act_tsk(T2)\n".as_slice(),
-            "line 2: E5 number out of range",
-        ),
-    ] {
-        let events = MemSource::new(events);
-        stops_behind(&rt, rt.alloc(), NEIGHBOURS, events, fault, trace)?;
-    }
-    Ok(())
-}
-
-/// The processor is locked and unlocked twice.
-#[test]
-fn lock_states(rt: HostRuntime) -> Result<(), Fail> {
-    let events = b"\
-P1 loc_cpu()
-P1 loc_cpu()
-P1 sns_loc()
-P1 sns_dpn()
-P1 get_tid()
-P1 unl_cpu()
-P1 unl_cpu()
-P1 sns_dpn()
-";
-    let trace = b"\
-1 P1 T1 loc_cpu() E_OK
-2 P1 T1 loc_cpu() E_OK
-3 P1 T1 sns_loc() E_OK:1
-4 P1 T1 sns_dpn() E_OK:1
-5 P1 T1 get_tid() E_CTX
-6 P1 T1 unl_cpu() E_OK
-7 P1 T1 unl_cpu() E_OK
-8 P1 T1 sns_dpn() E_OK:0
-";
-    writes(&rt, rt.alloc(), ONE_TASK.as_bytes(), events, trace)
-}
-
-#[test]
-fn refused_configurations(rt: HostRuntime) -> Result<(), Fail> {
-    let cut = b"\
-PROCESSORS(1);
-DEF_CLASS(C1, 1, {1});
-CLASS(C1) {
-  CRE_TSK(T1, {TA_ACT, 0, main1,";
-    let left_out = b"\
-PROCESSORS(1);
-DEF_CLASS(C1, 1, {1});
-CLASS(C1) {
-  DEF_INH(5, {TA_NULL, hdr});
-}
-";
-    let no_master = b"PROCESSORS(2);\nTIMER(GLOBAL, 3);\n";
-    let handler_elsewhere = b"\
-PROCESSORS(2);
-TIMER(GLOBAL, 1);
-DEF_CLASS(C1, 1, {1, 2});
-CLASS(C1) {
-  CRE_ALM(AL, {TA_NULL, 0, alarm1});
-}
-";
-    for (config, fault) in [
-        (cut.as_slice(), "line 4: F2 cut short"),
-        (left_out.as_slice(), "line 4: F3 unsupported API DEF_INH"),
-        (no_master.as_slice(), "line 2: F7 value out of range"),
-        (
-            handler_elsewhere.as_slice(),
-            "line 5: F13 handler outside the time master AL",
-        ),
-    ] {
-        let events = MemSource::new(b"P1 jump\n");
-        is_refused(&rt, rt.alloc(), MemSource::new(config), events, fault)?;
-    }
-    Ok(())
-}
-
-#[test]
-fn refused_events(rt: HostRuntime) -> Result<(), Fail> {
-    for (events, fault) in [
-        (
-            b"P1 dly_tsk(2147483648)\n".as_slice(),
-            "line 1: E5 number out of range",
-        ),
-        (b"P3 tick\n".as_slice(), "line 1: E5 number out of range"),
-        (b"P1 act_tsk(T9)\n".as_slice(), "line 1: E3 unknown name"),
-        (b"P1 act_tsk()\n".as_slice(), "line 1: E4 wrong arguments"),
-        (b"P1 jump(T1)\n".as_slice(), "line 1: E2 bad word"),
-        (b"P1 tick".as_slice(), "line 1: E6 cut short"),
-    ] {
-        let (config, events) = (MemSource::new(ONE_TASK.as_bytes()), MemSource::new(events));
-        is_refused(&rt, rt.alloc(), config, events, fault)?;
-    }
     Ok(())
 }
 
@@ -264,16 +145,12 @@ fn refused_events(rt: HostRuntime) -> Result<(), Fail> {
 #[test]
 fn failed_reads(rt: HostRuntime) -> Result<(), Fail> {
     for (calls, written) in [(0, b"".as_slice()), (1, TRACE)] {
-        let failing = MemSource::new(REMOTE).failing_after(calls);
-        is_refused(
-            &rt,
-            rt.alloc(),
-            failing,
-            MemSource::new(EVENTS),
-            "read failed",
-        )?;
-        let failing = MemSource::new(EVENTS).failing_after(calls);
-        stops_behind(&rt, rt.alloc(), REMOTE, failing, "read failed", written)?;
+        let (config, events) = (MemSource::new(REMOTE), MemSource::new(EVENTS));
+        let failing = config.failing_after(calls);
+        stops_behind(&rt, rt.alloc(), failing, events, "read failed", b"")?;
+        let (config, events) = (MemSource::new(REMOTE), MemSource::new(EVENTS));
+        let failing = events.failing_after(calls);
+        stops_behind(&rt, rt.alloc(), config, failing, "read failed", written)?;
     }
     Ok(())
 }
@@ -304,20 +181,8 @@ fn failed_calls_of_the_writer(rt: HostRuntime) -> Result<(), Fail> {
     Ok(())
 }
 
-/// Checks over memory, and tells what is written.
-pub fn checked(alloc: Global, config: &[u8], trace: &[u8]) -> Result<MemSink, RunFault> {
-    let mut answer = MemSink::with_room(alloc, 20)?;
-    run_check(
-        alloc,
-        &mut MemSource::new(config),
-        &mut MemSource::new(trace),
-        &mut answer,
-    )?;
-    Ok(answer)
-}
-
 /// The verdict on what a run over memory writes: yes, of whatever texts, by the contracts of the two runs.
-pub fn verdict_on_own(alloc: Global, config: &[u8], events: &[u8]) -> Result<Verdict, RunFault>
+fn verdict_on_own(alloc: Global, config: &[u8], events: &[u8]) -> Result<Verdict, RunFault>
     ensures { IfOk result (λ verdict. verdict ≡ Verdict.Yes) }
 {
     let trace = run(alloc, config, events)?;
@@ -336,42 +201,6 @@ pub fn verdict_on_own(alloc: Global, config: &[u8], events: &[u8]) -> Result<Ver
 fn own_trace(rt: HostRuntime) -> Result<(), Fail> {
     let verdict = verdict_on_own(rt.alloc(), REMOTE, EVENTS)?;
     assert!(rt; matches!(verdict, Verdict::Yes));
-    Ok(())
-}
-
-/// The machine's own trace, one with another answer, and the empty one.
-#[test]
-fn verdicts(rt: HostRuntime) -> Result<(), Fail> {
-    for (trace, verdict) in [
-        (
-            b"1 P1 T1 act_tsk(T2) E_OK run=T2\n".as_slice(),
-            b"yes\n".as_slice(),
-        ),
-        (
-            b"1 P1 T1 act_tsk(T2) E_QOVR run=T2\n".as_slice(),
-            b"no 1\n".as_slice(),
-        ),
-        (b"".as_slice(), b"yes\n".as_slice()),
-    ] {
-        let written = checked(rt.alloc(), NEIGHBOURS, trace)?;
-        assert_eq!(rt; written.bytes(), verdict);
-    }
-    assert_eq!(rt;
-        checked(rt.alloc(), REMOTE, TRACE)?.bytes(),
-        b"yes\n".as_slice()
-    );
-    Ok(())
-}
-
-#[test]
-fn refused_trace(rt: HostRuntime) -> Result<(), Fail> {
-    let Err(fault) = checked(rt.alloc(), NEIGHBOURS, b"2 P1 T1 act_tsk(T2) E_OK run=T2\n") else {
-        return Err("the trace is refused")?;
-    };
-    assert_eq!(rt;
-        format!(in rt.alloc(); "{fault}")?.as_str(),
-        "line 1: E2 bad word"
-    );
     Ok(())
 }
 

@@ -1,9 +1,9 @@
 //! What the text of a configuration says: its numbers, classes, objects and names.
-use crate::answers::{Frame, all_are_accepted, between, framed};
+use crate::text::between;
 use fmp_calls::{NameKind, ObjectKind};
 use fmp_codes::{Pri, Proc};
 use fmp_config::{Config, read_config};
-use fmp_machine::{
+use fmp_setup::{
     AlarmSetup, Class, CyclicSetup, DataQueueSetup, EventflagSetup, Limits, NamedClass, Order,
     PoolSetup, SemaphoreSetup, TaskSetup, Timer,
 };
@@ -447,57 +447,18 @@ fn has_added_attributes(config: &Config) -> bool {
         && only.starts
 }
 
+/// The beginning of a class.
+const INSIDE: &[u8] =
+    b"PROCESSORS(2); DEF_CLASS(C1, 1, {1, 2}); DEF_CLASS(FIX1, 1, {1}); CLASS(C1) { ";
+
 /// What adds something wins over what adds nothing.
 #[test]
 fn attributes_add_up(rt: HostRuntime) -> Result<(), Fail> {
     let text = b"CRE_FLG(F, {TA_WMUL|TA_WSGL|TA_TPRI|TA_TFIFO|TA_NULL, 0});
         CRE_FLG(G, {TA_CLR|TA_CLR, 0}); CRE_CYC(Y, {TA_STA|TA_NULL, 0, h, 1, 0});";
-    let text = framed(rt.alloc(), Frame::Inside, text)?;
+    let text = between(rt.alloc(), INSIDE, text, b" }")?;
     with_config(rt.alloc(), text.as_slice(), |config| {
         assert!(rt; has_added_attributes(config));
         Ok(())
     })
-}
-
-/// Bytes, blanks, names and blocks at the edges of what is allowed.
-const ACCEPTED: [&[u8]; 12] = [
-    b"PROCESSORS(8);",
-    b"PROCESSORS ( 0x08 ) ;\r\n\t",
-    b"PROCESSORS/**/(1)/* ; */;//",
-    b"PROCESSORS(1); DEF_CLASS(P, 0x1, {1, 1}); CLASS(P) {} CLASS(P) { }",
-    b"PROCESSORS(1); // a comment \x80 of any bytes \0",
-    b"PROCESSORS(1); /* a comment \x80 of any bytes \0 */",
-    b"PROCESSORS(X\n#define X 2\n);",
-    b"#define X 8\nPROCESSORS(X);\n#include",
-    b"PROCESSORS(1); INCLUDE(\"\x80\0\n\\\\\");",
-    b"PROCESSORS(1); DEF_CLASS(C, 1, {1}); DEF_CLASS(D, 1, {1});",
-    b"PROCESSORS(1); LIMITS(1, 16); DEF_CLASS(C, 1, {1}); TIMER(LOCAL);",
-    b"PROCESSORS(1); DEF_CLASS(C, 1, {1}); CLASS(C) { } DEF_CLASS(D, 1, {1});",
-];
-
-/// Objects and functions with names that others have in the other name space, or that are reserved in it.
-const OBJECTS: [&[u8]; 7] = [
-    b"CRE_TSK(T, {TA_NULL, 0, T, 1, 0, 0}); CRE_TSK(U, {TA_NULL, 0, T, 1, 0, 0});",
-    b"CRE_ALM(A, {TA_NULL, 0, idle}); CRE_ALM(B, {TA_NULL, 0, P1});",
-    b"CRE_ALM(main, {TA_NULL, 0, main}); CRE_ALM(C2, {TA_NULL, 0, C1});",
-    b"CRE_SEM(TA_NULL, {TA_NULL, 0, 1}); CRE_SEM(CRE_SEM, {TA_NULL, 0, 1});",
-    b"INCLUDE(\"a\"); \n#define N 1\nCRE_SEM(S, {TA_NULL, N, N});\n#include <b>\n",
-    b"CRE_SEM(S, {TA_NULL, N,\n#define N 3\nN});",
-    b"} DEF_CLASS(X, 1, {1}); CLASS(X) { } CLASS(C1) { } CLASS(X) {",
-];
-
-/// Statements behind a timer whose ticks count for all.
-const ON_ONE_TIMER: [&[u8]; 4] = [
-    b"CRE_TSK(T, {TA_ACT, 0, m, 1, 0, 0}); CRE_SPN(L, {TA_NULL});",
-    b"CRE_SEM(S, {TA_NULL, 0, 1}); CRE_FLG(F, {TA_NULL, 0});",
-    b"CRE_DTQ(D, {TA_NULL, 0, 0}); CRE_MPF(M, {TA_NULL, 1, 0, 0, 0});",
-    b"} CLASS(ONE) { CRE_ALM(A, {TA_NULL, 0, a}); CRE_CYC(Y, {TA_STA, 0, a, 1, 0});",
-];
-
-#[test]
-fn edges_are_accepted(rt: HostRuntime) -> Result<(), Fail> {
-    all_are_accepted(&rt, rt.alloc(), Frame::Whole, &ACCEPTED)?;
-    all_are_accepted(&rt, rt.alloc(), Frame::Inside, &OBJECTS)?;
-    all_are_accepted(&rt, rt.alloc(), Frame::Timed, &ON_ONE_TIMER)?;
-    Ok(())
 }

@@ -1,13 +1,61 @@
 //! Event texts that come in pieces. Bytes past the limit are not tried, since a text would have to be longer than 1 GiB.
 ghost use Rattle.std.specs.Prelude.{◌<◌};
 
-use crate::text::{REFUSED, Refused, are_three, with_machine};
-use fmp_codes::Event;
+use crate::text::with_machine;
+use fmp_codes::{Call, Event, TaskCall};
 use fmp_feed::EventFeed;
+use fmp_text::TextKind::*;
 use fmp_text::{Names, TextFault, TextKind};
 use std::alloc::{AllocError, Global};
 use std::process::Abort;
 use std::test::Fail;
+
+/// A text, and the kind and the line of its first fault.
+type Refused = (&'static [u8], TextKind, u32);
+
+/// Texts with faults, and the kind and the line of the first one.
+const REFUSED: [Refused; 30] = [
+    (b"P3 tick\n", NumberOutOfRange, 1),
+    (b"P1 act_tsk(T9)\n", UnknownName, 1),
+    (b"P1 act_tsk()\n", WrongArguments, 1),
+    (b"P1 jump(T1)\n", BadWord, 1),
+    (b"P1 tick", CutShort, 1),
+    (b"P0 tick\n", NumberOutOfRange, 1),
+    (b"P01 tick\n", NumberOutOfRange, 1),
+    (b"P99999999999999999999 tick\n", NumberOutOfRange, 1),
+    (b"P1 act_tsk(2147483648)\n", NumberOutOfRange, 1),
+    (b"P1 act_tsk(00)\n", NumberOutOfRange, 1),
+    (b"P1 act_tsk(L)\n", WrongArguments, 1),
+    (b"P1 act_tsk(T1\n", WrongArguments, 1),
+    (b"P1 tick\r\r\n", BadByte, 1),
+    (b"P1 tick\n  \r", CutShort, 2),
+    (b"P9 %", CutShort, 1),
+    (b"P9 jump(T9) %\n", BadByte, 1),
+    (b"P9 jump(T9\n", NumberOutOfRange, 1),
+    (b"Q9 jump(T9\n", BadWord, 1),
+    (b"P1 jump(T9\n", BadWord, 1),
+    (b"P1tick\n", BadWord, 1),
+    (b"P1(tick)\n", BadWord, 1),
+    (b"P tick\n", BadWord, 1),
+    (b"P1 tick()\n", WrongArguments, 1),
+    (b"P1 ext_tsk\n", WrongArguments, 1),
+    (b"P1 ret_hdr()\n", WrongArguments, 1),
+    (b"P1 ret_hdr # back\n", BadByte, 1),
+    (b"P1 act_tsk(T9, 01)\n", WrongArguments, 1),
+    (b"P1 act_tsk(1a)\n", WrongArguments, 1),
+    (b"P1 act_tsk(main_task)\n", UnknownName, 1),
+    (b"\n\nP2 tick\nP1 act_tsk(T9)\nP9 tick\n", UnknownName, 4),
+];
+
+/// Whether these are the activation of the second task, an interrupt on the second processor and a return on the first.
+fn are_three(events: &[Event]) -> bool {
+    let [first, second, third] = events else {
+        return false;
+    };
+    matches!(first, Event::Call(_, Call::Task(TaskCall::ActTsk(2))))
+        && matches!(second, Event::Ipi(processor) if processor.number == 2)
+        && matches!(third, Event::Call(processor, Call::RetHdr) if processor.number == 1)
+}
 
 /// What a text gives in pieces: its events, and its fault.
 #[derive(Drop)]

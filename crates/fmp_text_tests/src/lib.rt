@@ -1,10 +1,6 @@
-//! Tests of the values and of the texts that are read: what no contract says.
+//! Tests of functions that read texts: what neither a contract says nor a case of `tests/cases` shows.
 #![tactic(auto)]
 
-#[cfg(test)]
-mod answers;
-#[cfg(test)]
-mod arguments;
 #[cfg(test)]
 mod bytes;
 #[cfg(test)]
@@ -13,12 +9,6 @@ mod calls;
 mod codes;
 #[cfg(test)]
 mod config;
-#[cfg(test)]
-mod config_faults;
-#[cfg(test)]
-mod config_limits;
-#[cfg(test)]
-mod config_places;
 #[cfg(test)]
 mod feed;
 #[cfg(test)]

@@ -2,7 +2,6 @@ ghost use Rattle.std.specs.Prelude.{◌≡◌, true, false};
 ghost use Rattle.fmp_names.specs.Names as spec;
 
 use fmp_calls::{NameKind, ObjectKind};
-use fmp_codes::{Call, Event, TaskCall};
 use fmp_text::TextKind::*;
 use fmp_text::{Names, TextFault, TextKind, is_name, is_reserved, read_call, read_events};
 use std::alloc::{AllocError, Global};
@@ -70,6 +69,19 @@ fn machine(alloc: Global) -> Result<Names, Fail> {
     Ok(names)
 }
 
+/// A text between two others.
+pub fn between(
+    alloc: Global,
+    prefix: &[u8],
+    text: &[u8],
+    end: &[u8],
+) -> Result<Vec<u8>, AllocError> {
+    let mut whole = Vec::from_slice(alloc, prefix)?;
+    whole.extend_from_slice(text)?;
+    whole.extend_from_slice(end)?;
+    Ok(whole)
+}
+
 /// Does this with the names of the machine.
 pub fn with_machine<F: FnOnce(&mut Names) -> Result<(), Fail>>(
     alloc: Global,
@@ -81,79 +93,6 @@ pub fn with_machine<F: FnOnce(&mut Names) -> Result<(), Fail>>(
     test(&mut names)
 }
 
-/// A text, and the kind and the line of its first fault.
-pub type Refused = (&'static [u8], TextKind, u32);
-
-/// Texts with faults, and the kind and the line of the first one.
-pub const REFUSED: [Refused; 30] = [
-    (b"P3 tick\n", NumberOutOfRange, 1),
-    (b"P1 act_tsk(T9)\n", UnknownName, 1),
-    (b"P1 act_tsk()\n", WrongArguments, 1),
-    (b"P1 jump(T1)\n", BadWord, 1),
-    (b"P1 tick", CutShort, 1),
-    (b"P0 tick\n", NumberOutOfRange, 1),
-    (b"P01 tick\n", NumberOutOfRange, 1),
-    (b"P99999999999999999999 tick\n", NumberOutOfRange, 1),
-    (b"P1 act_tsk(2147483648)\n", NumberOutOfRange, 1),
-    (b"P1 act_tsk(00)\n", NumberOutOfRange, 1),
-    (b"P1 act_tsk(L)\n", WrongArguments, 1),
-    (b"P1 act_tsk(T1\n", WrongArguments, 1),
-    (b"P1 tick\r\r\n", BadByte, 1),
-    (b"P1 tick\n  \r", CutShort, 2),
-    (b"P9 %", CutShort, 1),
-    (b"P9 jump(T9) %\n", BadByte, 1),
-    (b"P9 jump(T9\n", NumberOutOfRange, 1),
-    (b"Q9 jump(T9\n", BadWord, 1),
-    (b"P1 jump(T9\n", BadWord, 1),
-    (b"P1tick\n", BadWord, 1),
-    (b"P1(tick)\n", BadWord, 1),
-    (b"P tick\n", BadWord, 1),
-    (b"P1 tick()\n", WrongArguments, 1),
-    (b"P1 ext_tsk\n", WrongArguments, 1),
-    (b"P1 ret_hdr()\n", WrongArguments, 1),
-    (b"P1 ret_hdr # back\n", BadByte, 1),
-    (b"P1 act_tsk(T9, 01)\n", WrongArguments, 1),
-    (b"P1 act_tsk(1a)\n", WrongArguments, 1),
-    (b"P1 act_tsk(main_task)\n", UnknownName, 1),
-    (b"\n\nP2 tick\nP1 act_tsk(T9)\nP9 tick\n", UnknownName, 4),
-];
-
-/// Texts without a fault.
-const ACCEPTED: [&[u8]; 5] = [
-    b"",
-    b"P1 act_tsk(2147483647)\n",
-    b"P1 act_tsk(-0x1)\n",
-    b"# any \xff bytes\r\n\t\r\n \t# last",
-    b"P1  act_tsk ( TSK_SELF ) \r\n\tP2\ttick\n  ",
-];
-
-/// Activations, and the task that each is read as.
-const ACTIVATIONS: [(&[u8], Result<i32, TextKind>); 15] = [
-    (b"act_tsk(T2)", Ok(2)),
-    (b"act_tsk(-0)", Ok(0)),
-    (b"act_tsk(-2147483648)", Ok(i32::MIN)),
-    (b"act_tsk(-2147483649)", Err(NumberOutOfRange)),
-    (b"act_tsk(4294967295)", Err(NumberOutOfRange)),
-    (b"act_tsk(00)", Err(NumberOutOfRange)),
-    (b"act_tsk(TSK_SELF)", Ok(0)),
-    (b"act_tsk(TPRI_SELF)", Err(WrongArguments)),
-    (b"act_tsk(TPRI_INI)", Err(WrongArguments)),
-    (b"act_tsk(TPRC_INI)", Err(WrongArguments)),
-    (b"act_tsk(TMO_POL)", Err(WrongArguments)),
-    (b"act_tsk(TMO_FEVR)", Err(WrongArguments)),
-    (b"act_tsk(TWF_ANDW)", Err(WrongArguments)),
-    (b"act_tsk(TWF_ORW)", Err(WrongArguments)),
-    (b"act_tsk(TSK_NONE)", Err(UnknownName)),
-];
-
-/// Texts of one call, and what they are read as.
-const CALLS: [Read; 4] = [
-    (b" ext_tsk( )\t", Ok(Call::Task(TaskCall::ExtTsk))),
-    (b"P1 ext_tsk()", Err(BadWord)),
-    (b"", Err(BadWord)),
-    (b"ext_tsk()\n", Err(BadByte)),
-];
-
 /// The first fault of a text, if it has one.
 fn fault(alloc: Global, names: &Names, text: &[u8]) -> Option<TextFault> {
     match read_events(alloc, text, names) {
@@ -162,83 +101,11 @@ fn fault(alloc: Global, names: &Names, text: &[u8]) -> Option<TextFault> {
     }
 }
 
-fn are_refused(rt: &impl Abort, alloc: Global, names: &Names, rows: &[Refused]) {
-    for (text, kind, line) in rows {
-        let (kind, line) = (*kind, *line);
-        assert!(rt; fault(alloc, names, *text) == Some(TextFault { kind, line }));
-    }
-}
-
+/// A call is within one line, so that no event shows what is told of a line feed.
 #[test]
-fn refused_texts(rt: HostRuntime) -> Result<(), Fail> {
+fn a_call_with_a_line_feed(rt: HostRuntime) -> Result<(), Fail> {
     with_machine(rt.alloc(), |names| {
-        are_refused(&rt, rt.alloc(), names, &REFUSED);
-        Ok(())
-    })
-}
-
-fn are_accepted(rt: &impl Abort, alloc: Global, names: &Names, texts: &[&'static [u8]]) {
-    for text in texts {
-        assert!(rt; fault(alloc, names, *text).is_none());
-    }
-}
-
-/// Whether these are the activation of the second task, an interrupt on the second processor and a return on the first.
-pub fn are_three(events: &[Event]) -> bool {
-    let [first, second, third] = events else {
-        return false;
-    };
-    matches!(first, Event::Call(_, Call::Task(TaskCall::ActTsk(2))))
-        && matches!(second, Event::Ipi(processor) if processor.number == 2)
-        && matches!(third, Event::Call(processor, Call::RetHdr) if processor.number == 1)
-}
-
-fn has_three(alloc: Global, names: &Names, text: &[u8]) -> bool {
-    match read_events(alloc, text, names) {
-        Ok(events) => are_three(events.as_slice()),
-        Err(_) => false,
-    }
-}
-
-#[test]
-fn accepted_texts(rt: HostRuntime) -> Result<(), Fail> {
-    with_machine(rt.alloc(), |names| {
-        are_accepted(&rt, rt.alloc(), names, &ACCEPTED);
-        let text = b"# three\nP1 act_tsk(T2)\n\nP2 ipi\n P1\tret_hdr \r\n";
-        assert!(rt; has_three(rt.alloc(), names, text));
-        Ok(())
-    })
-}
-
-fn are_activations(
-    rt: &impl Abort,
-    names: &Names,
-    rows: &[(&'static [u8], Result<i32, TextKind>)],
-) {
-    for (text, task) in rows {
-        let call = match task {
-            Ok(id) => Ok(Call::Task(TaskCall::ActTsk(*id))),
-            Err(kind) => Err(*kind),
-        };
-        assert!(rt; read_call(*text, names) == call);
-    }
-}
-
-/// A text of one call, and what it is read as.
-pub type Read = (&'static [u8], Result<Call, TextKind>);
-
-/// Asserts what the texts are read as.
-pub fn are_read(rt: &impl Abort, names: &Names, rows: &[Read]) {
-    for (text, call) in rows {
-        assert!(rt; read_call(*text, names) == *call);
-    }
-}
-
-#[test]
-fn calls(rt: HostRuntime) -> Result<(), Fail> {
-    with_machine(rt.alloc(), |names| {
-        are_activations(&rt, names, &ACTIVATIONS);
-        are_read(&rt, names, &CALLS);
+        assert!(rt; read_call(b"ext_tsk()\n", names) == Err(BadByte));
         Ok(())
     })
 }

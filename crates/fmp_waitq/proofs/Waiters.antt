@@ -6,7 +6,7 @@ use Rattle.std.proofs.lemmas.Bool.{cases_eq, cases_lt, eq-eqb, ne_eqb, lt-ltb, l
 use Rattle.std.proofs.lemmas.List.{get_or-set_same, get_or-set_other}
 use Rattle.fmp_codes.specs.declared.numbers.Task.{Task}
 use Rattle.fmp_codes.specs.declared.numbers.Pri.{Pri}
-use Rattle.fmp_machine.specs.declared.setup.Order.{Order}
+use Rattle.fmp_setup.specs.declared.setup.Order.{Order}
 use Rattle.fmp_links.specs.Tasks.{has_task, without, inserted}
 use Rattle.fmp_links.proofs.Tasks.{has_task-without}
 use Rattle.fmp_waitq.specs.Queue.{Waiter, Queue, task_of, has_waiter, left_by, put_ranked, rank_of, waiter_of}

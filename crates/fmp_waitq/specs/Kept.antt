@@ -1,8 +1,8 @@
 -- What a wait queue keeps of itself: the tasks, and the rank of each at its place.
 use Rattle.std.specs.Prelude.{◌≡◌, ℕ, ◌-◌, true, nat_lt, Option, Some, None, List, [], ◌∷◌, slice_index, if◌then◌else◌}
 use Rattle.fmp_codes.specs.declared.numbers.Task.{Task}
-use Rattle.fmp_machine.specs.declared.setup.Order.{Order}
-use Rattle.fmp_machine.specs.declared.setup.Order.TheVariants as order
+use Rattle.fmp_setup.specs.declared.setup.Order.{Order}
+use Rattle.fmp_setup.specs.declared.setup.Order.TheVariants as order
 use Rattle.fmp_links.specs.Tasks.{has_task}
 use Rattle.fmp_waitq.specs.Queue.{Waiter}
 

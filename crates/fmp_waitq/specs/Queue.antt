@@ -3,8 +3,8 @@ use Rattle.std.specs.Prelude.{ℕ, ◌==◌, Bool, not, nat_lt, List, [], ◌∷
 use Rattle.std.specs.List.{list_any}
 use Rattle.fmp_codes.specs.declared.numbers.Task.{Task}
 use Rattle.fmp_codes.specs.declared.numbers.Pri.{Pri}
-use Rattle.fmp_machine.specs.declared.setup.Order.{Order}
-use Rattle.fmp_machine.specs.declared.setup.Order.TheVariants as order
+use Rattle.fmp_setup.specs.declared.setup.Order.{Order}
+use Rattle.fmp_setup.specs.declared.setup.Order.TheVariants as order
 
 pub record Waiter : Type 0 where
   pub task : Task

@@ -1,6 +1,6 @@
 -- What was drawn of a trace that was read and judged is what a run draws of its two texts.
 use Rattle.std.proofs.Common.{◌≡◌, ℕ, List, subst, inl, inr}
-use Rattle.fmp_machine.specs.Setup.{Setup}
+use Rattle.fmp_setup.specs.Setup.{Setup}
 use Rattle.fmp_check.specs.declared.checking.Verdict.{Verdict}
 use Rattle.fmp_check.specs.Checking.{Judges}
 use Rattle.fmpsim_run.specs.declared.fault.RunFault.{RunFault}

@@ -7,7 +7,7 @@ use Rattle.fmp_codes.specs.declared.records.Event.TheVariants as events
 use Rattle.fmp_names.specs.Names.{NameLists}
 use Rattle.fmp_machine.specs.Arrivals.{State, numbered}
 use Rattle.fmp_machine.specs.Boot.{booted}
-use Rattle.fmp_machine.specs.Setup.{Setup}
+use Rattle.fmp_setup.specs.Setup.{Setup}
 use Rattle.fmp_machine.specs.Step.{step}
 use Rattle.fmp_wave.specs.declared.signal.Signal.TheVariants as signals
 use Rattle.fmp_wave.specs.Headers.{header_text}

@@ -4,7 +4,7 @@
 //! time. What is drawn is stated in `specs/Waves` as a function of the events, over the model's states: which signals there are
 //! (`Signals`), how they are declared (`Headers`), and the value of each (`Values`). docs/FORMATS.md has its form.
 //!
-//! That a viewer shows it is only tested, by a reader written from the standard (`fmp_wave_tests`).
+//! That a viewer shows it is only tested, by a reader written from the standard (`tests/program/waves.py`).
 #![tactic(auto)]
 
 mod changes;

@@ -12,7 +12,7 @@ use Rattle.fmp_codes.specs.declared.records.Record.{Record}
 use Rattle.fmp_codes.specs.declared.records.Runner.{Runner}
 use Rattle.fmp_codes.specs.declared.records.Runner.TheVariants as runner
 use Rattle.fmp_calls.specs.Arguments.{CallInBits, EventInBits}
-use Rattle.fmp_machine.specs.Setup.{Setup}
+use Rattle.fmp_setup.specs.Setup.{Setup}
 use Rattle.fmp_scripts.specs.Scripts.{Steps, script_of, script_of_option, AreInBits}
 use Rattle.fmp_machine.specs.World.{runner_of}
 use Rattle.fmp_world.specs.Histories.{events_of, state_after}

@@ -8,12 +8,12 @@ use Rattle.fmp_codes.specs.Records.{processor_of, AreOn}
 use Rattle.fmp_codes.specs.declared.records.Event.{Event}
 use Rattle.fmp_codes.specs.declared.records.Event.TheVariants as events
 use Rattle.fmp_codes.specs.declared.records.Record.{Record}
-use Rattle.fmp_machine.specs.Setup.{Setup, has_time}
+use Rattle.fmp_setup.specs.Setup.{Setup, has_time}
 use Rattle.fmp_machine.specs.World.{World, processor, handler, runner_of, is_held}
 use Rattle.fmp_machine.specs.Arrivals.{State, numbered}
 use Rattle.fmp_machine.specs.Step.{settled, before_event, unchanged, step, replay, answers}
 use Rattle.fmp_machine.specs.Boot.{booted}
-use Rattle.fmp_machine.specs.Valid.{IsValid}
+use Rattle.fmp_setup.specs.Valid.{IsValid}
 use Rattle.fmp_safety.specs.Safe.{Safe}
 use Rattle.fmp_safety.proofs.Stepping.{numbered_tops, safe_step}
 use Rattle.fmp_safety.proofs.Listed.{numbered_lists}

@@ -5,8 +5,8 @@ use Rattle.fmp_world.specs.declared.finishing.Ended.TheVariants.{Quiet, Limit}
 use Rattle.fmp_codes.specs.declared.records.Event.{Event}
 use Rattle.fmp_scripts.specs.Scripts.{Steps}
 use Rattle.fmp_codes.specs.Numbers.{as_proc}
-use Rattle.fmp_machine.specs.declared.setup.Timer.{Timer}
-use Rattle.fmp_machine.specs.Setup.{Setup, has_time}
+use Rattle.fmp_setup.specs.declared.setup.Timer.{Timer}
+use Rattle.fmp_setup.specs.Setup.{Setup, has_time}
 use Rattle.fmp_codes.specs.declared.records.Record.{Record}
 use Rattle.fmp_world.specs.declared.seats.Receipt.{Receipt}
 use Rattle.std.proofs.lemmas.Bool.Decides.{nat_tests}

@@ -8,8 +8,8 @@ use Rattle.fmp_codes.specs.declared.records.Event.TheVariants as event
 use Rattle.fmp_codes.specs.declared.records.Record.{Record}
 use Rattle.fmp_codes.specs.declared.records.Runner.{Runner}
 use Rattle.fmp_scripts.specs.Scripts.{Steps}
-use Rattle.fmp_machine.specs.Setup.{Setup}
-use Rattle.fmp_machine.specs.Valid.{IsValid}
+use Rattle.fmp_setup.specs.Setup.{Setup}
+use Rattle.fmp_setup.specs.Valid.{IsValid}
 use Rattle.fmp_machine.specs.Arrivals.{State, numbered}
 use Rattle.fmp_machine.specs.Step.{step}
 use Rattle.fmp_machine.specs.Boot.{booted}

@@ -4,8 +4,8 @@ use Rattle.std.specs.Global.{Vec}
 use Rattle.std.specs.Vec.{vec_capacity}
 use Rattle.fmp_codes.specs.declared.records.Record.{Record}
 use Rattle.fmp_scripts.specs.Scripts.{Steps}
-use Rattle.fmp_machine.specs.Setup.{Setup}
-use Rattle.fmp_machine.specs.Valid.{IsValid}
+use Rattle.fmp_setup.specs.Setup.{Setup}
+use Rattle.fmp_setup.specs.Valid.{IsValid}
 use Rattle.fmp_machine.specs.World.{World}
 use Rattle.fmp_queues.specs.Queues.{Queues}
 use Rattle.fmp_lists.specs.Stands.{Stands}

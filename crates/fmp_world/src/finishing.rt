@@ -1,6 +1,6 @@
 //! The judge of a run: what came back from those that took turns is compared with the history, once.
 ghost use Rattle.std.specs.Prelude.{◌≡◌, ◌+◌, ◌≤◌, ◌<◌, ◌^◌, ◌↔◌, ◌++◌, ◌∷◌, [], ℕ, length, map, IsTrue, IsSome, IfSome, Some, None, nat_lt, ◌&&◌, if◌then◌else◌, ◌⊎◌};
-ghost use Rattle.fmp_machine.specs.Setup.{has_time};
+ghost use Rattle.fmp_setup.specs.Setup.{has_time};
 ghost use Rattle.fmp_world.specs.Views.{Seat};
 ghost use Rattle.fmp_world.specs.Turns.{is_full};
 ghost use Rattle.fmp_world.specs.Whose.{test_of};

@@ -1,7 +1,7 @@
 //! The world: a history that is a run of the machine.
 ghost use Rattle.std.specs.Prelude.{◌≡◌, ◌+◌, ◌-◌, ◌≤◌, ◌<◌, ◌^◌, [], ◌∷◌, ◌++◌, length, IfOk, Some, None, ℕ, IsTrue, true, ◌↔◌, is_some};
 ghost use Rattle.fmp_codes.specs.Records.{processor_of};
-ghost use Rattle.fmp_machine.specs.Valid.{IsValid};
+ghost use Rattle.fmp_setup.specs.Valid.{IsValid};
 ghost use Rattle.fmp_world.specs.Histories.{state_after, is_idle, IsQuiet};
 ghost use Rattle.fmp_world.specs.Scripted as scripted;
 ghost use Rattle.fmp_world.specs.Views.{Seat, ClockSeat, History};

@@ -6,8 +6,6 @@
 
 mod beside;
 mod cli;
-#[cfg(test)]
-mod tests;
 
 use cli::{Asked, Paths, Request, Told};
 use fmp_check::Verdict;

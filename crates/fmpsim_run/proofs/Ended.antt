@@ -3,8 +3,8 @@ use Rattle.std.proofs.Common.{◌≡◌, ℕ, false, List, Result, Ok, Err, IfEr
 use Rattle.std.proofs.lemmas.Bool.{false≢true}
 use Rattle.fmp_balance.proofs.Booted.{balanced_throughout}
 use Rattle.fmp_codes.specs.Records.{AreOn}
-use Rattle.fmp_machine.specs.Setup.{Setup}
-use Rattle.fmp_machine.specs.Valid.{IsValid}
+use Rattle.fmp_setup.specs.Setup.{Setup}
+use Rattle.fmp_setup.specs.Valid.{IsValid}
 use Rattle.fmp_safety.proofs.Booted.{runs_safe}
 use Rattle.fmp_text.proofs.Limited.{reading_on}
 use Rattle.fmp_text.proofs.SpelledTexts.{text_is_spelled}

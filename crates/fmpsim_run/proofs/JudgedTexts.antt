@@ -1,7 +1,7 @@
 -- The verdict on a trace that was read up to its limit is the verdict on its text.
 use Rattle.std.proofs.Common.{◌≡◌, ◌∙◌, ◌⊎◌, ℕ, ◌≤◌, List, ◌++◌, length, Ok, Err, ap, sym, subst, arith, inl, inr, length-append}
 use Rattle.std.proofs.lemmas.List.{append-nil}
-use Rattle.fmp_machine.specs.Setup.{Setup}
+use Rattle.fmp_setup.specs.Setup.{Setup}
 use Rattle.fmp_names.specs.Names.{NameLists}
 use Rattle.fmp_text.specs.Events.{IsMemory}
 use Rattle.fmp_text.specs.Limits.{most_bytes}

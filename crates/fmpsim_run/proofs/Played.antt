@@ -2,7 +2,7 @@
 use Rattle.std.proofs.Common.{◌≡◌, ◌≤◌, ◌++◌, ℕ, List, refl, ap, arith}
 use Rattle.std.proofs.lemmas.List.{length-map}
 use Rattle.fmp_codes.specs.declared.records.Record.{Record}
-use Rattle.fmp_machine.specs.Setup.{Setup}
+use Rattle.fmp_setup.specs.Setup.{Setup}
 use Rattle.fmp_scripts.specs.ScriptGrammar.{SpellsScripts}
 use Rattle.fmp_scripts.specs.Scripts.{Steps, AreInBits}
 use Rattle.fmp_names.specs.Names.{NameLists}

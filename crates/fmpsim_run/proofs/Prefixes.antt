@@ -6,7 +6,7 @@ use Rattle.std.proofs.lemmas.List.{append-nil}
 use Rattle.fmp_statements.specs.declared.fault.ConfigKind.TheVariants as config_kind
 use Rattle.fmp_statements.specs.Faults.{fault_of_line}
 use Rattle.fmp_config.specs.Limits.{most_bytes as MOST_CONFIG_BYTES}
-use Rattle.fmp_machine.specs.Setup.{Setup}
+use Rattle.fmp_setup.specs.Setup.{Setup}
 use Rattle.fmp_config.specs.Reading.{config_in}
 use Rattle.fmp_names.specs.Names.{NameLists}
 use Rattle.fmp_scripts.specs.Scripts.{Steps}

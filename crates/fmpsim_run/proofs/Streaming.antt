@@ -9,7 +9,7 @@ use Rattle.fmp_feed.specs.Feed.{Feed, Gives, IsDone, ahead, closed, new_feed, on
 use Rattle.fmp_lists.specs.Stands.{Stands}
 use Rattle.fmp_machine.specs.Boot.{booted}
 use Rattle.fmp_machine.specs.Arrivals.{State, numbered}
-use Rattle.fmp_machine.specs.Setup.{Setup}
+use Rattle.fmp_setup.specs.Setup.{Setup}
 use Rattle.fmp_machine.specs.Step.{replay, step}
 use Rattle.fmp_text.specs.declared.fault.TextFault.{TextFault}
 use Rattle.fmp_text.specs.Events.{Reading, faultless, reading_by_line, with_events}

@@ -2,9 +2,9 @@
 use Rattle.std.proofs.Common.{◌≡◌, ℕ, ◌≤◌, List, length, subst}
 use Rattle.fmp_machine.specs.Boot.{booted}
 use Rattle.fmp_machine.specs.Arrivals.{numbered}
-use Rattle.fmp_machine.specs.Setup.{Setup}
+use Rattle.fmp_setup.specs.Setup.{Setup}
 use Rattle.fmp_machine.specs.Step.{answers}
-use Rattle.fmp_machine.specs.Valid.{IsValid}
+use Rattle.fmp_setup.specs.Valid.{IsValid}
 use Rattle.fmp_text.proofs.Limited.{reading_on, reading_in_bits}
 use Rattle.fmp_text.proofs.SpelledTexts.{reading_of-spelled}
 use Rattle.fmp_text.specs.TextGrammar.{SpellsText}

@@ -7,7 +7,7 @@ use Rattle.fmp_text.specs.TextGrammar.{SpellsText}
 use Rattle.fmp_config.specs.Limits.{most_bytes}
 use Rattle.fmp_config.specs.Faults.{IsFirstFault}
 use Rattle.fmp_config_laws.specs.Grammar.{Configures}
-use Rattle.fmp_machine.specs.Setup.{Setup}
+use Rattle.fmp_setup.specs.Setup.{Setup}
 use Rattle.fmp_machine.specs.Boot.{booted}
 use Rattle.fmp_machine.specs.Arrivals.{numbered}
 use Rattle.fmp_machine.specs.Step.{answers}

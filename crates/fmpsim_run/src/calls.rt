@@ -1,6 +1,6 @@
 //! The run that answers a list of events, each as it comes.
 ghost use Rattle.std.specs.Prelude.{◌≡◌, ◌+◌, ◌-◌, ◌^◌, ◌<◌, ◌≤◌, [], ℕ, List, true, false, None, length, IsTrue, OnOk, IfErr, if◌then◌else◌};
-ghost use Rattle.fmp_machine.specs.Valid.{IsValid};
+ghost use Rattle.fmp_setup.specs.Valid.{IsValid};
 ghost use Rattle.fmp_text.specs.Events.{Reading, reading_by_line};
 ghost use Rattle.fmp_text.specs.Limits.{most_bytes, most_events};
 ghost use Rattle.fmpsim_run.specs.Details.{AreStatesTold, LeavesStates};

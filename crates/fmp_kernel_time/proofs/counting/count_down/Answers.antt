@@ -1,5 +1,5 @@
 use Rattle.std.proofs.Common.{map, refl, sym, ap, ◌∙◌}
-use Rattle.fmp_machine.specs.declared.setup.Timer.{Timer}
+use Rattle.fmp_setup.specs.declared.setup.Timer.{Timer}
 use Rattle.fmp_time.proofs.Effects.{times_same}
 use Rattle.fmp_kernel_time.specs.Counting.{fallen}
 use Rattle.fmp_kernel_time.proofs.Falling.{fallen_local, fallen_master, fallen_other}

@@ -1,5 +1,5 @@
 use Rattle.std.proofs.Common.{◌≡◌, Bool, get_or, sym}
-use Rattle.fmp_machine.specs.Setup.{counts_for}
+use Rattle.fmp_setup.specs.Setup.{counts_for}
 use Rattle.fmp_plain_rows.proofs.Lowered.{one_stays, one_falls}
 use Rattle.fmp_plain_rows.proofs.counts.lower.Goals as goal
 use Rattle.fmp_plain_rows.proofs.counts.lower.Goals.{then-counts_for, else-counts_for}

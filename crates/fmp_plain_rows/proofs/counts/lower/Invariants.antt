@@ -1,5 +1,5 @@
 use Rattle.std.proofs.Common.{◌≡◌, take}
-use Rattle.fmp_machine.specs.Setup.{counts_for}
+use Rattle.fmp_setup.specs.Setup.{counts_for}
 use Rattle.fmp_machine.specs.Tick.{lowered}
 use Rattle.fmp_plain_rows.proofs.counts.lower.Given as goal
 

@@ -1,5 +1,5 @@
 use Rattle.std.proofs.Common.{◌≡◌, ◌∙◌, Some, rules, refl, sym, subst}
-use Rattle.fmp_machine.specs.Valid.{IsValid}
+use Rattle.fmp_setup.specs.Valid.{IsValid}
 use Rattle.fmp_smp.specs.Seeds.{IsInOrderOf}
 use Rattle.fmp_smp.proofs.Following.{Carries, carries, follows_at_first}
 use Rattle.fmp_smp.proofs.Seating.{seated_at_first}

@@ -2,7 +2,7 @@ use Rattle.std.proofs.Common.{sym, ap, subst, ◌∙◌}
 use Rattle.fmp_time.specs.Times.{Times}
 use Rattle.fmp_kernel_time.specs.Assignments.{Assignments, assignments_of}
 use Rattle.fmp_kernel_time.specs.Counting.{AreInStep}
-use Rattle.fmp_machine.specs.Setup.{counts_for}
+use Rattle.fmp_setup.specs.Setup.{counts_for}
 use Rattle.fmp_machine.specs.Tick.{lowered}
 use Rattle.fmp_kernel_time.proofs.Falling.{fallen_is, fallen_step}
 use Rattle.fmp_kernel_time.proofs.assigned.Assigned.count_down.Goals as goal

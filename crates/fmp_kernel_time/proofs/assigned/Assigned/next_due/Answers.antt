@@ -1,7 +1,7 @@
 use Rattle.std.proofs.Common.{◌≡◌, ◌≤◌, true, length, sym, ap, subst, ◌∙◌}
 use Rattle.fmp_codes.specs.declared.numbers.Task.{Task}
 use Rattle.fmp_links.specs.Tasks.{has_task}
-use Rattle.fmp_machine.specs.declared.setup.Timer.{Timer}
+use Rattle.fmp_setup.specs.declared.setup.Timer.{Timer}
 use Rattle.fmp_machine.specs.Due.{IsLeast}
 use Rattle.fmp_kernel_time.specs.Assignments.{Assignments, IsNextDue}
 use Rattle.fmp_kernel_time.specs.Counting.{ticks_for, AreShown}

@@ -1,5 +1,5 @@
 use Rattle.std.proofs.Common.{◌∙◌, refl, ap, subst}
-use Rattle.fmp_machine.specs.Valid.{IsValid}
+use Rattle.fmp_setup.specs.Valid.{IsValid}
 use Rattle.fmp_world.proofs.Finished.{run_of}
 use Rattle.fmp_world.proofs.world.World.finish.Goals as goal
 

@@ -1,0 +1,53 @@
+//! Laws of what is told: no fault is forgotten or told twice, and nothing that is read is left out.
+ghost use Rattle.std.specs.Prelude.{◌≡◌, ℕ, ◌+◌, true, false, List, ◌++◌, Some, Contains, map, slice_get, codes, decimal};
+ghost use Rattle.fmp_codes.specs.declared.calls.Call.{Call};
+ghost use Rattle.fmp_calls.specs.Table as calls;
+ghost use Rattle.fmp_statements.specs.declared.fault.ConfigKind.{ConfigKind};
+ghost use Rattle.fmp_statements.specs.declared.table.StatementName.{StatementName};
+ghost use Rattle.fmp_statements.specs.Faults as configs;
+ghost use Rattle.fmp_statements.specs.Table as statements;
+ghost use Rattle.fmp_text.specs.declared.fault.TextKind.{TextKind};
+ghost use Rattle.fmp_text.specs.Faults as texts;
+ghost use Rattle.fmp_help.specs.declared.faults.TheConstants.{CONFIG_KINDS, TEXT_KINDS};
+ghost use Rattle.fmp_help.specs.declared.left_out.TheConstants.{BEGINNINGS, ENDINGS, NAMES};
+ghost use Rattle.fmp_help.specs.Faults.{config_kinds, text_kinds, about_config, about_text};
+ghost use Rattle.fmp_help.specs.LeftOut.{beginnings, endings, names, is_left_out};
+ghost use Rattle.fmp_help.specs.Listing.{about, left_out_line};
+
+/// The list of the faults of a configuration has each of them exactly once, in the order of their numbers, and each is told where
+/// its number is asked for.
+pub fn config_faults_are_listed()
+    ensures list { CONFIG_KINDS ≡ config_kinds }
+    ensures every { (kind : ConfigKind) → Contains config_kinds kind }
+    ensures once { (i j : ℕ) (kind : ConfigKind) → slice_get config_kinds i ≡ Some kind
+        → slice_get config_kinds j ≡ Some kind → i ≡ j }
+    ensures order { (i : ℕ) (kind : ConfigKind) → slice_get config_kinds i ≡ Some kind
+        → configs.code_of kind ≡ codes "F" ++ decimal (i + 1) }
+    ensures told { (kind : ConfigKind) → about (configs.code_of kind) ≡ Some (about_config kind) }
+{}
+
+/// The list of the faults of events, scripts and traces has each of them exactly once, in the order of their numbers, and each is
+/// told where its number is asked for.
+pub fn text_faults_are_listed()
+    ensures list { TEXT_KINDS ≡ text_kinds }
+    ensures every { (kind : TextKind) → Contains text_kinds kind }
+    ensures once { (i j : ℕ) (kind : TextKind) → slice_get text_kinds i ≡ Some kind
+        → slice_get text_kinds j ≡ Some kind → i ≡ j }
+    ensures order { (i : ℕ) (kind : TextKind) → slice_get text_kinds i ≡ Some kind
+        → texts.code_of kind ≡ codes "E" ++ decimal (i + 1) }
+    ensures told { (kind : TextKind) → about (texts.code_of kind) ≡ Some (about_text kind) }
+{}
+
+/// The words that are compared are those of the definition.
+pub fn left_out_words_are_listed()
+    ensures how_they_begin { map (λ word. word.now) BEGINNINGS ≡ beginnings }
+    ensures how_they_end { map (λ word. word.now) ENDINGS ≡ endings }
+    ensures one_by_one { map (λ word. word.now) NAMES ≡ names }
+{}
+
+/// What is left out is told so, and no call and no statement that is read is left out.
+pub fn what_is_left_out_is_told()
+    ensures told { (word : List ℕ) → is_left_out word ≡ true → about word ≡ Some (left_out_line word) }
+    ensures calls { (call : Call) → is_left_out (calls.text_of call) ≡ false }
+    ensures statements { (name : StatementName) → is_left_out (statements.text_of name) ≡ false }
+{}

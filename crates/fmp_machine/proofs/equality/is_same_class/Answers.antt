@@ -1,5 +1,0 @@
-use Rattle.fmp_machine.proofs.Same.{classes_decide}
-use Rattle.fmp_machine.proofs.equality.is_same_class.Goals as goal
-
-pub returns : goal.returns
-returns c = rw c.eq.ensures (classes_decide c.args.one c.args.other)

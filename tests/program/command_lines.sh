@@ -1,0 +1,93 @@
+# Words of the command line that are refused, and help.
+
+command_lines() {
+    write_again
+    run 2 /dev/null <(echo fmpsim: a word of the command line is not UTF-8) calls "$late/machine.cfg" $'\xff'
+    refused_lines
+    options_anywhere
+    run 2 /dev/null <(value 0 turns '0 is not in 1..=1000000') smp again.cfg again.txt --ticks 0 --turns 0
+    run 2 /dev/null <(value 1000001 ticks '1000001 is not in 0..=1000000') smp again.cfg again.txt --ticks 1000001 --turns 1
+    run 2 /dev/null <(value none seed 'invalid digit found in string') smp again.cfg again.txt --ticks 0 --turns 1 --seed none
+    usage 0 output errors --help
+    usage 0 output errors calls --help
+    usage 0 output errors check --help
+    usage 0 output errors wave --help
+    usage 0 output errors smp --help
+    usage 0 output errors list --help
+}
+
+# Lines that are no command: why stands on standard error, mostly with the usage, and nothing is done.
+refused_lines() {
+    local line words
+    while IFS= read -r line; do
+        read -ra words <<< "$line"
+        usage 2 errors output "${words[@]}"
+    done <<- END
+
+	call machine.cfg events.txt
+	machine.cfg events.txt
+	calls
+	calls machine.cfg
+	calls machine.cfg events.txt more
+	calls --fast machine.cfg events.txt
+	calls --all machine.cfg events.txt
+	calls --show machine.cfg events.txt
+	check machine.cfg
+	check machine.cfg trace.txt more
+	check --show --all machine.cfg trace.txt
+	check --all --all machine.cfg trace.txt
+	check --state machine.cfg trace.txt
+	wave machine.cfg
+	wave machine.cfg trace.txt more
+	wave --show machine.cfg trace.txt
+	list act_tsk sig_sem
+	smp machine.cfg scripts.txt
+	smp machine.cfg scripts.txt --ticks 0
+	smp machine.cfg scripts.txt --turns 1
+	smp machine.cfg --ticks 0 --turns 1
+	END
+    while IFS= read -r line; do
+        read -ra words <<< "$line"
+        refused "${words[@]}"
+    done <<- END
+	check --show=yes machine.cfg trace.txt
+	calls --state=yes machine.cfg events.txt
+	smp machine.cfg scripts.txt --ticks 0 --turns 1000001
+	smp machine.cfg scripts.txt --ticks 0 --turns 1 --seed 18446744073709551616
+	END
+}
+
+# An option stands before, between or behind the paths, and the run is the same one.
+options_anywhere() {
+    sed '3s/taken/none/' "$late/trace.txt" > other.txt
+    "$program" calls --state "$late/machine.cfg" "$late/events.txt" > with_states
+    run 0 with_states /dev/null calls "$late/machine.cfg" --state "$late/events.txt"
+    run 0 with_states /dev/null calls "$late/machine.cfg" "$late/events.txt" --state
+    "$program" check --all "$late/machine.cfg" other.txt > each
+    run 5 each /dev/null check "$late/machine.cfg" --all other.txt
+    run 5 each /dev/null check "$late/machine.cfg" other.txt --all
+    run 0 "$spin/trace.txt" /dev/null smp --turns 100 --seed 11 "$spin/machine.cfg" --ticks 1 "$spin/scripts.txt"
+    run 0 "$spin/trace.txt" /dev/null smp --context "$spin/machine.cfg" "$spin/scripts.txt" --ticks 1 --turns 100 --seed 11
+    run 0 "$late/trace.vcd" /dev/null wave --context "$late/machine.cfg" "$late/trace.txt"
+}
+
+# usage STATUS TOLD SILENT WORD..: the program on these words ends so, tells its usage in one file, and the other is empty.
+usage() {
+    local well=no
+    play "${@:4}"
+    [ $? = "$1" ] && grep -q '^Usage: fmpsim' "$2" && [ ! -s "$3" ] && well=yes
+    count "$well" "${@:4}"
+}
+
+# refused WORD..: the program refuses these words, tells why on standard error, and does nothing.
+refused() {
+    local well=no
+    play "$@"
+    [ $? = 2 ] && [ -s errors ] && [ ! -s output ] && well=yes
+    count "$well" "$@"
+}
+
+# value GIVEN OPTION WHY: how clap refuses the value of an option.
+value() {
+    printf "error: invalid value '%s' for '--%s <N>': %s\n\nFor more information, try '--help'.\n" "$@"
+}

@@ -1,0 +1,63 @@
+# What all runs of the program share. $program is the program, and $kind how it was built: `llvm`, `by-rattle` or `unproved`.
+
+late=$top/examples/late-interrupt
+spin=$top/examples/scripted-spin-lock
+
+# count WELL WORD..: counts one run of the program on these words, and tells a failure.
+count() {
+    if [ "$1" = yes ]; then
+        passed=$((passed + 1))
+    else
+        failed=$((failed + 1))
+        printf 'FAILED: %s' "${program##*/}" && printf ' %q' "${@:2}" && echo
+    fi
+}
+
+# left_out WHY WORD..: tells that the program is not run on these words.
+left_out() {
+    printf 'left out of %s, since %s:' "${program##*/}" "$1" && printf ' %q' "${@:2}" && echo
+}
+
+# play WORD..: runs the program in so many KiB of memory and seconds of processor time, if $memory and $seconds say how many, with
+# its output into the file $to and its input from the file $from. In little memory there is room for nothing beside the program;
+# else it is ended after ten minutes, so that one that waits for ever does not stop the test.
+play() {
+    local patience=(timeout --foreground 600)
+    (
+        [ -z "${seconds-}" ] || ulimit -t "$seconds"
+        [ -z "${memory-}" ] || { patience=() && ulimit -v "$memory"; }
+        exec "${patience[@]}" "$program" "$@"
+    ) < "${from:-/dev/null}" > "${to:-output}" 2> errors
+}
+
+# run STATUS OUTPUT ERRORS WORD..: the program on these words ends so, and writes what these two files have.
+run() {
+    local ended well=yes
+    if [ "$kind" = unproved ] && [ -n "${memory-}" ]; then
+        left_out 'its checks need more memory' "${@:4}"
+        return
+    fi
+    : > output
+    play "${@:4}"
+    ended=$?
+    [ "$ended" = "$1" ] || { well=no && echo "status $ended in place of $1"; }
+    diff "$2" output || well=no
+    diff "$3" errors || well=no
+    count "$well" "${@:4}"
+}
+
+# unread WORD..: the program cannot read one of the files that these words name.
+unread() {
+    run 3 /dev/null <(echo fmpsim: read failed) "$@"
+}
+
+# unwritten WORD..: the program cannot write what these words ask for.
+unwritten() {
+    to=/dev/full run 3 /dev/null <(echo fmpsim: write failed) "$@"
+}
+
+# Writes the configuration of a machine whose only task starts itself anew each time, and its scripts.
+write_again() {
+    printf 'PROCESSORS(1);\nDEF_CLASS(C, 1, {1});\nCLASS(C) { CRE_TSK(T, {TA_ACT, 0, main, 1, 4096, NULL}); }\n' > again.cfg
+    printf 'script main\nact_tsk(TSK_SELF)\nend\n' > again.txt
+}

@@ -1,0 +1,34 @@
+# The completions are what the program's help makes, and work in bash. The manual has the options of each command.
+
+completions() {
+    local command same=yes right=no
+    (mkdir -p made && cd made && "$top/completions/make.sh" "$program") || same=no
+    for command in fmpsim.bash _fmpsim fmpsim.fish; do
+        diff "$top/completions/$command" "made/$command" || same=no
+    done
+    count "$same" --help
+    [ "$(completed calls --)" = "$(long_options calls)" ] && [ "$(completed smp --t)" = $'--ticks\n--turns' ] \
+        && [ "$(completed list twai_s)" = twai_sem ] && [ "$(completed l)" = list ] && [ -z "$(completed calls x)" ] && right=yes
+    count "$right" '<Tab>'
+    for command in $(sed -nE "s/.* words='(.*) help --help --version'.*/\1/p" "$top/completions/fmpsim.bash"); do
+        same=no
+        diff <(long_options "$command" | grep -vx -e --help) \
+            <(sed -n "/^\.SS $command\$/,/^\.S[SH]/p" "$top/man/fmpsim.1" | sed -nE 's/^\.BI? \\-\\-([a-z]+).*/--\1/p') && same=yes
+        count "$same" "$command" --help '# as in the manual'
+    done
+}
+
+# completed WORD..: what the completion of bash makes of the last of these words.
+completed() (
+    # shellcheck source=/dev/null
+    source "$top/completions/fmpsim.bash"
+    # shellcheck disable=SC2034 # the completion reads these
+    COMP_WORDS=("$program" "$@") COMP_CWORD=$#
+    _fmpsim
+    printf '%s\n' "${COMPREPLY[@]}"
+)
+
+# long_options COMMAND: the options in the help of a command.
+long_options() {
+    "$program" "$1" --help | sed -nE '/^Options:/,/^$/s/^ +(-[a-z], )?(--[a-z]+) .*/\2/p'
+}

@@ -1,0 +1,31 @@
+# The events come through a pipe, and the trace goes into one.
+
+pipes() {
+    local ended pieces
+    from=$late/events.txt run 0 "$late/trace.txt" /dev/null calls "$late/machine.cfg" -
+    printf 'P1 tick\nP1 jump()\n' > events.txt
+    from=events.txt run 1 <(echo 1 P1 T1 tick taken) <(echo fmpsim: -: line 2: E2 bad word) calls "$late/machine.cfg" -
+    yes 'P1 tick' | head -n 1000000 > long.txt
+    ("$program" calls "$late/machine.cfg" - < long.txt 2> errors; echo $? > ended) | head -n 1 > output
+    ended=no
+    [ "$(cat ended)" = 3 ] && [ "$(cat output)" = '1 P1 T1 tick taken' ] && [ "$(cat errors)" = 'fmpsim: write failed' ] && ended=yes
+    count "$ended" calls "$late/machine.cfg" - '|' head -n 1
+    # Lines are held back, so that 64 KiB of them are one write. This pipe keeps apart what was written apart, and what was not in
+    # pieces of 4 KiB: of 120 KiB there are some thirty, and would be 5000 if each line were written by itself.
+    head -n 5000 long.txt > events.txt
+    pieces=$(in_pieces "$program" calls "$late/machine.cfg" events.txt)
+    ended=no
+    [ "$pieces" -ge 1 ] && [ "$pieces" -le 60 ] && ended=yes
+    count "$ended" calls "$late/machine.cfg" events.txt "# in $pieces writes"
+}
+
+# in_pieces COMMAND..: in how many pieces the command's output comes through a pipe that keeps its writes apart.
+in_pieces() {
+    python3 -c '
+import os, subprocess, sys
+end, start = os.pipe2(os.O_DIRECT)
+with subprocess.Popen(sys.argv[1:], stdout=start):
+    os.close(start)
+    print(sum(1 for piece in iter(lambda: os.read(end, 4096), b"")))
+' "$@"
+}

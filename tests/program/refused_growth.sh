@@ -1,0 +1,78 @@
+# Each request of the library for memory refused in turn: a library of C counts them, and refuses one.
+
+# The program of Rattle's own compiler makes the same requests. The checks of an unproved one have an allocator of their own.
+refused_growth() {
+    local whole=$top/examples/whole-configuration
+    if [ "$kind" != llvm ]; then
+        left_out 'its requests for memory are not what is tried' '# six runs in which each is refused in turn'
+        return
+    fi
+    if ! make_refusing; then
+        echo 'there is no compiler of C (cc), so no request for memory can be refused'
+        count no '# each request for memory refused in turn'
+        return
+    fi
+    echo yes > verdict.txt
+    refused "$late/trace.txt" calls "$late/machine.cfg" "$late/events.txt"
+    refused "$whole/trace.txt" calls "$whole/machine.cfg" "$whole/events.txt"
+    refused verdict.txt check "$late/machine.cfg" "$late/trace.txt"
+    refused "$spin/trace.txt" smp "$spin/machine.cfg" "$spin/scripts.txt" --ticks 1 --turns 100 --seed 11
+    refused "$late/trace.vcd" wave "$late/machine.cfg" "$late/trace.txt"
+    refused threads smp "$spin/machine.cfg" "$spin/scripts.txt" --ticks 0 --turns 6
+}
+
+# refused TEXT WORD..: with the first request for memory refused, then with the second one, and so on until none is: each run
+# writes this text, or whole lines of its beginning and that memory ran out. The last one writes the text. Where it is `threads`
+# the run may write any trace that `check` says yes to, with the machine of the second word, and else nothing.
+refused() {
+    local n=0 ended told=0 well=yes
+    while n=$((n + 1)) && : > output && rm -f met; do
+        (REFUSE=$n LD_PRELOAD=$PWD/refuse.so exec "$program" "${@:2}") < /dev/null > output 2> errors
+        ended=$?
+        [ -e met ] || break
+        if [ "$ended" = 4 ]; then
+            told=$((told + 1))
+            grep -qxE 'fmpsim: (.*want of memory|no thread could be started)' errors && [ "$(wc -l < errors)" = 1 ] || well=no
+            [ ! -s output ] || head -n "$(wc -l < output)" "$1" | cmp - output || well=no
+        else
+            is_whole "$@" || well=no
+        fi
+    done
+    is_whole "$@" && [ "$told" -ge 20 ] || well=no
+    count "$well" "${@:2}" '# each request for memory refused in turn'
+}
+
+# is_whole TEXT WORD..: the run of these words that just ended wrote all that it has to.
+is_whole() {
+    [ ! -s errors ] || return 1
+    if [ "$1" = threads ]; then
+        [ "$ended" = 0 ] || [ "$ended" = 6 ] && "$program" check "$3" output | grep -qx yes
+    else
+        [ "$ended" = 0 ] && cmp "$1" output
+    fi
+}
+
+# Makes the library, refuse.so.
+make_refusing() {
+    cc -shared -fPIC -O1 -o refuse.so -xc - << 'END'
+#define _GNU_SOURCE
+#include <errno.h>
+#include <fcntl.h>
+#include <stdlib.h>
+#include <unistd.h>
+static int refuses(void) {
+    static int asked;
+    const char *turn = getenv("REFUSE");
+    if (turn == NULL || __atomic_add_fetch(&asked, 1, __ATOMIC_SEQ_CST) != atoi(turn)) return 0;
+    close(open("met", O_CREAT | O_WRONLY, 0600));
+    errno = ENOMEM;
+    return 1;
+}
+void *__libc_malloc(size_t), *__libc_calloc(size_t, size_t), *__libc_realloc(void *, size_t), *__libc_memalign(size_t, size_t);
+void *malloc(size_t n) { return refuses() ? NULL : __libc_malloc(n); }
+void *calloc(size_t n, size_t m) { return refuses() ? NULL : __libc_calloc(n, m); }
+void *realloc(void *p, size_t n) { return refuses() ? NULL : __libc_realloc(p, n); }
+void *aligned_alloc(size_t a, size_t n) { return refuses() ? NULL : __libc_memalign(a, n); }
+int posix_memalign(void **p, size_t a, size_t n) { return refuses() || !(*p = __libc_memalign(a, n)) ? ENOMEM : 0; }
+END
+}

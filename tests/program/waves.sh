@@ -1,0 +1,25 @@
+# The waveform of a trace, which has the line of each event's time. Of a trace that is not the machine's there is none.
+
+waves() {
+    local folder timed=yes drawn=no
+    run 0 "$late/trace.vcd" /dev/null wave "$late/machine.cfg" "$late/trace.txt"
+    for folder in "$top"/examples/*/; do
+        play wave "$folder/machine.cfg" "$folder/trace.txt"
+        diff <(grep '^#' output) <(seq -f '#%.0f' 0 "$(wc -l < "$folder/trace.txt")") || timed=no
+    done
+    count "$timed" wave
+    sed '3s/taken/none/' "$late/trace.txt" > changed.txt
+    run 5 /dev/null <(echo fmpsim: changed.txt: no 3: see fmpsim check --show) wave "$late/machine.cfg" changed.txt
+    printf '1 P1 T1 tick taken' > cut.txt
+    run 1 /dev/null <(echo fmpsim: cut.txt: line 1: E6 cut short) wave "$late/machine.cfg" cut.txt
+    run 1 /dev/null <(printf '%s\n' 'fmpsim: cut.txt: line 1: E6 cut short' '  1 P1 T1 tick taken' '                    ^' \
+        '  End the last line with a line feed, and the last script with `end`.') wave --context "$late/machine.cfg" cut.txt
+    run 1 /dev/null <(echo fmpsim: cut.txt: line 1: F1 syntax) wave cut.txt "$late/trace.txt"
+    unread wave missing "$late/trace.txt"
+    unread wave "$late/machine.cfg" missing
+    unwritten wave "$late/machine.cfg" "$late/trace.txt"
+    # against a reader of waveforms that knows nothing of the program
+    python3 "$top/tests/program/waves.py" "$program" > output 2>&1 && drawn=yes
+    [ "$drawn" = yes ] || cat output
+    count "$drawn" wave '# read by waves.py'
+}
