@@ -25,10 +25,10 @@ add() {
     if [[ $(tail -n 1 "$room/told") =~ $closing ]]; then
         passed=$((passed + BASH_REMATCH[1]))
         failed=$((failed + BASH_REMATCH[2]))
-        ((status == 0 || BASH_REMATCH[2] > 0)) || failed=$((failed + 1))
-    else
-        failed=$((failed + 1))
+        ((status == 0 || BASH_REMATCH[2] > 0)) && return
     fi
+    failed=$((failed + 1))
+    echo "FAILED: $1 ended with status $status, and counts no failure"
 }
 
 prove() {

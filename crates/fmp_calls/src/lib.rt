@@ -3,7 +3,8 @@
 //! The table has a line for each call, in the file of its family: its name, the kinds of its arguments, and what makes the call
 //! of them. Reading, printing and listing calls go by this table, so no other crate names a call's text.
 //!
-//! [`find_call`] finds a call by its name; [`form`] and [`values`] take one apart, and [`with_values`] puts it together again.
+//! [`find_call`] finds a call by its name; [`form`] and [`values`], or [`parts`] at once, take one apart, and [`with_values`]
+//! puts it together again.
 //! The law `tables_agree` says that these give each other back, and that each call stands in the table once. The definitions
 //! are the same lines in `specs/Tables`.
 #![tactic(auto)]
@@ -20,4 +21,6 @@ pub use table::sync::SYNC_CALLS;
 pub use table::system::SYSTEM_CALLS;
 pub use table::task::TASK_CALLS;
 pub use table::time::TIME_CALLS;
-pub use table::{CallForm, MOST_ARGUMENTS, Values, find_call, form, values, with_values};
+pub use table::{
+    CallForm, MOST_ARGUMENTS, Values, find_call, form, parts, values, with_values, with_values_of,
+};

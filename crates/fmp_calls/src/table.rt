@@ -105,6 +105,18 @@ macro_rules! values {
     };
 }
 
+/// How a call of a family is written, and the values of its arguments.
+macro_rules! parts {
+    ($family:ident, $call:expr; $($variant:ident $(($($kind:ident),+))? = $text:literal,)+) => {
+        match $call {
+            $($family::$variant $(($($kind),+))? => (
+                CallForm::new($text, &[$($(kind!($kind)),+)?]),
+                listed(&[$($(value!($kind, $kind)),+)?]),
+            ),)+
+        }
+    };
+}
+
 /// The call of the same name with the arguments that values are.
 macro_rules! with_values {
     ($family:ident, $call:expr, $values:expr; $($variant:ident $(($($kind:ident),+))? = $text:literal,)+) => {
@@ -152,12 +164,16 @@ impl CallForm {
     }
 }
 
+/// The values as a list. They are pushed one by one, since so few are not worth a call that copies bytes.
+#[inline(always)]
 fn listed(values: &[Value]) -> Values
     requires { length values.now ≤ MOST_ARGUMENTS }
     ensures { result.items ≡ values.now }
 {
     let mut list = ArrayVec::new();
-    let _ = list.try_extend_from_slice(values);
+    for value in values {
+        list.push(*value);
+    }
     list
 }
 
@@ -233,11 +249,37 @@ pub fn values(call: Call) -> Values
     }
 }
 
+/// How the call is written, and its arguments: [`form`] and [`values`] at once.
+pub fn parts(call: Call) -> (CallForm, Values)
+    ensures text { result.0.text.now ≡ text_of call }
+    ensures bare { result.0.bare ≡ is_bare call }
+    ensures kinds { result.0.kinds.now ≡ kinds_of call }
+    ensures values { result.1.items ≡ values_of call }
+{
+    match call {
+        Call::Task(call) => task::parts(call),
+        Call::Sync(call) => sync::parts(call),
+        Call::Buffer(call) => buffer::parts(call),
+        Call::Time(call) => time::parts(call),
+        Call::System(call) => system::parts(call),
+        Call::Spin(call) => spin::parts(call),
+        Call::RetHdr => (form(call), Values::new()),
+    }
+}
+
 /// The call of the same name with these arguments, where they are of its kinds.
 pub fn with_values(call: Call, values: &[Value]) -> Option<Call>
     ensures { result ≡ call_of call values.now }
 {
-    if !are_of_kinds(form(call).kinds, values) {
+    with_values_of(call, form(call).kinds, values)
+}
+
+/// As [`with_values`], where the kinds of the call's arguments are at hand.
+pub fn with_values_of(call: Call, kinds: &[ArgumentKind], values: &[Value]) -> Option<Call>
+    requires { kinds.now ≡ kinds_of call }
+    ensures { result ≡ call_of call values.now }
+{
+    if !are_of_kinds(kinds, values) {
         return None;
     }
     Some(match call {

@@ -30,7 +30,7 @@ use Rattle.fmp_trace.specs.Fits.{IsNamed, RunnerFits, ReleasesFit, RunChangeFits
 
 -- ---- the events of the answers
 
-step_event : (m : State) (e : Event) → (step numbered m e).1.event ≡ e
+pub step_event : (m : State) (e : Event) → (step numbered m e).1.event ≡ e
 unfolding settled before_event unchanged
 step_event m (events.Call p c) = cond_both (is_some (runner_of m p)) _ _ (λ (x : State × Record). x.1.event ≡ events.Call p c) (λ _. refl) (λ _. refl)
 step_event m (events.Tick p) =
@@ -88,7 +88,7 @@ module _ (c : Setup) (valid : IsValid c) where
   run_change_fits (Some None) one = tt
   run_change_fits (Some (Some t)) one = task_fits t one
 
-  record_fits : (r : Record) → NamesOnly (counts_of c) r → EventInBits r.event → FitsNames c.names r
+  pub record_fits : (r : Record) → NamesOnly (counts_of c) r → EventInBits r.event → FitsNames c.names r
   record_fits r only in_bits = record {
     processor = rw valid.same_processors only.processor;
     event = in_bits;

@@ -1,5 +1,5 @@
 -- What is answered of a text that prints records: whether they are the machine's own answers.
-use Rattle.std.specs.Prelude.{◌≡◌, ◌≢◌, ℕ, ◌+◌, ◌-◌, ◌≤◌, Bool, List, [], ◌∷◌, length, map, take, slice_get, Result, Ok, All, if◌then◌else◌}
+use Rattle.std.specs.Prelude.{◌≡◌, ◌≢◌, ℕ, ◌+◌, ◌-◌, ◌≤◌, Bool, false, List, [], ◌∷◌, length, map, take, slice_get, Option, None, Some, Result, Ok, All, if◌then◌else◌}
 use Rattle.std.specs.Option.{ok_or}
 use Rattle.std.specs.Str.{bytes_eq}
 use Rattle.fmp_codes.specs.Records.{AreOn}
@@ -21,7 +21,7 @@ use Rattle.fmp_check.specs.declared.checking.Verdict.TheVariants.{Yes, No}
 use Rattle.fmp_trace.specs.Guess.{guess}
 use Rattle.fmp_trace.specs.Lines.{core_text, lines_from}
 use Rattle.fmp_trace.specs.Prints.{PrintsWithin}
-use Rattle.fmp_trace.specs.Reading.{records_in}
+use Rattle.fmp_trace.specs.Reading.{records_in, records_from}
 
 -- what the machine answers to the events of these records, as a text
 abbrev pub own_text : Setup → List Record → List ℕ
@@ -75,6 +75,20 @@ verdict_from names w n (last ∷ []) = Ok Yes
 verdict_from names w n (line ∷ next ∷ lines) = do
   told ← answered names w n line
   if told.1 then verdict_from names told.0 (n + 1) (next ∷ lines) else Ok (No n)
+
+-- the state behind the event that a line tells, if it tells any
+abbrev pub behind : State → Option Event → State
+behind w None = w
+behind w (Some e) = (step numbered w e).0
+
+-- whether line n prints what the machine answers to the event that it tells
+abbrev pub prints_answer : NameLists → State → ℕ → List ℕ → Option Event → Bool
+prints_answer names w n line None = false
+prints_answer names w n line (Some e) = bytes_eq (core_text names n (step numbered w e).1) line
+
+-- the verdict on the lines from line n on, or their first fault
+unfoldable pub judged_from : NameLists → State → ℕ → List (List ℕ) → Result Verdict TextFault
+judged_from names w n lines = records_from names n lines >>= λ records. verdict_from names w n lines
 
 -- the verdict on a text, or its first fault
 unfoldable pub checked : Setup → List ℕ → Result Verdict TextFault

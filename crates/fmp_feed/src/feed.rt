@@ -113,6 +113,7 @@ impl EventFeed {
     }
 
     /// Takes the lines that are skipped and the next one that is not off the front, and answers what that one says.
+    #[inline(always)]
     fn take_line(&mut self, names: &Names) -> Result<Option<Event>, TextKind>
         requires { self.old.fault ≡ None }
         ensures takes { TakesOff names.now self.old result self.new }
@@ -140,6 +141,7 @@ impl EventFeed {
     }
 
     /// Gives the event of the line that was taken off last, where there is room for it.
+    #[inline(always)]
     fn give(&mut self, event: Event) -> Result<Option<Event>, TextFault>
         ensures room { self.old.events < most_events → (result ≡ Ok (Some event)) × (self.new ≡ record self.old { events = self.old.events + 1 }) }
         ensures full { most_events ≤ self.old.events → (result ≡ Err (too_many self.old.lines)) × (self.new ≡ failed self.old (too_many self.old.lines)) }

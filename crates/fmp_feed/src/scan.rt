@@ -8,6 +8,7 @@ use memchr::memchr;
 
 /// The first whole line that is not skipped, behind so many lines, where the first `searched` bytes hold no line feed. Where
 /// there is none, it says no event.
+#[inline(always)]
 pub fn next_said(names: &Names, before: u32, searched: usize, bytes: &[u8]) -> Scan
     requires fits { before + length bytes.now < 2 ^ 32 }
     requires within { searched ≤ length bytes.now }
@@ -17,6 +18,9 @@ pub fn next_said(names: &Names, before: u32, searched: usize, bytes: &[u8]) -> S
     ensures gives { ScansTo names.now before bytes.now result }
     ensures whole { result.said ≡ Ok None → HasNoFeed (drop result.used bytes.now) }
 {
+    if searched == 0 {
+        return first_said(names, before, bytes);
+    }
     let Some(found) = memchr(b'\n', &bytes[searched..]) else {
         return Scan {
             said: Ok(None),

@@ -4,7 +4,7 @@ ghost use Rattle.fmp_queues.specs.Queues.{Queues, listed};
 use crate::machine::Machine;
 use fmp_codes::{Pri, Proc, Runner, Task};
 use fmp_machine::{Limits, Processor, TaskRecord, Wait};
-use fmp_words::Words;
+use fmp_words::{Overview, Tops, Words};
 
 impl Words for Machine {
     ghost Order = { Queues };
@@ -70,9 +70,9 @@ impl Words for Machine {
         self.assigned.set_task(t, changed);
     }
 
+    #[tactic(auto, using(crate::proofs::Going::arrive_after))]
     fn place(&mut self, t: Task, changed: TaskRecord) {
-        let task = self.assigned.task(t);
-        self.depart(t, &task);
+        self.make_room(t, &changed);
         self.assigned.set_task(t, changed);
         self.arrive(t, &changed);
     }
@@ -108,5 +108,17 @@ impl Words for Machine {
                 self.rejoin(t, changed.priority, wait);
             }
         }
+    }
+}
+
+impl Overview for Machine {
+    #[tactic(auto, unfolding(fmp_queues::specs::Queues::listed))]
+    fn tops(&self) -> Tops {
+        Tops::new(self.ready.tops(), self.dispatch.count())
+    }
+
+    #[tactic(auto, unfolding(fmp_queues::specs::Queues::listed))]
+    fn may_have_expired(&self) -> bool {
+        self.assigned.may_have_expired()
     }
 }

@@ -1,5 +1,5 @@
 //! What is assigned to processors.
-ghost use Rattle.std.specs.Prelude.{◌≡◌, ◌≤◌, None, [], length, map, true};
+ghost use Rattle.std.specs.Prelude.{◌≡◌, ◌≤◌, None, [], false, length, map, true};
 ghost use Rattle.fmp_codes.specs.declared.numbers.Task.{Task as AnyTask};
 ghost use Rattle.fmp_machine.specs.Boot.{phase_left};
 ghost use Rattle.fmp_setup.specs.Setup.{counts_for};
@@ -234,6 +234,15 @@ impl Assigned {
         ensures { self.new ≡ record self.old { waits_left = lowered (λ r. counts_for self.old.timer p r.assigned) self.old.tasks self.old.waits_left; cyclics_left = lowered (λ c. counts_for self.old.timer p c.assigned) self.old.cyclics self.old.cyclics_left; alarms_left = lowered (λ a. counts_for self.old.timer p a.assigned) self.old.alarms self.old.alarms_left } }
     {
         count_down(&mut self.timers, self.timer, p);
+    }
+
+    /// Whether anything may have 0 ticks left: there may be a wait of a task that there is not.
+    pub fn may_have_expired(&self) -> bool
+        ensures waits { result ≡ false → tasks_expired self.now.waits_left self.now.timed ≡ [] }
+        ensures alarms { result ≡ false → expired self.now.alarms_left self.now.alarms ≡ [] }
+        ensures cyclics { result ≡ false → expired self.now.cyclics_left self.now.cyclics ≡ [] }
+    {
+        self.timers.has_due()
     }
 
     /// The tasks whose waits have 0 ticks left, in the order in which the waits began.

@@ -13,7 +13,7 @@ use Rattle.fmp_calls.specs.declared.kinds.ObjectKind.TheVariants.{Task}
 use Rattle.fmp_calls.specs.declared.kinds.NameKind.{NameKind}
 use Rattle.fmp_calls.specs.declared.kinds.NameKind.TheVariants.{Object, Function}
 use Rattle.fmp_calls.specs.Kinds.{place_of, most_of}
-use Rattle.fmp_names.specs.Names.{NameLists, AreValid, defined_names, is_name, is_reserved, is_free, is_taken, is_object, is_defined, has_name, has_room, has_room_to_define, most_defined, with_name, with_defined_name, times}
+use Rattle.fmp_names.specs.Names.{NameLists, AreValid, defined_names, is_name, is_reserved, is_free, is_taken, is_object, is_defined, has_name, has_room, has_room_to_define, most_defined, with_name, with_defined_name, no_names, times}
 use Rattle.fmp_names.proofs.Listed.{list_all-at, list_all-set, list_all-push, times-none, times_any-none, times-push, list_any-nowhere, either_way}
 
 -- the greatest number of objects at a place among the kinds
@@ -32,6 +32,26 @@ most_of-le _ = omega arith
 pub place_of-lt : (kind : ObjectKind) → place_of kind < 8
 place_of-lt Task = omega arith
 place_of-lt _ = omega arith
+
+few_of_none : (kind : ObjectKind) → length (get_or (no_names 1).objects (place_of kind) []) ≤ most_of kind
+few_of_none Task = omega arith
+few_of_none _ = omega arith
+
+-- no names are valid
+pub none_valid : (processors : ℕ) → 1 ≤ processors → processors ≤ 8 → AreValid (no_names processors)
+none_valid processors least most = record {
+  least = least;
+  most = most;
+  kinds = refl;
+  limits = few_of_none;
+  names = refl;
+  function_names = refl;
+  few_defined = omega arith;
+  defined = refl;
+  numbers = All-nil (λ (d : List ℕ × ℕ). d.1 < 2 ^ 32);
+  distinct = λ name. omega arith;
+  functions_distinct = λ name. omega arith;
+}
 
 not_true : (b : Bool) → not b ≡ true → b ≡ false
 not_true true e = sym e

@@ -9,8 +9,10 @@ ghost use Rattle.fmp_calls.specs.Kinds.{most_of};
 ghost use Rattle.fmp_names.specs.Names as spec;
 
 use crate::constants::constant_in;
+use crate::likely::Likely;
 use fmp_bytes::{are_digits, behind, is_identifier};
 use fmp_calls::{NameKind, ObjectKind};
+use fmp_codes::Call;
 use indexmap::{IndexMap, IndexSet};
 use std::alloc::{AllocError, Global};
 use std::marker::Model;
@@ -31,6 +33,8 @@ pub struct Names {
     objects: [IndexSet<Vec<u8>>; 8],
     functions: IndexSet<Vec<u8>>,
     defined: IndexMap<Vec<u8>, u32>,
+    /// What words may name, for readers that compare a name before they believe it.
+    likely: Likely,
 }
 
 impl Model for Names {
@@ -112,6 +116,17 @@ fn insert_object(
     insert_name(&mut objects[place], name)
 }
 
+/// Keeps in mind that the next object of a kind has this name.
+fn remember(
+    likely: &mut Likely,
+    objects: &[IndexSet<Vec<u8>>; 8],
+    kind: ObjectKind,
+    name: &[u8],
+) -> Result<(), AllocError> {
+    let place = kind.place();
+    likely.add(place, name, objects[place].len().saturating_add(1))
+}
+
 fn insert_definition(
     defined: &mut IndexMap<Vec<u8>, u32>,
     name: Vec<u8>,
@@ -170,6 +185,7 @@ impl Names {
             ],
             functions: IndexSet::new(alloc),
             defined: IndexMap::new(alloc),
+            likely: Likely::new(alloc),
         }
     }
 
@@ -200,7 +216,10 @@ impl Names {
     {
         let copy = Vec::from_slice(self.alloc, name)?;
         match kind {
-            NameKind::Object(kind) => insert_object(&mut self.objects, kind.place(), copy),
+            NameKind::Object(kind) => {
+                remember(&mut self.likely, &self.objects, kind, name)?;
+                insert_object(&mut self.objects, kind.place(), copy)
+            }
             NameKind::Function => insert_name(&mut self.functions, copy),
         }
     }
@@ -304,6 +323,19 @@ impl Names {
     {
         let number = self.number(NameKind::Object(kind), name)?;
         Some(number as i32)
+    }
+
+    /// A call that a word with this key may name. Nothing is said of it: the caller compares the name.
+    #[inline(always)]
+    pub fn likely_call(&self, key: u64) -> Call {
+        self.likely.call(key)
+    }
+
+    /// The numbers of two objects of this kind that a word with this key may name, the likelier first. Nothing is said of them:
+    /// the caller compares the name.
+    #[inline(always)]
+    pub fn likely_objects(&self, kind: ObjectKind, key: u64) -> (u8, u8) {
+        self.likely.objects(kind.place(), key)
     }
 
     /// The name of the kind with this number.

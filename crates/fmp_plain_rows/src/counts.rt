@@ -4,10 +4,10 @@ ghost use Rattle.std.specs.List.{range_with_len};
 ghost use Rattle.fmp_codes.specs.Numbers.{as_object};
 ghost use Rattle.fmp_setup.specs.Setup.{counts_for};
 ghost use Rattle.fmp_machine.specs.World.{item};
-ghost use Rattle.fmp_machine.specs.Tick.{is_over, one_less, lowered, tasks_expired};
+ghost use Rattle.fmp_machine.specs.Tick.{is_over, one_less, lowered};
 
 use arrayvec::ArrayVec;
-use fmp_codes::{Object, Proc, Task};
+use fmp_codes::{Object, Proc};
 use fmp_machine::{Alarm, Cyclic, TaskRecord, Timer};
 
 /// What is assigned to a processor.
@@ -90,7 +90,7 @@ pub(crate) fn lower<T: Assigned, const N: usize>(
 }
 
 /// Whether there are ticks left, and they are 0.
-fn is_over(left: Option<u64>) -> bool
+pub(crate) fn is_over(left: Option<u64>) -> bool
     ensures { result ≡ is_over left }
 {
     match left {
@@ -110,20 +110,6 @@ pub(crate) fn objects_over(count: usize, counts: &[Option<u64>]) -> ArrayVec<Obj
         let o = Object::from_index(index);
         if is_over(counts.get(o.index()).copied().flatten()) {
             over.push(o);
-        }
-    }
-    over
-}
-
-/// Those of some tasks whose ticks left are 0.
-pub(crate) fn tasks_over(tasks: &[Task], counts: &[Option<u64>]) -> ArrayVec<Task, 64>
-    requires { length tasks.now ≤ 64 }
-    ensures { result.items ≡ tasks_expired counts.now tasks.now }
-{
-    let mut over = ArrayVec::new();
-    for t in tasks {
-        if is_over(counts.get(t.index()).copied().flatten()) {
-            over.push(*t);
         }
     }
     over

@@ -2,13 +2,14 @@
 ghost use Rattle.std.specs.Prelude.{◌≡◌, ◌-◌, ◌^◌};
 ghost use Rattle.fmp_machine.specs.Arrivals.{Arrivals, numbered};
 
-use crate::groups::{Group, is_runnable};
+use crate::groups::Group;
 use crate::locks::{free, holds};
 use crate::machine::Machine;
+use crate::tops::is_runnable;
 use arrayvec::ArrayVec;
 use fmp_codes::{Pri, Proc, Runner, Task};
 use fmp_machine::{Limits, Processor, TaskRecord, Wait};
-use fmp_words::Words;
+use fmp_words::{Overview, Tops, Words, each_top};
 
 impl Machine {
     /// The ready tasks of a priority on a processor, in their precedence.
@@ -30,15 +31,11 @@ impl Words for Machine {
     ghost room = { λ w. 2 ^ 64 - 1 - w.order.next };
 
     fn task(&self, t: Task) -> TaskRecord {
-        self.tasks
-            .as_slice()
-            .get(t.index())
-            .copied()
-            .unwrap_or(TaskRecord::default())
+        self.tasks.record(t)
     }
 
     fn task_count(&self) -> usize {
-        self.tasks.len()
+        self.tasks.records().len()
     }
 
     fn processor(&self, p: Proc) -> Processor {
@@ -60,7 +57,7 @@ impl Words for Machine {
 
     #[tactic(auto, unfolding(fmp_machine::specs::Arrivals::numbered))]
     fn top(&self, p: Proc) -> Option<Task> {
-        self.first_of(Group::Ready(p))
+        self.tasks.top(p)
     }
 
     #[tactic(auto, unfolding(fmp_machine::specs::Arrivals::numbered))]
@@ -91,16 +88,15 @@ impl Words for Machine {
     }
 
     fn set_task(&mut self, t: Task, changed: TaskRecord) {
-        if let Some(place) = self.tasks.get_mut(t.index()) {
-            *place = changed;
-        }
+        self.tasks.set(t, changed);
     }
 
     #[tactic(auto, unfolding(fmp_machine::specs::Arrivals::numbered))]
     fn place(&mut self, t: Task, changed: TaskRecord) {
-        self.set_task(t, changed);
         if is_runnable(&changed) {
-            self.put_last(t);
+            self.put_last(t, changed);
+        } else {
+            self.set_task(t, changed);
         }
     }
 
@@ -133,5 +129,16 @@ impl Words for Machine {
                 self.rejoin(t, order);
             }
         }
+    }
+}
+
+impl Overview for Machine {
+    fn tops(&self) -> Tops {
+        each_top(self)
+    }
+
+    // The plain machine looks at all that counts.
+    fn may_have_expired(&self) -> bool {
+        true
     }
 }

@@ -1,14 +1,13 @@
 -- The lists of tasks against the lists of items.
-use Rattle.std.proofs.Common.{◌≡◌, ℕ, zero, suc, ◌+◌, ◌-◌, ◌*◌, ◌<◌, ◌≤◌, true, false, Option, Some, None, List, [], ◌∷◌, ◌++◌, map, option_map, take, drop, set, refl, sym, ap, ◌∙◌, subst, arith, ⊎_elim}
+use Rattle.std.proofs.Common.{◌≡◌, ℕ, zero, suc, ◌+◌, ◌-◌, ◌*◌, ◌<◌, ◌≤◌, true, false, Some, None, List, [], ◌∷◌, ◌++◌, map, option_map, take, drop, set, refl, sym, ap, ◌∙◌, subst, arith, ⊎_elim}
 use Rattle.std.proofs.lemmas.Bool.{cases_lt}
 use Rattle.std.proofs.lemmas.List.{map_push, get_or-take, get_or-drop, get_or_past, length-take}
-use Rattle.fmp_codes.specs.declared.numbers.Proc.{Proc}
 use Rattle.fmp_codes.specs.declared.numbers.Task.{Task}
 use Rattle.fmp_links.specs.Lists as links
 use Rattle.fmp_links.specs.Lists.{has}
 use Rattle.fmp_links.specs.Tasks.{AreDistinct, has_task, task_at, without}
 use Rattle.fmp_links.proofs.Tasks.{distinct-map, first_of-map, gone_from, has_task-map, without-map, without_lacking}
-use Rattle.fmp_ready.specs.Queues.{Queues, list_at, push_last, take_out, rotated, first_of, top_of, bit_of, AreDisjoint}
+use Rattle.fmp_ready.specs.Queues.{Queues, list_at, push_last, take_out, rotated, first_of, top_at, bit_of, AreDisjoint}
 use Rattle.fmp_ready.specs.Kept.{tasks_of}
 
 pub list_at-tasks_of : (q : List (List ℕ)) (i : ℕ) → list_at (tasks_of q) i ≡ map task_at (links.list_at q i)
@@ -54,6 +53,9 @@ pub take_out-lacking : (q : List (List Task)) (t : Task) → ((i : ℕ) → has_
 take_out-lacking [] t h = refl
 take_out-lacking (x ∷ q) t h = rw (without_lacking t x (h 0)) (ap (λ (r : List (List Task)). x ∷ r) (take_out-lacking q t (λ i. h (suc i))))
 
+pub take_out-twice : (q : List (List Task)) (t : Task) → take_out (take_out q t) t ≡ take_out q t
+take_out-twice q t = take_out-lacking (take_out q t) t (gone q t)
+
 -- a task that stands in no other list leaves this one alone
 pub take_out-alone : (q : List (List Task)) (t : Task) (i : ℕ) → ((j : ℕ) → (j ≡ i → ⊥) → has_task t (list_at q j) ≡ false) → take_out q t ≡ set q i (without t (list_at q i))
 take_out-alone [] t i h = refl
@@ -87,10 +89,9 @@ first_none ((u ∷ us) ∷ qs) none = let bad : u ∷ us ≡ [] = none 0 in cc
 list_at-window : (q : List (List ℕ)) (p j : ℕ) → j < 32 → list_at (take 32 (drop (32 * p) (tasks_of q))) j ≡ map task_at (links.list_at q (32 * p + j))
 list_at-window q p j h = get_or-take 32 (drop (32 * p) (tasks_of q)) j [] h ∙ get_or-drop (32 * p) (tasks_of q) j [] ∙ list_at-tasks_of q (32 * p + j)
 
-pub top_some : (q : List (List ℕ)) (p : Proc) (k x i : ℕ) → p.number - 1 ≡ i → k < 32 → ((j : ℕ) → j < k → links.list_at q (32 * i + j) ≡ []) → links.first_of (links.list_at q (32 * i + k)) ≡ Some x →
-    top_of (tasks_of q) p ≡ Some (task_at x)
-top_some q p k x i e h none first =
-    subst (λ (n : ℕ). first_of (take 32 (drop (32 * n) (tasks_of q))) ≡ Some (task_at x)) (sym e) (by (links.list_at q (32 * i + k)) refl first)
+pub top_some : (q : List (List ℕ)) (k x i : ℕ) → k < 32 → ((j : ℕ) → j < k → links.list_at q (32 * i + j) ≡ []) → links.first_of (links.list_at q (32 * i + k)) ≡ Some x →
+    top_at (tasks_of q) i ≡ Some (task_at x)
+top_some q k x i h none first = by (links.list_at q (32 * i + k)) refl first
   where
     by : (xs : List ℕ) → links.list_at q (32 * i + k) ≡ xs → links.first_of xs ≡ Some x → first_of (take 32 (drop (32 * i) (tasks_of q))) ≡ Some (task_at x)
     by [] s f = cc
@@ -99,12 +100,11 @@ top_some q p k x i e h none first =
         first_at (take 32 (drop (32 * i) (tasks_of q))) k (task_at x) (map task_at ys) (λ j l. list_at-window q i j (omega (arith, l, h)) ∙ ap (map task_at) (none j l))
         (list_at-window q i k h ∙ ap (map task_at) s ∙ ap (λ (z : ℕ). task_at z ∷ map task_at ys) same)
 
-pub top_none : (q : List (List ℕ)) (p : Proc) (i : ℕ) → p.number - 1 ≡ i → ((j : ℕ) → j < 32 → links.list_at q (32 * i + j) ≡ []) → top_of (tasks_of q) p ≡ None
-top_none q p i e none =
+pub top_none : (q : List (List ℕ)) (i : ℕ) → ((j : ℕ) → j < 32 → links.list_at q (32 * i + j) ≡ []) → top_at (tasks_of q) i ≡ None
+top_none q i none =
     let qs = take 32 (drop (32 * i) (tasks_of q)) in
-    subst (λ (n : ℕ). first_of (take 32 (drop (32 * n) (tasks_of q))) ≡ None) (sym e)
-    (first_none qs (λ j. ⊎_elim (λ (h : j < 32). list_at-window q i j h ∙ ap (map task_at) (none j h))
-    (λ (h : 32 ≤ j). get_or_past qs j [] (omega (arith, h, length-take 32 (drop (32 * i) (tasks_of q))))) (cases_lt j 32)))
+    first_none qs (λ j. ⊎_elim (λ (h : j < 32). list_at-window q i j h ∙ ap (map task_at) (none j h))
+    (λ (h : 32 ≤ j). get_or_past qs j [] (omega (arith, h, length-take 32 (drop (32 * i) (tasks_of q))))) (cases_lt j 32))
 
 pub bit_tasks : (q : List (List ℕ)) (i : ℕ) → bit_of (list_at (tasks_of q) i) ≡ bit_of (links.list_at q i)
 bit_tasks q i = ap bit_of (list_at-tasks_of q i) ∙ by (links.list_at q i)
@@ -113,12 +113,11 @@ bit_tasks q i = ap bit_of (list_at-tasks_of q i) ∙ by (links.list_at q i)
     by [] = refl
     by (x ∷ xs) = refl
 
-pub queues_same : (a b : List (List Task)) (m n : List (Option Task)) → a ≡ b → m ≡ n → ◌≡◌ {A = Queues} (record { lists = a; marks = m }) (record { lists = b; marks = n })
-queues_same a b m n e f =
-    ap (λ (l : List (List Task)). the l m) e ∙ ap (the b) f
+pub queues_same : (a b : List (List Task)) → a ≡ b → ◌≡◌ {A = Queues} (record { lists = a }) (record { lists = b })
+queues_same a b e = ap the e
   where
-    the : List (List Task) → List (Option Task) → Queues
-    the l k = record { lists = l; marks = k }
+    the : List (List Task) → Queues
+    the l = record { lists = l }
 
 pub empty_from_bit : (xs : List ℕ) → bit_of xs ≡ 0 → xs ≡ []
 empty_from_bit [] e = refl

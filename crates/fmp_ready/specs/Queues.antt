@@ -1,5 +1,5 @@
 -- Ready queues as lists of tasks, one for each processor and priority.
-use Rattle.std.specs.Prelude.{◌≡◌, ℕ, ◌+◌, ◌-◌, ◌*◌, ◌==◌, Bool, true, false, Option, Some, None, List, [], ◌∷◌, ◌++◌, slice_set, slice_index_or, map, take, drop}
+use Rattle.std.specs.Prelude.{◌≡◌, ℕ, ◌+◌, ◌-◌, ◌*◌, true, Option, Some, None, List, [], ◌∷◌, ◌++◌, slice_set, slice_index_or, map, take, drop}
 use Rattle.fmp_codes.specs.declared.numbers.Proc.{Proc}
 use Rattle.fmp_codes.specs.declared.numbers.Pri.{Pri}
 use Rattle.fmp_codes.specs.declared.numbers.Task.{Task}
@@ -7,7 +7,6 @@ use Rattle.fmp_links.specs.Tasks.{has_task, without, AreDistinct}
 
 pub record Queues : Type 0 where
   pub lists : List (List Task)  -- of each processor the lists of its priorities, from the highest
-  pub marks : List (Option Task)  -- the first task of each processor when they were marked last
 
 -- the place of the list of a processor and a priority among all lists
 abbrev pub list_number : Proc → Pri → ℕ
@@ -34,19 +33,18 @@ first_of [] = None
 first_of ([] ∷ qs) = first_of qs
 first_of ((t ∷ ts) ∷ qs) = Some t
 
--- the first task of a processor, by priority and then by place
+-- the first task of the processor at a place, by priority and then by place
+abbrev pub top_at : List (List Task) → ℕ → Option Task
+top_at q k = first_of (take 32 (drop (32 * k) q))
+
+-- the first task of a processor
 abbrev pub top_of : List (List Task) → Proc → Option Task
-top_of q p = first_of (take 32 (drop (32 * (p.number - 1)) q))
+top_of q p = top_at q (p.number - 1)
 
--- the task marked on a processor
-abbrev pub marked_on : List (Option Task) → Proc → Option Task
-marked_on marks p = slice_index_or marks (p.number - 1) None
-
-abbrev pub is_same : Option Task → Option Task → Bool
-is_same None None = true
-is_same None (Some u) = false
-is_same (Some t) None = false
-is_same (Some t) (Some u) = t.number == u.number
+-- the number of a first task, or 0 where there is none
+abbrev pub number_of : Option Task → ℕ
+number_of None = 0
+number_of (Some t) = t.number
 
 -- 1 where a list is not empty
 abbrev pub bit_of : {X : Type 0} → List X → ℕ

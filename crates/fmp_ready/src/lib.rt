@@ -1,32 +1,34 @@
 //! Ready queues: the tasks that are ready on each processor, in their precedence.
 //!
-//! Contracts see a list of tasks for each processor and priority (`lists`, at `list_number`), and the first task of each
-//! processor when they were marked last (`marks`). No task stands in two lists, nor twice in one.
+//! Contracts see a list of tasks for each processor and priority (`lists`, at `list_number`). No task stands in two lists, nor
+//! twice in one.
 //!
 //! Each processor has a word with a bit for each priority, set where that list is not empty, so its first task is found by
-//! the lowest bit. The lists are linked in arrays: no call walks one but `list`, which gives it out. No call allocates.
+//! the lowest bit. That is done where a list of the processor changes, and the first tasks are kept, so that to read one is to
+//! look into an array. The lists are linked in arrays: no call walks one but `list`, which gives it out. No call allocates.
 #![tactic(auto)]
 
-ghost use Rattle.std.specs.Prelude.{◌≡◌, ℕ, ◌+◌, ◌-◌, ◌*◌, ◌<◌, ◌==◌, false, true, not, Some, None, [], length, replicate, slice_index, slice_set, if◌then◌else◌};
+ghost use Rattle.std.specs.Prelude.{◌≡◌, ℕ, ◌+◌, ◌-◌, ◌*◌, ◌<◌, ◌≤◌, ◌==◌, false, true, Option, Some, None, [], length, replicate, slice_index, slice_set, if◌then◌else◌};
 ghost use Rattle.std.specs.Int.{bit_at};
-ghost use Rattle.fmp_codes.specs.declared.numbers.Proc.{Proc as AnyProc};
 ghost use Rattle.fmp_codes.specs.declared.numbers.Pri.{Pri as AnyPri};
+ghost use Rattle.fmp_codes.specs.declared.numbers.Task.{Task as AnyTask};
 ghost use Rattle.fmp_links.specs.Lists.{first_of};
 ghost use Rattle.fmp_links.specs.Tasks.{has_task};
-ghost use Rattle.fmp_ready.specs.Queues.{list_number, list_at, push_last, take_out, rotated, top_of, marked_on, is_same, bit_of, AreDisjoint};
+ghost use Rattle.fmp_ready.specs.Queues.{list_number, list_at, push_last, take_out, rotated, top_of, top_at, number_of, bit_of, AreDisjoint};
+ghost use Rattle.fmp_ready.specs.Kept.{tasks_of, IsKept};
 
 use arrayvec::ArrayVec;
 use fmp_codes::{Pri, Proc, Task};
 use fmp_links::Links;
 use std::marker::Model;
 
-/// A list of tasks for each processor and priority, and the first task of each processor when they were marked last. No task
-/// stands in two lists.
+/// A list of tasks for each processor and priority. No task stands in two lists.
 #[derive(Drop)]
 pub struct ReadyQueues {
     links: Links<320, 64>,
     words: [u32; 8],
-    marks: [Option<Task>; 8],
+    /// The number of the first task of each processor, or 0.
+    tops: [u8; 8],
 }
 
 impl Model for ReadyQueues {
@@ -34,24 +36,22 @@ impl Model for ReadyQueues {
 
     ghost Value = { Queues };
 
-    ghost use Rattle.fmp_ready.specs.Kept.{tasks_of, IsKept};
+    ghost use Rattle.fmp_ready.specs.Kept.{tasks_of, IsKept, AreTops};
 
-    ghost view = { λ a. record { lists = tasks_of a.links; marks = a.marks } };
+    ghost view = { λ a. record { lists = tasks_of a.links } };
 
-    ghost use Rattle.std.specs.Prelude.{◌≡◌, length};
-
-    ghost invariant = { λ a. IsKept a.words a.links × (length a.marks ≡ 8) };
+    ghost invariant = { λ a. IsKept a.words a.links × AreTops a.tops (tasks_of a.links) };
 }
 
 impl ReadyQueues {
-    /// Empty lists, and no task marked.
+    /// Empty lists.
     pub fn new() -> Self
-        ensures { result ≡ record { lists = replicate 256 []; marks = replicate 8 None } }
+        ensures { result ≡ record { lists = replicate 256 [] } }
     {
         ReadyQueues {
             links: Links::new(),
             words: [0; 8],
-            marks: [None; 8],
+            tops: [0; 8],
         }
     }
 
@@ -63,6 +63,7 @@ impl ReadyQueues {
         let list = list_of(processor, priority);
         self.links.push_last(list, task.index());
         write_bit(&mut self.words, list, true);
+        find_top(&mut self.tops, &self.words, &self.links, list / 32);
     }
 
     /// A task becomes the last of its priority on a processor, and leaves the list in which it stood, if any.
@@ -82,6 +83,7 @@ impl ReadyQueues {
             self.links.remove(item);
             let filled = self.links.first(list).is_some();
             write_bit(&mut self.words, list, filled);
+            find_top(&mut self.tops, &self.words, &self.links, list / 32);
         }
     }
 
@@ -89,17 +91,24 @@ impl ReadyQueues {
     pub fn rotate(&mut self, processor: Proc, priority: Pri)
         ensures { let i = list_number processor priority in self.new ≡ record self.old { lists = slice_set self.old.lists i (rotated (list_at self.old.lists i)) } }
     {
-        self.links.rotate(list_of(processor, priority));
+        let list = list_of(processor, priority);
+        self.links.rotate(list);
+        find_top(&mut self.tops, &self.words, &self.links, list / 32);
     }
 
     /// The first task of a processor, by priority and then by place.
     pub fn top(&self, processor: Proc) -> Option<Task>
         ensures { result ≡ top_of self.now.lists processor }
     {
-        let processor = processor.index();
-        let place = lowest_bit(self.words[processor])?;
-        let item = self.links.first(32 * processor + place)?;
-        Some(Task::from_index(item))
+        numbered(self.tops[processor.index()])
+    }
+
+    /// The numbers of the first tasks of all processors, in the order of the processors, and 0 where there is none.
+    pub fn tops(&self) -> [u8; 8]
+        ensures count { length result ≡ 8 }
+        ensures each { (k : ℕ) → k < 8 → slice_index result k ≡ number_of (top_at self.now.lists k) }
+    {
+        self.tops
     }
 
     /// The first task of a priority on a processor.
@@ -129,25 +138,6 @@ impl ReadyQueues {
         tasks
     }
 
-    /// Remembers the first task of each processor.
-    pub fn mark(&mut self)
-        ensures lists { self.new.lists ≡ self.old.lists }
-        ensures marks { (p : AnyProc) → marked_on self.new.marks p ≡ top_of self.old.lists p }
-    {
-        for i in 0..8 {
-            let top = self.top(Proc::from_index(i));
-            self.marks[i] = top;
-        }
-    }
-
-    /// Whether the first task of a processor is another than the one marked last, or there was none and now is one, or the
-    /// other way round.
-    pub fn changed(&self, processor: Proc) -> bool
-        ensures { result ≡ not (is_same (top_of self.now.lists processor) (marked_on self.now.marks processor)) }
-    {
-        self.top(processor) != self.marks[processor.index()]
-    }
-
     /// A bit for each priority of a processor, the lowest for the highest, set where that list is not empty.
     pub fn word(&self, processor: Proc) -> u32
         ensures { (priority : AnyPri) → bit_at result (priority.number - 1) ≡ bit_of (list_at self.now.lists (list_number processor priority)) }
@@ -162,6 +152,48 @@ fn list_of(processor: Proc, priority: Pri) -> usize
     ensures in_range { result < 256 }
 {
     32 * processor.index() + priority.index()
+}
+
+/// The first task of a processor at a place, found by its word.
+fn first_at(words: &[u32; 8], links: &Links<320, 64>, processor: usize) -> Option<Task>
+    requires place { processor < 8 }
+    requires kept { IsKept words.now links.now }
+    ensures { result ≡ top_at (tasks_of links.now) processor }
+{
+    let place = lowest_bit(words[processor])?;
+    let item = links.first(32 * processor + place)?;
+    Some(Task::from_index(item))
+}
+
+/// The number of a task, or 0 where there is none.
+fn number_of(task: Option<Task>) -> u8
+    ensures { result ≡ number_of task }
+{
+    match task {
+        Some(task) => task.number,
+        None => 0,
+    }
+}
+
+/// The task of this number, or none where it is 0.
+fn numbered(number: u8) -> Option<Task>
+    requires { number ≤ 64 }
+    ensures { (task : Option AnyTask) → number ≡ number_of task → result ≡ task }
+{
+    if number == 0 {
+        None
+    } else {
+        Some(Task::new(number))
+    }
+}
+
+/// Finds the first task of a processor at a place anew.
+fn find_top(tops: &mut [u8; 8], words: &[u32; 8], links: &Links<320, 64>, processor: usize)
+    requires place { processor < 8 }
+    requires kept { IsKept words.now links.now }
+    ensures { tops.new ≡ slice_set tops.old processor (number_of (top_at (tasks_of links.now) processor)) }
+{
+    tops[processor] = number_of(first_at(words, links, processor));
 }
 
 /// The place of the lowest bit that is set.

@@ -31,6 +31,7 @@ use Rattle.fmp_world.specs.Scripted.{choice}
 use Rattle.fmp_world.specs.Turns.{opening, told_after}
 use Rattle.fmp_world.specs.Views.{History}
 use Rattle.fmp_world.proofs.Histories.{run_more}
+use Rattle.fmp_world.proofs.Receipts.{taken_more}
 use Rattle.rand_xoshiro.specs.SplitMix64.{mix_u64, next_state}
 
 -- ---- whoever is drawn can move
@@ -134,9 +135,6 @@ follows_at_first seed c scripts ticks turns = record {
 ticks_more : (h : List Record) (r : Record) → ticks_taken (h ++ r ∷ []) ≡ ticks_taken h + cond (is_taken_tick r) 1 0
 unfolding ticks_taken
 ticks_more h r = sum_by_push (λ x. cond (is_taken_tick x) 1 0) h r
-
-taken_more : (n : ℕ) (h : List Record) (r : Record) → taken n (h ++ r ∷ []) ≡ taken n h + cond (ends.is_taken_tick n r) 1 0
-taken_more n h r = sum_by_push (λ x. cond (ends.is_taken_tick n x) 1 0) h r
 
 -- what the rounds are after one more record, how many ticks were taken, and of these each processor's
 abbrev CountsOn : Setup → ℕ → List Record → Rounds → Type 0

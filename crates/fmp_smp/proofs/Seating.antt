@@ -1,12 +1,11 @@
 -- The receipts of the seats after one more record, and that a seat is full only where the history is.
-use Rattle.std.proofs.Common.{◌≡◌, ℕ, suc, ◌+◌, ◌-◌, ◌<◌, ◌≤◌, ◌==◌, ◌⊎◌, inl, inr, Bool, true, false, cond, List, [], ◌∷◌, ◌++◌, length, set, refl, ap, sym, subst, ◌∙◌, arith}
+use Rattle.std.proofs.Common.{◌≡◌, ℕ, ◌+◌, ◌-◌, ◌<◌, ◌≤◌, ◌==◌, ◌⊎◌, inl, inr, Bool, true, false, List, [], ◌∷◌, ◌++◌, length, set, refl, ap, sym, subst, ◌∙◌, arith}
 use Rattle.std.specs.Prelude.{slice_index_or}
 use Rattle.std.proofs.lemmas.Bool.{cases_eq, eq-eqb, ne_eqb}
-use Rattle.std.proofs.lemmas.List.{append-nil, get_or-set_same, get_or-set_other, length-set}
+use Rattle.std.proofs.lemmas.List.{get_or-set_same, get_or-set_other, length-set}
 use Rattle.fmp_codes.specs.declared.numbers.Proc.{Proc}
 use Rattle.fmp_codes.specs.declared.records.Event.{Event}
 use Rattle.fmp_codes.specs.declared.records.Event.TheVariants as event
-use Rattle.fmp_codes.specs.declared.records.Record.{Record}
 use Rattle.fmp_setup.specs.Setup.{Setup}
 use Rattle.fmp_safety.proofs.Items.{proc_same}
 use Rattle.fmp_scripts.specs.Scripts.{Steps}
@@ -17,42 +16,11 @@ use Rattle.fmp_world.specs.declared.seats.Turn.TheVariants.{Made, Full}
 use Rattle.fmp_world.specs.Ends.{is_of_cpu, is_of_clock, receipts_from, receipts_of_clock, SeatFits}
 use Rattle.fmp_world.specs.Turns.{opening, IsOpening, is_full, told_after, receipt_of, Turns, Ticks}
 use Rattle.fmp_world.specs.Views.{History, Seat, ClockSeat}
+use Rattle.fmp_world.specs.Findings.{receipt}
 use Rattle.fmp_world.proofs.Judging.{fullness}
-
--- ---- receipts of a list that is one record longer
-
--- the receipt of a record that is the n-th
-abbrev receipt : ℕ → Record → Receipt
-receipt n r = record { number = n; event = r.event; answer = r.answer }
-
-one_more : (b : Bool) (y : Receipt) (t z : List Receipt) → cond b (y ∷ (t ++ z)) (t ++ z) ≡ cond b (y ∷ t) t ++ z
-one_more true y t z = refl
-one_more false y t z = refl
-
-receipts_more : (test : Event → Bool) (n : ℕ) (h : List Record) (r : Record)
-    → receipts_from test n (h ++ r ∷ []) ≡ receipts_from test n h ++ cond (test r.event) (receipt (n + length h) r ∷ []) []
-receipts_more test n [] r = let same : n ≡ n + 0 = omega arith in ap (λ k. cond (test r.event) (receipt k r ∷ []) []) same
-receipts_more test n (x ∷ h) r =
-    let number : n + 1 + length h ≡ n + suc (length h) = omega arith in
-    let later = ap (λ k. receipts_from test (n + 1) h ++ cond (test r.event) (receipt k r ∷ []) []) number in
-    ap (λ t. cond (test x.event) (receipt n x ∷ t) t) (receipts_more test (n + 1) h r ∙ later)
-    ∙ one_more (test x.event) (receipt n x) (receipts_from test (n + 1) h) (cond (test r.event) (receipt (n + suc (length h)) r ∷ []) [])
-
-told_too : (test : Event → Bool) (h : List Record) (r : Record) → test r.event ≡ true → receipts_from test 1 (h ++ r ∷ []) ≡ receipts_from test 1 h ++ receipt (1 + length h) r ∷ []
-told_too test h r is = receipts_more test 1 h r ∙ ap (λ b. receipts_from test 1 h ++ cond b (receipt (1 + length h) r ∷ []) []) is
-
-untold : (test : Event → Bool) (h : List Record) (r : Record) → test r.event ≡ false → receipts_from test 1 (h ++ r ∷ []) ≡ receipts_from test 1 h
-untold test h r is = receipts_more test 1 h r ∙ ap (λ b. receipts_from test 1 h ++ cond b (receipt (1 + length h) r ∷ []) []) is ∙ append-nil (receipts_from test 1 h)
+use Rattle.fmp_world.proofs.Receipts.{told_too, untold, few_receipts}
 
 -- ---- a seat is full only where the history is
-
-few_more : (b : Bool) (y : Receipt) (t : List Receipt) (n : ℕ) → length t ≤ n → length (cond b (y ∷ t) t) ≤ suc n
-few_more true y t n few = omega (arith, few)
-few_more false y t n few = omega (arith, few)
-
-few_receipts : (test : Event → Bool) (n : ℕ) (h : List Record) → length (receipts_from test n h) ≤ length h
-few_receipts test n [] = omega arith
-few_receipts test n (x ∷ h) = few_more (test x.event) (receipt n x) (receipts_from test (n + 1) h) (length h) (few_receipts test (n + 1) h)
 
 full_so : (w : History) (test : Event → Bool) (room : ℕ) (receipts : List Receipt) → room ≡ w.turns → receipts ≡ receipts_from test 1 w.records
     → (w.turns ≤ length w.records) ⊎ (room ≤ length receipts) → is_full w ≡ true

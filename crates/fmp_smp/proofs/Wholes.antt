@@ -169,5 +169,5 @@ whole_at_end seed ticks w r x false w' r' x' cpus clock c scripts turns is valid
     (subst (λ v. IsWhole v cpus clock c scripts ticks turns) (sym same) whole, subst (λ (v : History). IsInOrderOf seed c scripts ticks v.records) (sym same) ordered)
 
 -- the records of the run that the judge gives
-pub judged_records : (o : Option SmpRun) (run : SmpRun) (h : List Record) → IfSome o (λ r. r.records.items ≡ h) → o ≡ Some run → run.records.items ≡ h
-judged_records o run h are is = subst (λ x. IfSome x (λ r. r.records.items ≡ h)) is are
+pub judged_history : (o : Option SmpRun) (run : SmpRun) (w : History) → IfSome o (λ r. r.history ≡ w) → o ≡ Some run → run.history ≡ w
+judged_history o run w are is = subst (λ x. IfSome x (λ r. r.history ≡ w)) is are

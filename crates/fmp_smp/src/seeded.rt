@@ -29,25 +29,25 @@ use std::alloc::{AllocError, Global};
 /// has `turns` records. All memory is taken before the first turn.
 ///
 /// The error is want of that memory, and there is no other.
-pub fn run_seeded(
+pub fn run_seeded<'a>(
     alloc: Global,
-    config: &Config,
-    scripts: Scripts,
+    config: &'a Config,
+    scripts: &'a Scripts,
     ticks: u32,
     turns: u32,
     seed: u64,
-) -> Result<SmpRun, AllocError>
+) -> Result<SmpRun<'a>, AllocError>
     requires ticks { ticks ≤ 1000000 }
     requires least { 1 ≤ turns }
     requires most { turns ≤ 1000000 }
-    ensures run { IfOk result (λ r. IsSmpRun config.now scripts ticks turns r.records.items (map (λ v. v.items) r.receipts.items) r.ended) }
-    ensures order { IfOk result (λ r. IsInOrderOf seed config.now scripts ticks r.records.items) }
+    ensures run { IfOk result (λ r. IsSmpRun config.entry.now scripts.entry.now ticks turns r.history.records (map (λ v. v.items) r.receipts.items) r.ended) }
+    ensures order { IfOk result (λ r. IsInOrderOf seed config.entry.now scripts.entry.now ticks r.history.records) }
 {
-    let (mut world, mut seats) = World::boot(alloc, config, &scripts, turns)?;
+    let (mut world, mut seats) = World::boot(alloc, config, scripts, turns)?;
     let mut rounds = Rounds::new(config, ticks);
     let mut numbers = SplitMix64::seed_from_u64(seed);
     while go_on(alloc, &mut world, &mut seats, &mut rounds, &mut numbers) {}
-    let run = world.finish(seats, config, &scripts, ticks, turns);
+    let run = world.finish(seats, config, scripts, ticks, turns);
     Ok(run.unwrap())
 }
 

@@ -20,14 +20,14 @@ fn requested(made: Option<&Record>) -> [bool; 8] {
 
 /// The world under its lock, what wakes each processor, and whether the run is over.
 #[derive(Drop)]
-pub struct Shared<'a, G> {
+pub struct Shared<'a, 'g, G> {
     pub world: Mutex<World<'a>>,
     pub unparkers: Vec<Unparker>,
     pub over: AtomicBool,
-    pub gate: &'a G,
+    pub gate: &'g G,
 }
 
-impl<'a, G: Gate> Shared<'a, G> {
+impl<'a, 'g, G: Gate> Shared<'a, 'g, G> {
     /// The run has ended, and each thread has to return.
     pub fn is_over(&self) -> bool {
         self.over.load(Ordering::SeqCst)
@@ -70,7 +70,7 @@ impl<'a, G: Gate> Shared<'a, G> {
         let world = &mut *guard;
         let turn = take_turn(world, cpu);
         let requested = match turn {
-            Turn::Made(_) => requested(world.records().last()),
+            Turn::Made(_) => requested(world.last()),
             Turn::Nothing | Turn::Full => [false; 8],
         };
         (turn, requested)

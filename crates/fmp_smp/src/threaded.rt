@@ -21,26 +21,26 @@ use std::thread::{JoinHandle, Threads};
 /// round in the order of the processors, or under a global timer to the master alone. A held tick is recorded so, and given again
 /// in a later hold of the lock before any other. Each turn and each tick is one hold of the one lock.
 ///
-/// The run ends when all ticks are taken and the world is quiet, or when the history has `turns` records. The memory of the world
-/// and its seats is taken before the first turn.
+/// The run ends when all ticks are taken and the world is quiet, or when the history has `turns` records. The memory of the world,
+/// its seats and its judge is taken before the first turn.
 ///
 /// Errors: `Memory` where there is no memory for that, `Start` where a thread could not be started (those that were are joined),
 /// `Disagree` where what came back is no run.
-pub fn run_smp<T: Threads + Wait + Sync, G: Gate + Sync>(
+pub fn run_smp<'a, T: Threads + Wait + Sync, G: Gate + Sync>(
     rt: &T,
     alloc: Global,
-    config: &Config,
-    scripts: Scripts,
+    config: &'a Config,
+    scripts: &'a Scripts,
     ticks: u32,
     turns: u32,
     gate: &G,
-) -> Result<SmpRun, SmpFault>
+) -> Result<SmpRun<'a>, SmpFault>
     requires ticks { ticks ≤ 1000000 }
     requires least { 1 ≤ turns }
     requires most { turns ≤ 1000000 }
-    ensures run { IfOk result (λ r. IsSmpRun config.now scripts ticks turns r.records.items (map (λ v. v.items) r.receipts.items) r.ended) }
+    ensures run { IfOk result (λ r. IsSmpRun config.entry.now scripts.entry.now ticks turns r.history.records (map (λ v. v.items) r.receipts.items) r.ended) }
 {
-    let (world, seats) = World::boot(alloc, config, &scripts, turns)?;
+    let (world, seats) = World::boot(alloc, config, scripts, turns)?;
     let (parkers, unparkers) = make_parkers(alloc, config.processors())?;
     let threads = Vec::with_capacity(alloc, 8)?;
     let shared = Shared {
@@ -53,7 +53,7 @@ pub fn run_smp<T: Threads + Wait + Sync, G: Gate + Sync>(
     let seats = run_seats(rt, &shared, seats, parkers, threads, rounds).ok_or(SmpFault::Start)?;
     let world = shared.world.into_inner();
     world
-        .finish(seats, config, &scripts, ticks, turns)
+        .finish(seats, config, scripts, ticks, turns)
         .ok_or(SmpFault::Disagree)
 }
 
@@ -72,7 +72,7 @@ fn make_parkers(alloc: Global, processors: u8) -> Result<(Vec<Parker>, Vec<Unpar
 // Starts and joins all threads. The seats come back where each of them could be started.
 fn run_seats<T: Threads + Wait + Sync, G: Gate + Sync>(
     rt: &T,
-    shared: &Shared<'_, G>,
+    shared: &Shared<'_, '_, G>,
     seats: Seats,
     parkers: Vec<Parker>,
     mut threads: Vec<JoinHandle<Cpu>>,
@@ -111,7 +111,12 @@ fn run_seats<T: Threads + Wait + Sync, G: Gate + Sync>(
 }
 
 // Takes turns until the run is over. Where there is nothing to do, it sleeps until it is woken.
-fn run_cpu<T: Wait, G: Gate>(rt: &T, shared: &Shared<'_, G>, mut cpu: Cpu, parker: Parker) -> Cpu {
+fn run_cpu<T: Wait, G: Gate>(
+    rt: &T,
+    shared: &Shared<'_, '_, G>,
+    mut cpu: Cpu,
+    parker: Parker,
+) -> Cpu {
     let p = cpu.processor();
     for _ in rt.forever() {
         if shared.is_over() {
@@ -133,7 +138,7 @@ fn run_cpu<T: Wait, G: Gate>(rt: &T, shared: &Shared<'_, G>, mut cpu: Cpu, parke
 // a wake-up was lost.
 fn run_clock<T: Wait, G: Gate>(
     rt: &T,
-    shared: &Shared<'_, G>,
+    shared: &Shared<'_, '_, G>,
     mut clock: Clock,
     mut rounds: Rounds,
 ) -> Clock {

@@ -1,4 +1,4 @@
-//! Tests of worlds and of whole runs of processors, by threads and by a seed: what no contract says.
+//! Tests of whole runs of processors, by threads and by a seed: what no contract says.
 #![tactic(auto)]
 
 #[cfg(test)]
@@ -13,5 +13,3 @@ mod smp;
 mod texts;
 #[cfg(test)]
 mod threads;
-#[cfg(test)]
-mod world;

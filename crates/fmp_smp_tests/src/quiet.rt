@@ -1,7 +1,7 @@
 //! What holds of the runs of a task that activates another on the other processor, whatever the order.
-use crate::texts::{Play, REMOTE, REMOTE_MASTER};
+use crate::texts::{Play, Played, REMOTE, REMOTE_MASTER};
 use fmp_codes::{Answer, Call, Code, Event, Proc, SystemCall, TaskCall};
-use fmp_world::{Ended, Receipt, SmpRun};
+use fmp_world::{Ended, Receipt};
 use std::alloc::{AllocError, Global};
 use std::process::Abort;
 use std::test::Fail;
@@ -60,7 +60,7 @@ fn ticks(rt: &impl Abort, receipts: &[Receipt], processors: &[u8]) {
 }
 
 /// A run of one of these plays.
-pub fn holds(rt: &impl Abort, alloc: Global, run: &SmpRun, processors: &[u8]) -> Result<(), Fail> {
+pub fn holds(rt: &impl Abort, alloc: Global, run: &Played, processors: &[u8]) -> Result<(), Fail> {
     assert!(rt; run.ended == Ended::Quiet);
     let [first, second, clock] = run.receipts.as_slice() else {
         return Err("two processors and the clock")?;

@@ -2,22 +2,22 @@
 ghost use Rattle.std.specs.Prelude.{◌≤◌};
 
 use crate::quiet::{PLAYS, ROUNDS, holds};
-use crate::texts::Play;
+use crate::texts::{Play, Played, replayed};
 use fmp_smp::run_seeded;
-use fmp_world::SmpRun;
 use std::alloc::Global;
 use std::process::Abort;
 use std::test::Fail;
 
 /// A run in the order of the seed.
-fn run_of(alloc: Global, play: Play, ticks: u32, turns: u32, seed: u64) -> Result<SmpRun, Fail>
+fn run_of(alloc: Global, play: Play, ticks: u32, turns: u32, seed: u64) -> Result<Played, Fail>
     requires ticks { ticks ≤ 1000000 }
     requires least { 1 ≤ turns }
     requires most { turns ≤ 1000000 }
 {
     let config = play.config(alloc)?;
     let scripts = play.scripts(alloc, &config)?;
-    Ok(run_seeded(alloc, &config, scripts, ticks, turns, seed)?)
+    let run = run_seeded(alloc, &config, &scripts, ticks, turns, seed)?;
+    Ok(replayed(alloc, run)?)
 }
 
 /// A hundred seeds.

@@ -3,11 +3,11 @@ ghost use Rattle.std.specs.Prelude.{◌≤◌};
 
 use crate::gates::{Crossing, Delays};
 use crate::quiet::{PLAYS, ROUNDS, holds};
-use crate::texts::{BOTH, ENDLESS, Play, SPINNING};
+use crate::texts::{BOTH, ENDLESS, Play, Played, SPINNING, replayed};
 use fmp_check::{Verdict, check};
 use fmp_codes::{Answer, Call, Code, Event, Proc, TaskCall};
 use fmp_smp::{Gate, Open, run_smp};
-use fmp_world::{Ended, SmpRun};
+use fmp_world::Ended;
 use std::alloc::Global;
 use std::process::Abort;
 use std::sync::Wait;
@@ -23,14 +23,15 @@ fn run_of<R: Threads + Wait + Sync, G: Gate + Sync>(
     ticks: u32,
     turns: u32,
     gate: &G,
-) -> Result<SmpRun, Fail>
+) -> Result<Played, Fail>
     requires ticks { ticks ≤ 1000000 }
     requires least { 1 ≤ turns }
     requires most { turns ≤ 1000000 }
 {
     let config = play.config(alloc)?;
     let scripts = play.scripts(alloc, &config)?;
-    Ok(run_smp(rt, alloc, &config, scripts, ticks, turns, gate)?)
+    let run = run_smp(rt, alloc, &config, &scripts, ticks, turns, gate)?;
+    Ok(replayed(alloc, run)?)
 }
 
 /// Two threads are in the gate at once, before their turns and behind them.
@@ -118,7 +119,7 @@ fn a_full_history_ends_a_run(rt: HostRuntime) -> Result<(), Fail> {
 }
 
 /// Whether a run is one of the machine.
-fn is_the_machines(alloc: Global, play: Play, run: &SmpRun) -> Result<bool, Fail> {
+fn is_the_machines(alloc: Global, play: Play, run: &Played) -> Result<bool, Fail> {
     let trace = play.printed(alloc, run)?;
     let config = play.config(alloc)?;
     Ok(check(alloc, &config, trace.as_slice())? == Verdict::Yes)

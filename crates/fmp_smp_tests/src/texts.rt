@@ -1,11 +1,44 @@
 //! Configurations and scripts of these runs.
+use arrayvec::ArrayVec;
+use fmp_codes::{Answer, Event, Proc, Record};
 use fmp_config::read_config;
 use fmp_machine::Config;
 use fmp_scripts::{Scripts, read_scripts};
 use fmp_trace::trace_text;
-use fmp_world::SmpRun;
-use std::alloc::Global;
+use fmp_world::{Ended, History, Receipt, SmpRun};
+use std::alloc::{AllocError, Global};
 use std::test::Fail;
+
+/// A run, with its records as a list.
+#[derive(Drop)]
+pub struct Played {
+    pub records: Vec<Record>,
+    pub receipts: ArrayVec<Vec<Receipt>, 9, Global>,
+    pub ended: Ended,
+}
+
+/// The records of a history.
+fn records_of(alloc: Global, history: &History<'_>) -> Result<Vec<Record>, AllocError> {
+    let mut replay = history.replay(alloc)?;
+    let mut records = Vec::new(alloc);
+    for _ in 0..u32::MAX {
+        let mut told = Record::answer(Event::Tick(Proc::new(1)), None, Answer::Nothing);
+        if !replay.next(&mut told) {
+            break;
+        }
+        records.push(told)?;
+    }
+    Ok(records)
+}
+
+/// A run with its records made again.
+pub fn replayed(alloc: Global, run: SmpRun<'_>) -> Result<Played, AllocError> {
+    Ok(Played {
+        records: records_of(alloc, &run.history)?,
+        receipts: run.receipts,
+        ended: run.ended,
+    })
+}
 
 /// What a run plays.
 #[derive(Clone, Copy)]
@@ -27,7 +60,7 @@ impl Play {
     }
 
     /// The trace of a run of it.
-    pub fn printed(self, alloc: Global, run: &SmpRun) -> Result<Vec<u8>, Fail> {
+    pub fn printed(self, alloc: Global, run: &Played) -> Result<Vec<u8>, Fail> {
         let config = self.config(alloc)?;
         let records = run.records.as_slice();
         if records.len() > 1_000_000 {

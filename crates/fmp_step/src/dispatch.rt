@@ -1,11 +1,10 @@
 //! The end of an event: which processors run another task or are sent a request.
 ghost use Rattle.std.specs.Prelude.{◌≡◌};
-ghost use Rattle.fmp_machine.specs.Step.{tops, is_same, is_requested, requests, latched, dispatched, settle, changed_run};
+ghost use Rattle.fmp_machine.specs.Step.{is_same, is_requested, requests, latched, dispatched, settle, changed_run};
 
-use arrayvec::ArrayVec;
 use fmp_codes::{Proc, Requests, Task};
 use fmp_machine::Processor;
-use fmp_words::{Words, is_held};
+use fmp_words::{Overview, Tops, Words, is_held};
 
 fn is_same(a: Option<Task>, b: Option<Task>) -> bool
     ensures { result ≡ is_same a b }
@@ -29,26 +28,14 @@ pub(crate) fn changed_run(before: Option<Task>, after: Option<Task>) -> Option<O
     }
 }
 
-/// The top of each processor.
-pub(crate) fn tops<M: Words>(machine: &M) -> ArrayVec<Option<Task>, 8>
-    ensures { result.items ≡ tops M.ordering (M.world machine.now) }
-{
-    let mut tops = ArrayVec::new();
-    for index in 0..machine.processor_count() {
-        tops.push(machine.top(Proc::from_index(index)));
-    }
-    tops
-}
-
-fn is_requested<M: Words>(machine: &M, before: &[Option<Task>], q: Proc, p: Proc) -> bool
+fn is_requested<M: Words>(machine: &M, before: &Tops, q: Proc, p: Proc) -> bool
     ensures { result ≡ is_requested M.ordering before.now (M.world machine.now) q p }
 {
-    let top_before = before.get(p.index()).copied().unwrap_or(None);
-    p.number != q.number && !is_same(top_before, machine.top(p))
+    p.number != q.number && !is_same(before.of(p), machine.top(p))
 }
 
-/// The processors to which an event on q sends a request.
-fn requests<M: Words>(machine: &M, before: &[Option<Task>], q: Proc) -> Requests
+/// The processors to which an event on q sends a request, asked one after the other.
+fn each_requested<M: Words>(machine: &M, before: &Tops, q: Proc) -> Requests
     ensures { result ≡ requests M.ordering before.now (M.world machine.now) q }
 {
     let mut requests = Requests::new();
@@ -59,6 +46,16 @@ fn requests<M: Words>(machine: &M, before: &[Option<Task>], q: Proc) -> Requests
         }
     }
     requests
+}
+
+/// The processors to which an event on q sends a request: none, where the tops are all the same, as after most events.
+fn requests<M: Overview>(machine: &M, before: &Tops, q: Proc) -> Requests
+    ensures { result ≡ requests M.ordering before.now (M.world machine.now) q }
+{
+    if before.is_same(&machine.tops()) {
+        return Requests::new();
+    }
+    each_requested(machine, before, q)
 }
 
 /// Sets the latches of these processors.
@@ -98,7 +95,7 @@ fn dispatch<M: Words>(machine: &mut M, q: Proc)
 }
 
 /// Ends an event on q, where these were the tops before it.
-pub(crate) fn settle<M: Words>(machine: &mut M, before: &[Option<Task>], q: Proc) -> Requests
+pub(crate) fn settle<M: Overview>(machine: &mut M, before: &Tops, q: Proc) -> Requests
     ensures state { M.world machine.new ≡ settle M.ordering before.now (M.world machine.old) q }
     ensures requests { result ≡ requests M.ordering before.now (M.world machine.old) q }
     ensures room { M.room machine.new ≡ M.room machine.old }

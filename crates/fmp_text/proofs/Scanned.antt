@@ -1,7 +1,8 @@
 -- Reading a text by scans, each from where the last one ended.
 use Rattle.std.proofs.Common.{◌≡◌, ◌≢◌, ℕ, zero, suc, ◌+◌, ◌-◌, ◌<◌, ◌≤◌, ◌==◌, Bool, true, false, List, [], ◌∷◌, ◌++◌, length, take, drop, slice_index, Option, Some, None, Result, Ok, Err, refl, ap, sym, ◌∙◌, arith, append_assoc}
 use Rattle.std.specs.Prelude.{nat_lt}
-use Rattle.std.proofs.lemmas.List.{append-nil, drop-drop}
+use Rattle.std.proofs.lemmas.List.{append-nil, drop-drop, get_or-take, take-append-drop}
+use Rattle.std.proofs.Math.Seq.{drop-cons}
 use Rattle.std.proofs.lemmas.Grind.{common_steps}
 use Rattle.std.proofs.lemmas.Bool.{eqb-true, le-ltb, lt-ltb, ne_eqb}
 use Rattle.memchr.specs.Find.{IsFirstByte, is_byte}
@@ -12,7 +13,7 @@ use Rattle.fmp_text.specs.declared.fault.TextKind.TheVariants.{TooMany}
 use Rattle.fmp_text.specs.declared.scan.Scan.{Scan}
 use Rattle.fmp_names.specs.Names.{NameLists}
 use Rattle.fmp_text.specs.Lines.{line_event}
-use Rattle.fmp_text.specs.Events.{HasNoFeed, Reading, ScansTo, after_line, at_end, fault_at, reading_from, with_events}
+use Rattle.fmp_text.specs.Events.{HasNoFeed, IsFirstLine, Reading, ScansTo, after_line, at_end, fault_at, reading_from, with_events}
 
 module _ (names : NameLists) (cut : Bool) (lines count : ℕ) where
   -- the line that ends at place i
@@ -52,17 +53,45 @@ abbrev pub StandsAt : NameLists → ℕ → List ℕ → ℕ → ℕ → Type 0
 StandsAt names before bytes lines used = (cut : Bool) (count : ℕ) (more : List ℕ) → reading_from names cut before count [] (bytes ++ more)
     ≡ reading_from names cut lines count [] (drop used bytes ++ more)
 
--- the line that ends at the first line feed from a place on
-pub next_line : (names : NameLists) (before : ℕ) (bytes tail piece : List ℕ) (lines used end : ℕ) (said : Result (Option Event) TextKind) → tail ≡ drop used bytes → piece ≡ take end (drop used bytes)
-    → IsFirstByte (is_byte 10) tail (Some end) → said ≡ line_event names piece → StandsAt names before bytes lines used → (cut : Bool) (count : ℕ) (more : List ℕ)
+below : (bytes line : List ℕ) (end k : ℕ) → line ≡ take end bytes → k < length line → k < end
+below bytes line end k is low = let few = ap length is in grind (arith, common_steps, low, few)
+
+within_line : (bytes line : List ℕ) (end k : ℕ) → line ≡ take end bytes → k < length line → slice_index line k ≡ slice_index bytes k
+within_line bytes line end k is low = ap (λ (xs : List ℕ). slice_index xs k) is ∙ get_or-take end bytes k 0 (below bytes line end k is low)
+
+split_at : (bytes line : List ℕ) (end : ℕ) → line ≡ take end bytes → end < length bytes → slice_index bytes end ≡ 10 → bytes ≡ line ++ (10 ∷ drop (end + 1) bytes)
+split_at bytes line end is low at =
+    let next : suc end ≡ end + 1 = omega arith in
+    sym (take-append-drop end bytes) ∙ ap (λ (xs : List ℕ). take end bytes ++ xs) (drop-cons bytes end 0 low ∙ ap (λ (b : ℕ). b ∷ drop (suc end) bytes) at ∙ ap (λ (i : ℕ). 10 ∷ drop i bytes) next)
+    ∙ ap (λ (xs : List ℕ). xs ++ (10 ∷ drop (end + 1) bytes)) (sym is)
+
+-- the first line from a place on
+pub next_line : (names : NameLists) (before : ℕ) (bytes tail : List ℕ) (lines used length : ℕ) (said : Result (Option Event) TextKind) → tail ≡ drop used bytes
+    → IsFirstLine names tail said length → StandsAt names before bytes lines used → (cut : Bool) (count : ℕ) (more : List ℕ)
     → reading_from names cut before count [] (bytes ++ more) ≡ after_line (lines + 1) count said
-    (reading_from names cut (lines + 1) count [] (drop (used + (end + 1)) bytes ++ more)) (reading_from names cut (lines + 1) (count + 1) [] (drop (used + (end + 1)) bytes ++ more))
-next_line names before bytes tail piece lines used end said is_tail is_piece found judged stands cut count more =
-    let first = rw is_tail at found in
-    let line = reading_from-line names cut lines count [] (drop used bytes) more end first.0.high
-    (λ j low is. first.0.before j (omega arith) low (ap (is_byte 10) is)) (eqb-true (slice_index (drop used bytes) end) 10 first.1) in
-    let passed : drop (suc end) (drop used bytes) ≡ drop (used + (end + 1)) bytes = rw (drop-drop) (ap (λ i. drop i bytes) (omega arith)) in
-    stands cut count more ∙ rw (judged, is_piece, ← passed) line
+    (reading_from names cut (lines + 1) count [] (drop (used + length) bytes ++ more)) (reading_from names cut (lines + 1) (count + 1) [] (drop (used + length) bytes ++ more))
+next_line names before bytes tail lines used length said is_tail first stands cut count more =
+    let passed : drop length (drop used bytes) ≡ drop (used + length) bytes = drop-drop length used bytes in
+    let whole : drop used bytes ++ more ≡ first.line ++ (10 ∷ (drop (used + length) bytes ++ more)) =
+    ap (λ (xs : List ℕ). xs ++ more) (rw is_tail at first.parts) ∙ append_assoc first.line (10 ∷ drop length (drop used bytes)) more ∙ ap (λ (xs : List ℕ). first.line ++ (10 ∷ (xs ++ more))) passed in
+    stands cut count more ∙ rw (whole, first.says) (reading_from-cut names cut lines count [] first.line (drop (used + length) bytes ++ more) first.no_feed)
+
+-- and a line that is skipped
+pub next_skipped : (names : NameLists) (before : ℕ) (bytes tail : List ℕ) (lines used length : ℕ) (said : Result (Option Event) TextKind) → tail ≡ drop used bytes
+    → IsFirstLine names tail said length → said ≡ Ok None → StandsAt names before bytes lines used → StandsAt names before bytes (lines + 1) (used + length)
+next_skipped names before bytes tail lines used length said is_tail first nothing stands cut count more = rw nothing at (next_line names before bytes tail lines used length said is_tail first stands cut count more)
+
+-- the line that ends at the first line feed
+pub fed_line : (names : NameLists) (bytes line : List ℕ) (end : ℕ) (said : Result (Option Event) TextKind) → line ≡ take end bytes → IsFirstByte (is_byte 10) bytes (Some end)
+    → said ≡ line_event names line → IsFirstLine names bytes said (end + 1)
+fed_line names bytes line end said is_line found judged = record {
+  line = line;
+  no_feed = λ k low is. found.0.before k (omega arith) (below bytes line end k is_line low) (ap (is_byte 10) (sym (within_line bytes line end k is_line low) ∙ is));
+  parts = split_at bytes line end is_line found.0.high (eqb-true (slice_index bytes end) 10 found.1);
+  some = omega arith;
+  within = omega (arith, found.0.high);
+  says = judged;
+}
 
 -- what was said, where more is known of it
 pub said_as : (said : Result (Option Event) TextKind) (found known : Option Event) → said ≡ Ok found → found ≡ known → said ≡ Ok known

@@ -1,5 +1,5 @@
 -- Reading the lines of an event text, up to the first fault.
-use Rattle.std.specs.Prelude.{◌≡◌, ◌≢◌, ◌<◌, ℕ, ◌+◌, ◌⊎◌, ◌==◌, nat_lt, Bool, false, List, [], ◌∷◌, ◌++◌, length, take, drop, slice_index, Option, Some, None, Result, Ok, Err, if◌then◌else◌}
+use Rattle.std.specs.Prelude.{◌≡◌, ◌≢◌, ◌<◌, ◌≤◌, ℕ, ◌+◌, ◌⊎◌, ◌==◌, nat_lt, Bool, false, List, [], ◌∷◌, ◌++◌, length, take, drop, slice_index, Option, Some, None, Result, Ok, Err, if◌then◌else◌}
 use Rattle.fmp_codes.specs.declared.records.Event.{Event}
 use Rattle.fmp_text.specs.Limits.{most_bytes, most_events}
 use Rattle.fmp_text.specs.declared.fault.TextFault.{TextFault}
@@ -68,6 +68,15 @@ reading_by_line names text = reading_from names (nat_lt most_bytes (length text)
 -- there is no line feed among the bytes
 abbrev pub HasNoFeed : List ℕ → Type 0
 HasNoFeed bytes = (k : ℕ) → k < length bytes → slice_index bytes k ≢ 10
+
+-- so many bytes end with the first line feed, and their line says this
+pub record IsFirstLine (names : NameLists) (bytes : List ℕ) (said : Result (Option Event) TextKind) (used : ℕ) : Type 0 where
+  pub line : List ℕ
+  pub no_feed : HasNoFeed line
+  pub parts : bytes ≡ line ++ (10 ∷ drop used bytes)
+  pub some : 1 ≤ used
+  pub within : used ≤ length bytes
+  pub says : said ≡ line_event names line
 
 -- however the text goes on, the bytes behind so many lines give what the line that was found gives, and then what
 -- follows it

@@ -15,6 +15,7 @@ mod events;
 mod fault;
 mod laws;
 mod line;
+mod quick;
 mod scan;
 
 pub use argument::{is_argument, value_at};
@@ -30,4 +31,5 @@ pub use laws::{
     texts_are_read_line_by_line, texts_spell_one_list,
 };
 pub use line::{is_skipped, line_event, processor_in, processor_numbered, without_return};
+pub use quick::{quick_call, quick_event};
 pub use scan::{Scan, first_said};

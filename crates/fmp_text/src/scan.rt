@@ -1,9 +1,10 @@
 //! Finding the next line of an event text that says something.
-ghost use Rattle.std.specs.Prelude.{◌≡◌, ◌≢◌, ◌<◌, ◌≤◌, ◌+◌, ◌^◌, length, drop, Ok, None};
-ghost use Rattle.fmp_text.specs.Events.{ScansTo, HasNoFeed};
+ghost use Rattle.std.specs.Prelude.{◌≡◌, ◌≢◌, ◌<◌, ◌≤◌, ◌+◌, ◌^◌, length, drop, Ok, None, IfSome};
+ghost use Rattle.fmp_text.specs.Events.{ScansTo, HasNoFeed, IsFirstLine};
 
 use crate::fault::TextKind;
 use crate::line::line_event;
+use crate::quick::{after_byte, quick_event};
 use fmp_codes::Event;
 use fmp_names::Names;
 use memchr::memchr;
@@ -16,7 +17,46 @@ pub struct Scan {
     pub lines: u32,
 }
 
+/// What a line says, and how many bytes end with its line feed.
+#[derive(Clone, Copy)]
+struct SaidLine {
+    said: Result<Option<Event>, TextKind>,
+    length: usize,
+}
+
+/// The first line, where it is whole and an event of the common form.
+#[inline(always)]
+fn quick_line(names: &Names, bytes: &[u8]) -> Option<SaidLine>
+    ensures { IfSome result (λ line. IsFirstLine names.now bytes.now line.said line.length) }
+{
+    names.validity();
+    let (event, rest) = quick_event(names, bytes)?;
+    let behind = after_byte(b'\n', rest)?;
+    Some(SaidLine {
+        said: Ok(Some(event)),
+        length: bytes.len() - behind.len(),
+    })
+}
+
+/// The first line, where it is whole.
+#[inline(always)]
+fn first_line(names: &Names, bytes: &[u8]) -> Option<SaidLine>
+    ensures says { IfSome result (λ line. IsFirstLine names.now bytes.now line.said line.length) }
+    ensures none { result ≡ None → HasNoFeed bytes.now }
+{
+    let quick = quick_line(names, bytes);
+    if quick.is_some() {
+        return quick;
+    }
+    let end = memchr(b'\n', bytes)?;
+    Some(SaidLine {
+        said: line_event(names, &bytes[..end]),
+        length: end + 1,
+    })
+}
+
 /// The first whole line that is not skipped, behind so many lines. Where there is none, it says no event.
+#[inline(always)]
 pub fn first_said(names: &Names, before: u32, bytes: &[u8]) -> Scan
     requires { before + length bytes.now < 2 ^ 32 }
     ensures within { result.used ≤ length bytes.now }
@@ -27,9 +67,9 @@ pub fn first_said(names: &Names, before: u32, bytes: &[u8]) -> Scan
 {
     let mut used = 0;
     let mut lines = before;
-    while let Some(end) = memchr(b'\n', &bytes[used..]) {
-        let said = line_event(names, &bytes[used..used + end]);
-        used += end + 1;
+    while let Some(line) = first_line(names, &bytes[used..]) {
+        let said = line.said;
+        used += line.length;
         lines += 1;
         match said {
             Ok(None) => {}

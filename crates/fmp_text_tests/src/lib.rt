@@ -12,6 +12,8 @@ mod config;
 #[cfg(test)]
 mod feed;
 #[cfg(test)]
+mod guesses;
+#[cfg(test)]
 mod scripts;
 #[cfg(test)]
 mod text;

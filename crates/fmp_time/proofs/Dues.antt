@@ -1,27 +1,46 @@
 -- Which items have no ticks left, over all lists.
-use Rattle.std.proofs.Common.{◌≡◌, ℕ, suc, ◌+◌, ◌<◌, ◌≤◌, Bool, true, false, Option, Some, None, List, [], ◌∷◌, length, filter, nat_eq, refl, sym, ap, ◌∙◌, arith, ⊎_elim}
-use Rattle.std.specs.Prelude.{slice_index, slice_index_or}
+use Rattle.std.proofs.Common.{◌≡◌, ℕ, suc, ◌+◌, ◌-◌, ◌<◌, ◌≤◌, Bool, true, false, Option, Some, None, List, [], ◌∷◌, length, filter, nat_eq, if◌then◌else◌, refl, sym, ap, ◌∙◌, arith, ⊎_elim}
+use Rattle.std.specs.Prelude.{slice_index, slice_index_or, is_some}
 use Rattle.std.specs.Option.{option_eq}
 use Rattle.std.proofs.lemmas.Bool.{cases_eq, eq-eqb, ne_eqb}
 use Rattle.fmp_codes.specs.Numbers.{as_proc}
+use Rattle.fmp_codes.specs.declared.numbers.Proc.{Proc}
 use Rattle.fmp_codes.specs.declared.numbers.Task.{Task}
 use Rattle.fmp_links.specs.Lists as links
 use Rattle.fmp_links.specs.Lists.{has}
 use Rattle.fmp_time.specs.declared.item.Item.{Item}
-use Rattle.fmp_time.specs.Differences.{Entry, list_at, ticks_in, least_of, due, entries_of, items_of, zeros_of, begins_over, IsLeastIn}
-use Rattle.fmp_time.specs.Left.{left_on, left_from, left_in, is_over}
+use Rattle.fmp_time.specs.Differences.{Entry, list_at, ticks_in, least_of, due, entries_of, items_of, zeros_of, IsLeastIn}
+use Rattle.fmp_time.specs.Left.{left_on, left_from, left_in, is_over, AreDisjoint}
 use Rattle.fmp_time.specs.Times.{place_of, left_of}
 use Rattle.fmp_time.specs.Shown.{times_of}
 use Rattle.fmp_time.proofs.Entries.{list_at-entries_of}
 use Rattle.fmp_time.proofs.Expiring.{zeros_due}
+use Rattle.fmp_time.proofs.Found.{has_ticks}
+use Rattle.fmp_time.proofs.Lefts.{left-on}
 use Rattle.fmp_time.proofs.Effects.{place-low, left_of-times}
-use Rattle.fmp_time.proofs.Served.{filter_agree, filter_none}
+use Rattle.fmp_time.proofs.Served.{filter_agree}
+
+-- a list whose first item has no ticks left
+pub begins_over : (q : List (List Entry)) (i : ℕ) (o : Option ℕ) → AreDisjoint q → i < 8 → o ≡ least_of (list_at q i) → option_eq nat_eq o (Some 0) ≡ true →
+    (k : ℕ) × (k < 128) × (is_over (left_in q k) ≡ true)
+begins_over q i o d h e f = by (list_at q i) refl
+  where
+    p : Proc
+    p = as_proc (i + 1)
+
+    place : p.number - 1 ≡ i
+    place = omega (arith, h)
+
+    by : (es : List Entry) → list_at q i ≡ es → (k : ℕ) × (k < 128) × (is_over (left_in q k) ≡ true)
+    by [] s = let bad : o ≡ None = e ∙ ap least_of s in cc
+    by (y ∷ ys) s =
+        let first : o ≡ Some y.1 = e ∙ ap least_of s in
+        let zero : nat_eq y.1 0 ≡ true = sym (ap (λ (l : Option ℕ). option_eq nat_eq l (Some 0)) first) ∙ f in
+        let there : ticks_in (list_at q (p.number - 1)) y.0 ≡ Some y.1 =
+        ap (λ (j : ℕ). ticks_in (list_at q j) y.0) place ∙ ap (λ (es : List Entry). ticks_in es y.0) s ∙ ap (λ (b : Bool). if b then Some y.1 else ticks_in ys y.0) (eq-eqb y.0 y.0 refl) in
+        (y.0, d.small (p.number - 1) y.0 (has_ticks y.0 (list_at q (p.number - 1)) ∙ ap is_some there), ap is_over (left-on q d p y.0 y.1 there) ∙ zero)
 
 -- a list whose first item has ticks left
-pub begins_not : (es : List Entry) (o : Option ℕ) → o ≡ least_of es → option_eq nat_eq o (Some 0) ≡ false → begins_over es ≡ false
-begins_not [] o e f = refl
-begins_not (y ∷ ys) o e f = ap (λ (n : Option ℕ). option_eq nat_eq n (Some 0)) (sym e) ∙ f
-
 pub all_later : (es : List Entry) (o : Option ℕ) → o ≡ least_of es → option_eq nat_eq o (Some 0) ≡ false → IsLeastIn es o → (k m : ℕ) → ticks_in es k ≡ Some m → 1 ≤ m
 all_later [] o e f least k m g = cc
 all_later (y ∷ ys) None e f least k m g = cc
@@ -42,11 +61,8 @@ pub zeros_at : (d : List ℕ) (q : List (List ℕ)) (now : List (List Entry)) (i
 zeros_at d q now i k e =
     ap (has k) (sym (zeros_due (slice_index d) (links.list_at q i)) ∙ ap (λ (es : List Entry). items_of (due es)) (sym (list_at-entries_of d q i)) ∙ ap (λ (r : List (List Entry)). items_of (due (list_at r i))) e)
 
--- those that are marked, and those where nothing has 0 ticks left
+-- those that are marked
 module _ {X : Type 0} (q : List (List Entry)) (w : List Task) (f : X → Item) (xs : List X) where
   pub marked_over : (marks : List Bool) → ((k : ℕ) → k < 128 → slice_index_or marks k false ≡ is_over (left_in q k)) →
       filter (λ x. slice_index_or marks (place_of (f x)) false) xs ≡ filter (λ x. is_over (left_of (times_of q w) (f x))) xs
   marked_over marks h = filter_agree _ _ xs (λ x. h (place_of (f x)) (place-low (f x)) ∙ ap is_over (sym (left_of-times q w (f x))))
-
-  pub nobody_over : ((k : ℕ) → is_over (left_in q k) ≡ false) → filter (λ x. is_over (left_of (times_of q w) (f x))) xs ≡ []
-  nobody_over h = filter_none _ xs (λ x. ap is_over (left_of-times q w (f x)) ∙ h (place_of (f x)))

@@ -1,5 +1,5 @@
 -- Difference lists: items in ascending ticks left, of which each stores what it adds to the sum of those before it.
-use Rattle.std.specs.Prelude.{◌≡◌, ℕ, ◌+◌, ◌-◌, ◌^◌, ◌<◌, ◌≤◌, ◌==◌, Bool, false, not, nat_eq, nat_lt, Option, Some, None, List, [], ◌∷◌, length, map, filter, slice_index, slice_index_or, if◌then◌else◌}
+use Rattle.std.specs.Prelude.{◌≡◌, ℕ, ◌+◌, ◌-◌, ◌^◌, ◌<◌, ◌≤◌, ◌==◌, Bool, not, nat_eq, nat_lt, Option, Some, None, List, [], ◌∷◌, length, map, filter, slice_index, slice_index_or, if◌then◌else◌}
 use Rattle.std.specs.List.{list_any}
 use Rattle.arrayvec.specs.ArrayVec.{ArrayVec}
 use Rattle.fmp_links.specs.Lists as links
@@ -95,11 +95,6 @@ items_of es = map (λ e. e.0) es
 abbrev pub IsLeastIn : List Entry → Option ℕ → Type 0
 IsLeastIn es None = Unit {0}
 IsLeastIn es (Some n) = (k m : ℕ) → ticks_in es k ≡ Some m → n ≤ m
-
--- the first entry has no ticks left
-abbrev pub begins_over : List Entry → Bool
-begins_over [] = false
-begins_over (e ∷ es) = is_due e
 
 -- the items that a tick gives
 abbrev pub items_given : Option (ArrayVec ℕ) → List ℕ

@@ -1,10 +1,9 @@
 //! Difference lists, one for each processor: items in ascending ticks left, of which each stores what it adds to the sum of
 //! those before it. So a tick lowers one number, and an item that goes hands on what it added to the one behind it.
 ghost use Rattle.std.specs.Prelude.{◌≡◌, ℕ, ◌^◌, ◌<◌, ◌≤◌, ◌||◌, false, true, is_some, Some, [], length, replicate, slice_index, slice_index_or, slice_set};
-ghost use Rattle.std.specs.List.{list_any};
 ghost use Rattle.std.specs.Option.{option_map};
 ghost use Rattle.fmp_links.specs.Lists as lists;
-ghost use Rattle.fmp_time.specs.Differences.{list_at, has_entry, sorted_in, take_out, ticks_in, least_of, lowered, due, not_due, entries_from, sum_of, spot_in, rest_in, first_adding, zeros_of, rest_of, items_of, items_given, begins_over, IsLeastIn};
+ghost use Rattle.fmp_time.specs.Differences.{list_at, has_entry, sorted_in, take_out, ticks_in, least_of, lowered, due, not_due, entries_from, sum_of, spot_in, rest_in, first_adding, zeros_of, rest_of, items_of, items_given, IsLeastIn};
 ghost use Rattle.fmp_time.specs.Left.{left_in, ticks_of, is_over, AreDisjoint};
 
 use arrayvec::ArrayVec;
@@ -159,7 +158,7 @@ impl Differences {
 
     /// Whether an item has no ticks left. Looks at the first item of each list.
     pub fn has_due(&self) -> bool
-        ensures value { result ≡ list_any begins_over self.now }
+        ensures some { result ≡ true → (k : ℕ) × (k < 128) × (is_over (left_in self.now k) ≡ true) }
         ensures none { result ≡ false → (k : ℕ) → is_over (left_in self.now k) ≡ false }
     {
         for list in 0..8usize {

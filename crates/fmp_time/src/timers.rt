@@ -1,6 +1,7 @@
 //! The timers.
-ghost use Rattle.std.specs.Prelude.{◌≡◌, None, [], filter, is_some};
+ghost use Rattle.std.specs.Prelude.{◌≡◌, None, [], false, true, filter, is_some};
 ghost use Rattle.std.specs.Option.{option_map};
+ghost use Rattle.fmp_time.specs.declared.item.Item.{Item as AnyItem};
 ghost use Rattle.fmp_time.specs.Left.{is_over, ticks_of};
 ghost use Rattle.fmp_time.specs.Times.{wait_of, alarm_of, cyclic_of, all_objects, left_of, armed, cancelled, moved_to, renewed, lowered, ticked, served, began, ended, IsLeastOn, AreWaits, no_times};
 
@@ -109,11 +110,19 @@ impl Timers {
         self.differences.lower(processor.index());
     }
 
+    /// Whether anything has 0 ticks left.
+    pub fn has_due(&self) -> bool
+        ensures some { result ≡ true → (x : AnyItem) × (is_over (left_of self.now x) ≡ true) }
+        ensures none { result ≡ false → (x : AnyItem) → is_over (left_of self.now x) ≡ false }
+    {
+        self.differences.has_due()
+    }
+
     /// The waits that have 0 ticks left, in the order in which they began.
     pub fn due_waits(&self) -> ArrayVec<Task, 64>
         ensures { result.items ≡ filter (λ t. is_over (left_of self.now (wait_of t))) self.now.waits }
     {
-        if self.differences.has_due() {
+        if self.has_due() {
             marked_waits(&self.waits, &self.differences.marks())
         } else {
             ArrayVec::new()
@@ -124,7 +133,7 @@ impl Timers {
     pub fn due_alarms(&self) -> ArrayVec<Object, 32>
         ensures { result.items ≡ filter (λ o. is_over (left_of self.now (alarm_of o))) all_objects }
     {
-        if self.differences.has_due() {
+        if self.has_due() {
             marked_objects(64, &self.differences.marks())
         } else {
             ArrayVec::new()
@@ -135,7 +144,7 @@ impl Timers {
     pub fn due_cyclics(&self) -> ArrayVec<Object, 32>
         ensures { result.items ≡ filter (λ o. is_over (left_of self.now (cyclic_of o))) all_objects }
     {
-        if self.differences.has_due() {
+        if self.has_due() {
             marked_objects(96, &self.differences.marks())
         } else {
             ArrayVec::new()

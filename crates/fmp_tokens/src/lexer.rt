@@ -2,6 +2,7 @@
 ghost use Rattle.std.specs.Prelude.{◌≡◌, ◌+◌, ◌<◌, ◌^◌, length, IfOk, IfErr};
 ghost use Rattle.fmp_tokens.specs.Lexing as spec;
 
+use crate::comments::past_comment;
 use crate::modes::{Mode, Place, Step, line_after, step_of};
 use crate::tokens::{End, Token, TokenKind};
 use fmp_bytes::{Class, split_prefix};
@@ -140,7 +141,7 @@ impl<'a> Lexer<'a> {
                 Step::Stop(end) => return Err(end),
             }
             line = next_line;
-            rest = after;
+            rest = past_comment(mode, after);
         }
         ended_in(mode, line)
     }

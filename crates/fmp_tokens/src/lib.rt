@@ -20,6 +20,7 @@
 //! a string is not closed, the text is cut short, and the string is no token.
 #![tactic(auto)]
 
+mod comments;
 mod lexer;
 mod modes;
 mod tokens;

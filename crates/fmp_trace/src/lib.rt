@@ -9,12 +9,14 @@
 #![tactic(auto)]
 
 mod guess;
+mod heads;
 mod laws;
 mod lines;
 mod reading;
 mod values;
 
+pub use heads::event_of;
 pub use laws::texts_print_one_list;
-pub use lines::{put_core, put_runner, put_running, put_task, trace_line, trace_text};
-pub use reading::{guessed, is_line, next_line, read_trace, validate};
+pub use lines::{put_core, put_line, put_runner, put_running, put_task, trace_line, trace_text};
+pub use reading::{guessed, is_line, next_line, read_trace, validate, validate_from};
 pub use values::{put_named, put_number};

@@ -200,7 +200,7 @@ pub fn put_core(out: &mut Vec<u8>, names: &Names, n: u32, entry: &Record) -> Res
 
 /// Adds line n with its line feed.
 #[tactic(auto, unfolding(crate::specs::Lines::line_text))]
-fn put_line(out: &mut Vec<u8>, names: &Names, n: u32, entry: &Record) -> Result<(), AllocError>
+pub fn put_line(out: &mut Vec<u8>, names: &Names, n: u32, entry: &Record) -> Result<(), AllocError>
     ensures { OnOk result (out.new.items ≡ out.old.items ++ spec.line_text names.now n entry.now) }
 {
     put_core(out, names, n, entry)?;

@@ -3,16 +3,21 @@ ghost use Rattle.std.specs.Prelude.{◌≡◌, ◌++◌, length, decimal, OnOk};
 ghost use Rattle.std.specs.Fmt.{signed_decimal};
 ghost use Rattle.fmp_trace.specs.Values as spec;
 
-use fmp_calls::{ArgumentKind, NameKind, ObjectKind, Value, form, values};
+use fmp_calls::{ArgumentKind, NameKind, ObjectKind, Value, parts};
 use fmp_codes::{Call, Mode};
 use fmp_text::Names;
 use itoa::Buffer;
 use std::alloc::AllocError;
 
-/// Adds a number in decimal.
+/// Adds a number in decimal. Most are one digit, which is written without a buffer.
+#[tactic(auto, using(std::proofs::lemmas::Fmt::decimal_digit))]
 pub fn put_number(out: &mut Vec<u8>, number: u64) -> Result<(), AllocError>
     ensures { OnOk result (out.new.items ≡ out.old.items ++ decimal number) }
 {
+    if number < 10 {
+        out.push(b'0' + number as u8)?;
+        return Ok(());
+    }
     let mut buffer = Buffer::new();
     out.extend_from_slice(buffer.format(number).as_bytes())
 }
@@ -21,6 +26,9 @@ pub fn put_number(out: &mut Vec<u8>, number: u64) -> Result<(), AllocError>
 pub fn put_signed(out: &mut Vec<u8>, number: i64) -> Result<(), AllocError>
     ensures { OnOk result (out.new.items ≡ out.old.items ++ signed_decimal number) }
 {
+    if 0 <= number {
+        return put_number(out, number as u64);
+    }
     let mut buffer = Buffer::new();
     out.extend_from_slice(buffer.format(number).as_bytes())
 }
@@ -108,26 +116,18 @@ fn put_arguments(
     Ok(())
 }
 
-/// Adds what stands behind a call's name: its arguments in parentheses, if it has any.
-#[tactic(auto, unfolding(crate::specs::Values::behind_name))]
-fn put_behind_name(out: &mut Vec<u8>, names: &Names, call: Call) -> Result<(), AllocError>
-    ensures { OnOk result (out.new.items ≡ out.old.items ++ spec.behind_name names.now call) }
+/// Adds a call with its arguments in parentheses, if it has any.
+#[tactic(auto, unfolding(crate::specs::Values::call_text, crate::specs::Values::behind_name))]
+pub fn put_call(out: &mut Vec<u8>, names: &Names, call: Call) -> Result<(), AllocError>
+    ensures { OnOk result (out.new.items ≡ out.old.items ++ spec.call_text names.now call) }
 {
-    let form = form(call);
+    let (form, values) = parts(call);
+    out.extend_from_slice(form.text)?;
     if form.bare {
         return Ok(());
     }
     out.push(b'(')?;
-    put_arguments(out, names, form.kinds, values(call).as_slice())?;
+    put_arguments(out, names, form.kinds, values.as_slice())?;
     out.push(b')')?;
     Ok(())
-}
-
-/// Adds a call with its arguments.
-#[tactic(auto, unfolding(crate::specs::Values::call_text))]
-pub fn put_call(out: &mut Vec<u8>, names: &Names, call: Call) -> Result<(), AllocError>
-    ensures { OnOk result (out.new.items ≡ out.old.items ++ spec.call_text names.now call) }
-{
-    out.extend_from_slice(form(call).text)?;
-    put_behind_name(out, names, call)
 }

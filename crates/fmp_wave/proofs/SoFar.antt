@@ -1,7 +1,6 @@
 -- A waveform while it is drawn, event by event.
 use Rattle.std.proofs.Common.{◌≡◌, ℕ, ◌+◌, ◌<◌, ◌≤◌, ◌^◌, Bool, IsTrue, OnErr, List, [], ◌∷◌, ◌++◌, map, length, Option, Some, None, Result, Ok, Err, refl, sym, ap, ◌∙◌, subst, arith, append_assoc, append-nil}
 use Rattle.std.proofs.lemmas.List.{take_all}
-use Rattle.std.specs.Option.{ok_or}
 use Rattle.fmp_bytes.specs.Bytes.{cut_at}
 use Rattle.fmp_bytes.proofs.Cutting.{cut_at-append, shorter}
 use Rattle.fmp_codes.specs.declared.records.Event.{Event}
@@ -12,16 +11,16 @@ use Rattle.fmp_setup.specs.Setup.{Setup}
 use Rattle.fmp_machine.specs.Step.{step}
 use Rattle.fmp_names.specs.Names.{AreValid, NameLists}
 use Rattle.fmp_text.specs.Limits.{most_events}
-use Rattle.fmp_text.specs.declared.fault.TextFault.{TextFault}
 use Rattle.fmp_trace.specs.Fits.{AllFit}
-use Rattle.fmp_trace.specs.Guess.{guess}
+use Rattle.fmp_trace.specs.Heads.{event_of}
 use Rattle.fmp_trace.specs.Lines.{core_text, lines_from}
 use Rattle.fmp_trace.specs.Prints.{PrintsWithin}
 use Rattle.fmp_trace.proofs.GuessedLines.{line_guessed}
+use Rattle.fmp_trace.proofs.Headed.{guess-event}
 use Rattle.fmp_trace.proofs.ReadTexts.{lines-cons}
 use Rattle.fmp_trace.proofs.Unended.{line_is}
-use Rattle.fmpsim_run.specs.Devices.{BeginsWith}
-use Rattle.fmpsim_run.proofs.Begun.{begun_first, begun_second}
+use Rattle.fmp_devices.specs.Devices.{BeginsWith}
+use Rattle.fmp_devices.proofs.Begun.{begun_first, begun_second}
 use Rattle.fmp_wave.specs.Waves.{change_text, events_text, start_text, wave_of}
 
 -- what is written whole was begun
@@ -73,22 +72,22 @@ begins c tells text old written records prints out = record {
   out = out;
 }
 
--- The same behind the next record, r, whose line is drawn as well.
-record Next (names : NameLists) (n : ℕ) (w : State) (after drawn whole : List ℕ) (r : Record) : Type 0 where
+-- The same behind the next record, with this event, whose line is drawn as well.
+record Next (names : NameLists) (n : ℕ) (w : State) (after drawn whole : List ℕ) (e : Event) : Type 0 where
   pub others : List Record
   pub text : after ≡ lines_from names (n + 1) others
   pub fit : AllFit names others
   pub few : (n + 1) + length others ≤ most_events + 1
-  pub ends : (drawn ++ change_text names n r.event w (step numbered w r.event).0) ++ events_text names (n + 1) (step numbered w r.event).0 (events_of others) ≡ whole
+  pub ends : (drawn ++ change_text names n e w (step numbered w e).0) ++ events_text names (n + 1) (step numbered w e).0 (events_of others) ≡ whole
 
-module _ (names : NameLists) (valid : AreValid names) (n : ℕ) (w : State) (rest line after : List ℕ) (is_line : (cut_at 10 rest).0 ≡ line) (cut : (cut_at 10 rest).1 ≡ Some after) (fault : TextFault) where
-  -- the guess at the line of a record
-  guess_is : (r : Record) (rs : List Record) → rest ≡ lines_from names n (r ∷ rs) → AllFit names (r ∷ rs) → n + length (r ∷ rs) ≤ most_events + 1 → ok_or (guess names line) fault ≡ Ok r
-  guess_is r rs text fit few =
+module _ (names : NameLists) (valid : AreValid names) (n : ℕ) (w : State) (rest line after : List ℕ) (is_line : (cut_at 10 rest).0 ≡ line) (cut : (cut_at 10 rest).1 ≡ Some after) where
+  -- the event that the line of a record tells
+  event_is : (r : Record) (rs : List Record) → rest ≡ lines_from names n (r ∷ rs) → AllFit names (r ∷ rs) → n + length (r ∷ rs) ≤ most_events + 1 → event_of names line ≡ Some r.event
+  event_is r rs text fit few =
       let here = first_line names n rest r rs valid text in
       let same : line ≡ core_text names n r = sym is_line ∙ ap (λ (p : List ℕ × Option (List ℕ)). p.0) here in
       let small : n < 2 ^ 64 = omega (arith, few) in
-      ap (λ (l : List ℕ). ok_or (guess names l) fault) same ∙ ap (λ (g : Option Record). ok_or g fault) (line_guessed names r valid fit.0 n small)
+      ap (event_of names) same ∙ guess-event names (core_text names n r) r (line_guessed names r valid fit.0 n small)
 
   after_is : (r : Record) (rs : List Record) → rest ≡ lines_from names n (r ∷ rs) → after ≡ lines_from names (n + 1) rs
   after_is r rs text =
@@ -102,52 +101,52 @@ module _ (names : NameLists) (valid : AreValid names) (n : ℕ) (w : State) (res
       let none : length rest ≡ 0 = ap length text in
       omega (arith, less, none)
 
-  next_of : (left : List Record) (drawn whole : List ℕ) (r : Record) → rest ≡ lines_from names n left → AllFit names left → n + length left ≤ most_events + 1
-      → drawn ++ events_text names n w (events_of left) ≡ whole → ok_or (guess names line) fault ≡ Ok r → Next names n w after drawn whole r
-  next_of [] drawn whole r text fit few ends told = absurd (not_over text)
-  next_of (first ∷ others) drawn whole r text fit few ends told =
-      let one : Ok first ≡ Ok r = sym (guess_is first others text fit few) ∙ told in
-      let same : first ≡ r = cc in
+  next_of : (left : List Record) (drawn whole : List ℕ) (e : Event) → rest ≡ lines_from names n left → AllFit names left → n + length left ≤ most_events + 1
+      → drawn ++ events_text names n w (events_of left) ≡ whole → event_of names line ≡ Some e → Next names n w after drawn whole e
+  next_of [] drawn whole e text fit few ends told = absurd (not_over text)
+  next_of (first ∷ others) drawn whole e text fit few ends told =
+      let one : Some first.event ≡ Some e = sym (event_is first others text fit few) ∙ told in
+      let same : first.event ≡ e = cc in
       let change = change_text names n first.event w (step numbered w first.event).0 in
       let events = events_text names (n + 1) (step numbered w first.event).0 (events_of others) in
-      let next : Next names n w after drawn whole first = record {
+      let next : Next names n w after drawn whole first.event = record {
         others = others;
         text = after_is first others text;
         fit = fit.1;
         few = omega (arith, few);
         ends = append_assoc drawn change events ∙ ap (λ (xs : List ℕ). drawn ++ xs) (sym (events-cons names n w first.event (events_of others))) ∙ ends;
       } in
-      subst (λ (x : Record). Next names n w after drawn whole x) same next
+      subst (λ (x : Event). Next names n w after drawn whole x) same next
 
-  told_is : (left : List Record) → rest ≡ lines_from names n left → AllFit names left → n + length left ≤ most_events + 1 → (e : TextFault) → ok_or (guess names line) fault ≡ Err e → ⊥
-  told_is [] text fit few e told = not_over text
-  told_is (first ∷ others) text fit few e told = let one : Ok first ≡ Err e = sym (guess_is first others text fit few) ∙ told in absurd cc
+  told_is : (left : List Record) → rest ≡ lines_from names n left → AllFit names left → n + length left ≤ most_events + 1 → event_of names line ≡ None → ⊥
+  told_is [] text fit few none = not_over text
+  told_is (first ∷ others) text fit few none = let one : None ≡ Some first.event = sym none ∙ event_is first others text fit few in absurd cc
 
   module _ (tells : Bool) (old written whole : List ℕ) (s : SoFar names tells n w rest old written whole) where
-    -- a line that was printed is not at fault
-    pub is_told : (e : TextFault) → ok_or (guess names line) fault ≡ Err e → ⊥
-    is_told e told = told_is s.left s.text s.fit s.few e told
+    -- a line that was printed tells an event
+    pub is_told : event_of names line ≡ None → ⊥
+    is_told none = told_is s.left s.text s.fit s.few none
 
-    pub goes_on : (r : Record) (next : State) (new : List ℕ) → ok_or (guess names line) fault ≡ Ok r → next ≡ (step numbered w r.event).0
-        → (IsTrue tells → new ≡ written ++ change_text names n r.event w next) → SoFar names tells (n + 1) next after old new whole
-    goes_on r next new told next_is more =
-        let step_on = next_of s.left s.drawn whole r s.text s.fit s.few s.ends told in
+    pub goes_on : (e : Event) (next : State) (new : List ℕ) → event_of names line ≡ Some e → next ≡ (step numbered w e).0
+        → (IsTrue tells → new ≡ written ++ change_text names n e w next) → SoFar names tells (n + 1) next after old new whole
+    goes_on e next new told next_is more =
+        let step_on = next_of s.left s.drawn whole e s.text s.fit s.few s.ends told in
         record {
           left = step_on.others;
-          drawn = s.drawn ++ change_text names n r.event w next;
+          drawn = s.drawn ++ change_text names n e w next;
           text = step_on.text;
           fit = step_on.fit;
           few = step_on.few;
           ends = rw next_is step_on.ends;
-          out = λ tell. more tell ∙ ap (λ (xs : List ℕ). xs ++ change_text names n r.event w next) (s.out tell) ∙ append_assoc old s.drawn (change_text names n r.event w next);
+          out = λ tell. more tell ∙ ap (λ (xs : List ℕ). xs ++ change_text names n e w next) (s.out tell) ∙ append_assoc old s.drawn (change_text names n e w next);
         }
 
     -- a write that failed
-    pub is_cut : (r : Record) (next : State) (new : List ℕ) → ok_or (guess names line) fault ≡ Ok r → next ≡ (step numbered w r.event).0 → IsTrue tells
-        → BeginsWith written (change_text names n r.event w next) new → BeginsWith old whole new
-    is_cut r next new told next_is tell begun =
-        let step_on = next_of s.left s.drawn whole r s.text s.fit s.few s.ends told in
-        let change = change_text names n r.event w next in
+    pub is_cut : (e : Event) (next : State) (new : List ℕ) → event_of names line ≡ Some e → next ≡ (step numbered w e).0 → IsTrue tells
+        → BeginsWith written (change_text names n e w next) new → BeginsWith old whole new
+    is_cut e next new told next_is tell begun =
+        let step_on = next_of s.left s.drawn whole e s.text s.fit s.few s.ends told in
+        let change = change_text names n e w next in
         let events = events_text names (n + 1) next (events_of step_on.others) in
         let ends : (s.drawn ++ change) ++ events ≡ whole = rw next_is step_on.ends in
         subst (λ (xs : List ℕ). BeginsWith old xs new) ends (begun_first old (s.drawn ++ change) events new (begun_second old s.drawn change written new (s.out tell) begun))

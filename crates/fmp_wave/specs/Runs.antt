@@ -6,10 +6,10 @@ use Rattle.fmp_check.specs.declared.checking.Verdict.{Verdict}
 use Rattle.fmp_check.specs.declared.checking.Verdict.TheVariants.{Yes, No}
 use Rattle.fmp_check.specs.Checking.{Judges, own_text}
 use Rattle.fmp_trace.specs.Prints.{PrintsWithin}
-use Rattle.fmpsim_run.specs.declared.fault.RunFault.{RunFault}
-use Rattle.fmpsim_run.specs.declared.fault.RunFault.TheVariants as run
-use Rattle.fmpsim_run.specs.Devices.{BeginsWith}
-use Rattle.fmpsim_run.specs.Runs.{SaysConfig}
+use Rattle.fmp_judging.specs.declared.fault.RunFault.{RunFault}
+use Rattle.fmp_judging.specs.declared.fault.RunFault.TheVariants as run
+use Rattle.fmp_devices.specs.Devices.{BeginsWith}
+use Rattle.fmp_judging.specs.Texts.{SaysConfig}
 use Rattle.fmp_wave.specs.Waves.{wave_of}
 
 -- the text is what the machine answers to its own events, and this is their waveform

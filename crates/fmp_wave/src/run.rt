@@ -4,20 +4,20 @@ ghost use Rattle.fmp_codes.specs.declared.records.Record.{Record as AnyRecord};
 ghost use Rattle.fmp_text.specs.Limits.{most_bytes as MOST_BYTES};
 ghost use Rattle.fmp_check.specs.Checking.{Judges};
 ghost use Rattle.fmp_trace.specs.Prints.{PrintsWithin};
-ghost use Rattle.fmp_world.specs.declared.finishing.Ended.{Ended};
-ghost use Rattle.fmpsim_run.specs.Checks.{FirstTraceFault, IsYes};
-ghost use Rattle.fmpsim_run.specs.Devices.{BeginsWith};
-ghost use Rattle.fmpsim_run.specs.Faults.{failed_write, is_thread_fault};
-ghost use Rattle.fmpsim_run.specs.Runs.{Answered, CountsReads, FirstConfigFault};
-ghost use Rattle.fmpsim_run.specs.Scripted.{Played};
+ghost use Rattle.fmp_judging.specs.Traces.{FirstTraceFault, IsOwn, IsYes};
+ghost use Rattle.fmp_devices.specs.Devices.{BeginsWith};
+ghost use Rattle.fmp_judging.specs.Faults.{failed_write, is_thread_fault};
+ghost use Rattle.fmp_judging.specs.Texts.{Answered, CountsReads, FirstConfigFault};
 ghost use Rattle.fmp_wave.specs.Runs.{Drawn, IsDrawnBy, IsLate, LeavesBy, LeavesDrawn};
 ghost use Rattle.fmp_wave.specs.Waves.{wave_of};
 
 use crate::drawing::Drawing;
 use fmp_check::Verdict;
+use fmp_devices::{Sink, Source, write_all};
+use fmp_judging::{Judged, RunFault, judged_texts};
 use fmp_machine::Config;
-use fmp_trace::{guessed, next_line};
-use fmpsim_run::{Judged, RunFault, Sink, Source, judged_texts, write_all};
+use fmp_text::{TextFault, TextKind};
+use fmp_trace::{event_of, next_line};
 use std::alloc::Global;
 
 /// Draws the events of a text that is the machine's own.
@@ -39,9 +39,11 @@ fn draw<W: Sink>(alloc: Global, config: &Config, text: &[u8], wave: &mut W) -> R
     let mut number: u32 = 1;
     let mut rest = text;
     while let Some((line, after)) = next_line(rest) {
-        let event = match guessed(names, number, line) {
-            Ok(entry) => entry.event,
-            Err(fault) => return Err(RunFault::Text(fault)),
+        let Some(event) = event_of(names, line) else {
+            return Err(RunFault::Text(TextFault {
+                kind: TextKind::BadWord,
+                line: number,
+            }));
         };
         drawing.play(names, number, event)?;
         write_all(wave, drawing.piece())?;
@@ -75,7 +77,6 @@ fn draw_judged<W: Sink>(alloc: Global, judged: &Judged, wave: &mut W) -> Result<
 /// Of another trace nothing is written, and the verdict says which line is the first that differs.
 ///
 /// docs/FORMATS.md has the form of a waveform.
-#[tactic(auto, using(crate::proofs::JudgedTexts::drawn_of_texts, crate::proofs::JudgedTexts::leaves_of_texts))]
 pub fn run_wave<R: Source, S: Source, W: Sink>(
     alloc: Global,
     config: &mut R,
@@ -97,9 +98,8 @@ pub fn run_wave<R: Source, S: Source, W: Sink>(
     ensures answers { IsTrue R.tells → IsTrue S.tells → (event_text : List ℕ) → Answered (R.left config.old) event_text (S.left trace.old)
         → length (S.left trace.old) ≤ MOST_BYTES → IsYes result }
 
-    // So is one of processors that follow scripts, as `run_threads` and `run_seeded` write it.
-    ensures plays { IsTrue R.tells → IsTrue S.tells → (script_text : List ℕ) (ticks turns : ℕ) (ended : Ended)
-        → Played (R.left config.old) script_text ticks turns (S.left trace.old) ended → length (S.left trace.old) ≤ MOST_BYTES → IsYes result }
+    // So is any that is the machine's own, as those of processors that follow scripts.
+    ensures own { IsTrue R.tells → IsTrue S.tells → IsOwn (R.left config.old) (S.left trace.old) → IsYes result }
 
     // A fault of a text is its first one.
     ensures config_fault { IsTrue R.tells → IfErr result (FirstConfigFault (R.left config.old)) }

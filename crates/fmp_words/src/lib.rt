@@ -2,14 +2,16 @@
 //!
 //! A machine that keeps its tasks by the words of the definitions is one of [`Words`], and one that keeps the objects, too, is
 //! one of [`Objects`]. The checks of the calls, and the changes of tasks and processors, are functions over them, so that
-//! each is written and proved once.
+//! each is written and proved once. A machine on which events are played has an [`Overview`], too.
 #![tactic(auto)]
 
 mod arguments;
 mod checks;
 mod objects;
+mod overview;
 mod processors;
 mod tasks;
+mod tops;
 mod words;
 
 pub use arguments::{
@@ -19,8 +21,10 @@ pub use arguments::{
 };
 pub use checks::{caller, check_rule, check_time, check_timeout, is_held, refuse_if, runner};
 pub use objects::Objects;
+pub use overview::Overview;
 pub use processors::{open, set_dispatching_disabled, set_locked};
 pub use tasks::{
     activate, change_priority, finish, make_ready, migrate, release, rotate, start, wait_for,
 };
+pub use tops::{Tops, each_top};
 pub use words::Words;

@@ -1,18 +1,16 @@
 -- Steps of the judge's loops, and what its answers say.
-use Rattle.std.proofs.Common.{◌≡◌, ℕ, ◌+◌, ◌<◌, ◌≤◌, ◌↔◌, ◌⊎◌, Bool, true, false, ◌&&◌, nat_lt, cond, List, ◌∷◌, length, drop, get_or, suc, add-one, drop-cons, refl, ap, sym, ◌∙◌, arith, below_more, IsTrue, Option, Some, None, IsSome, IfSome, Decides}
+use Rattle.std.proofs.Common.{◌≡◌, ℕ, ◌+◌, ◌≤◌, ◌↔◌, ◌⊎◌, Bool, true, false, ◌&&◌, nat_lt, cond, List, length, refl, arith, below_more, IsTrue, Option, Some, None, IsSome, IfSome, Decides}
 use Rattle.fmp_world.specs.declared.finishing.Ended.{Ended}
 use Rattle.fmp_world.specs.declared.finishing.Ended.TheVariants.{Quiet, Limit}
-use Rattle.fmp_codes.specs.declared.records.Event.{Event}
 use Rattle.fmp_scripts.specs.Scripts.{Steps}
 use Rattle.fmp_codes.specs.Numbers.{as_proc}
 use Rattle.fmp_setup.specs.declared.setup.Timer.{Timer}
 use Rattle.fmp_setup.specs.Setup.{Setup, has_time}
 use Rattle.fmp_codes.specs.declared.records.Record.{Record}
-use Rattle.fmp_world.specs.declared.seats.Receipt.{Receipt}
 use Rattle.std.proofs.lemmas.Bool.Decides.{nat_tests}
 use Rattle.fmp_world.specs.Turns.{is_full}
 use Rattle.fmp_world.specs.Views.{Seat, ClockSeat, History}
-use Rattle.fmp_world.specs.Ends.{receipts_from, taken, TicksWithin, TicksAre, EndsQuiet, AreSeats, IsWhole}
+use Rattle.fmp_world.specs.Ends.{taken, TicksWithin, TicksAre, EndsQuiet, AreSeats, IsWhole}
 
 -- what is known of each i below n, and of n
 pub within_more : (n ticks : ℕ) (h : List Record) → TicksWithin n ticks h → taken (n + 1) h ≤ ticks → TicksWithin (n + 1) ticks h
@@ -23,24 +21,6 @@ are_more timer n ticks h below here = below_more (λ i. has_time timer (as_proc 
 
 pub are_less : (timer : Timer) (n ticks : ℕ) (h : List Record) → TicksAre timer (n + 1) ticks h → TicksAre timer n ticks h
 are_less timer n ticks h all = λ i small. all i (omega arith)
-
-place : (h : List Record) (k : ℕ) (r : Record) → k < length h → r ≡ get_or h k r → drop k h ≡ r ∷ drop (k + 1) h
-place h k r small at = rw add-one (drop-cons h k r small ∙ ap (λ x. x ∷ drop (suc k) h) (sym at))
-
--- the record at place k is of the seat, and its receipt is the next
-pub told_more : (test : Event → Bool) (k : ℕ) (h : List Record) (r : Record) → k < length h → r ≡ get_or h k r → test r.event ≡ true → receipts_from test (k + 1) (drop k h) ≡ record { number = k + 1; event = r.event; answer = r.answer } ∷ receipts_from test (k + 1 + 1) (drop (k + 1) h)
-told_more test k h r small at passes = rw (place h k r small at) (rw passes refl)
-
--- the record at place k is of another seat
-pub told_past : (test : Event → Bool) (k : ℕ) (h : List Record) (r : Record) → k < length h → r ≡ get_or h k r → test r.event ≡ false → receipts_from test (k + 1) (drop k h) ≡ receipts_from test (k + 1 + 1) (drop (k + 1) h)
-told_past test k h r small at fails = rw (place h k r small at) (rw fails refl)
-
--- where the next receipt is that of the record, what is left to compare is what follows both
-pub left_more : (P : Type 0) (left : List Receipt) (first x : Receipt) (rest told told' : List Receipt) → left ≡ first ∷ rest → first ≡ x → told ≡ x ∷ told' → P ↔ (left ≡ told) → P ↔ (rest ≡ told')
-left_more P left first x rest told told' l f t same = (λ p. let e = same.0 p in cc, λ e. same.1 (cc))
-
-pub left_past : (P : Type 0) (left left' told told' : List Receipt) → left' ≡ left → told ≡ told' → P ↔ (left ≡ told) → P ↔ (left' ≡ told')
-left_past P left left' told told' l t same = (λ p. let e = same.0 p in cc, λ e. same.1 (cc))
 
 -- all ticks so far, after one more processor that owes none, and after one that owes some
 pub all_more : (all : Bool) (timer : Timer) (n ticks : ℕ) (h : List Record) → (has_time timer (as_proc (n + 1)) && nat_lt (taken (n + 1) h) ticks) ≡ false

@@ -1,4 +1,4 @@
--- What a world keeps, with one event more.
+-- What a history keeps, with one event more.
 use Rattle.std.proofs.Common.{◌≡◌, ℕ, zero, suc, ◌<◌, ◌≤◌, ◌∙◌, List, [], ◌∷◌, ◌++◌, length, take, Option, Some, None, slice_get, slice_index, cond, Bool, true, false, ◌⊎◌, inl, inr, refl, ap, arith, replicate}
 use Rattle.std.proofs.lemmas.List.Elements.{All-nil}
 use Rattle.fmp_codes.specs.Records.{processor_of}

@@ -1,5 +1,5 @@
--- What the type of a world keeps.
-use Rattle.std.specs.Prelude.{◌≡◌, ℕ, ◌+◌, ◌<◌, ◌≤◌, List, length, slice_index}
+-- What the types of a history and of a world keep.
+use Rattle.std.specs.Prelude.{◌≡◌, ℕ, ◌+◌, ◌<◌, ◌≤◌, List, [], ◌∷◌, ◌++◌, length, slice_index, ◌⊎◌}
 use Rattle.std.specs.Global.{Vec}
 use Rattle.std.specs.Vec.{vec_capacity}
 use Rattle.fmp_codes.specs.declared.records.Record.{Record}
@@ -9,9 +9,11 @@ use Rattle.fmp_setup.specs.Valid.{IsValid}
 use Rattle.fmp_machine.specs.World.{World}
 use Rattle.fmp_queues.specs.Queues.{Queues}
 use Rattle.fmp_lists.specs.Stands.{Stands}
+use Rattle.fmp_world.specs.declared.history.Move.{Move}
 use Rattle.fmp_world.specs.Histories.{IsRunOf, state_after}
 use Rattle.fmp_world.specs.Positions.{task_position, handler_position}
 use Rattle.fmp_world.specs.Scripted.{Scripted}
+use Rattle.fmp_world.specs.Views.{History}
 
 -- the positions of all tasks, and of the handlers on all processors, counted over the history
 abbrev pub TasksAre : List ℕ → List Record → Type 0
@@ -29,9 +31,20 @@ pub record Keeps (c : Setup) (scripts : List Steps) (k : World Queues) (tasks ha
   pub handlers_placed : HandlersAre handlers h
   pub scripted : Scripted c scripts h
 
--- there is room for the rest of the history, and the positions have their places
-pub record IsSized (turns : ℕ) (tasks handlers : List ℕ) (records : Vec Record) : Type 0 where
-  pub within : length records.items ≤ turns
-  pub room : turns ≤ vec_capacity records
+-- there is room for the rest of the moves, and the positions have their places
+pub record IsSized (turns : ℕ) (tasks handlers : List ℕ) (moves : Vec Move) : Type 0 where
+  pub within : length moves.items ≤ turns
+  pub room : turns ≤ vec_capacity moves
   pub task_places : length tasks ≡ 64
   pub handler_places : length handlers ≡ 8
+
+-- what is known of every history
+pub record IsKnown (w : History) : Type 0 where
+  pub valid : IsValid w.config
+  pub run : IsRunOf w.config w.records
+  pub scripted : Scripted w.config w.scripts w.records
+  pub within : length w.records ≤ w.turns
+
+-- the record is the last of the history, if that has one
+abbrev pub IsLast : List Record → Record → Type 0
+IsLast h last = (h ≡ []) ⊎ ((before : List Record) × (h ≡ before ++ last ∷ []))

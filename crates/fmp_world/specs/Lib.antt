@@ -5,5 +5,6 @@ pub mod Scripted  -- What the scripts ask of each processor, and histories that 
 pub mod Views  -- What contracts see of a world and of a seat.
 pub mod Turns  -- What one turn and one tick do.
 pub mod Ends  -- How a run ends, and what its judge asks.
-pub mod Whose  -- Whose receipts are meant.
-pub mod Kept  -- What the type of a world keeps.
+pub mod Moves  -- Who made the records of a history, and that these are made again from it.
+pub mod Findings  -- What the judge finds in the records of a history.
+pub mod Kept  -- What the types of a history and of a world keep.

@@ -1,11 +1,11 @@
 //! What stands beside a fault line with `--context`: the text is read once more for it.
 use crate::STANDARD_INPUT;
-use crate::cli::Paths;
 use fmp_config::{Config, ConfigFault, MOST_BYTES as MOST_CONFIG_BYTES, read_config};
 use fmp_context::{TextForm, config_context, text_advice, text_context};
 use fmp_scripts::read_scripts;
 use fmp_text::{MOST_BYTES, TextFault, TextKind, read_events};
 use fmp_trace::read_trace;
+use fmpsim_cli::Paths;
 use fmpsim_run::{ReadSource, RunFault, read_up_to};
 use std::alloc::Global;
 use std::io::Read;

@@ -5,17 +5,17 @@
 #![tactic(auto)]
 
 mod beside;
-mod cli;
 
-use cli::{Asked, Paths, Request, Told};
+use clap::error::ErrorKind;
 use fmp_check::Verdict;
 use fmp_context::TextForm;
 use fmp_smp::Open;
 use fmp_smp_command::{Limits, SmpRequest};
 use fmp_wave::run_wave;
+use fmpsim_cli::{Asked, Paths, Request, Told};
 use fmpsim_run::{
     FaultLine, ReadSource, RunFault, Status, WriteSink, run_calls, run_check, run_report,
-    run_seeded, run_states, run_threads,
+    run_seeded, run_states, run_threads, status_of_end,
 };
 use std::io::{Input, Read, Write};
 use std::process::ExitCode;
@@ -146,7 +146,7 @@ where
             &Open,
         )?,
     };
-    Ok(Status::of_end(ended))
+    Ok(status_of_end(ended))
 }
 
 /// Opens both files, or takes the scripts from standard input.
@@ -209,9 +209,18 @@ fn ended<R: Files + Eprint + AllocGlobal>(
     }
 }
 
+/// How a refused command line ends the program. Help is asked for, so nothing is wrong there.
+fn status_of(error: &clap::Error) -> Status {
+    match error.kind() {
+        ErrorKind::OutOfMemory => Status::Memory,
+        ErrorKind::DisplayHelp | ErrorKind::DisplayVersion => Status::Done,
+        _ => Status::Usage,
+    }
+}
+
 /// Tells help, or what is wrong with the command line, and how that ends the program.
 fn refused<R: Print + Eprint>(rt: &R, error: &clap::Error) -> Status {
-    match cli::status_of(error) {
+    match status_of(error) {
         Status::Memory => failed(rt, &NO_PATHS, &RunFault::Memory),
         status => match error.print(rt) {
             Ok(()) => status,
@@ -229,7 +238,7 @@ fn execute<R: Files + Input + Print + Eprint + AllocGlobal + Threads + Wait + Sy
     rt: &R,
     words: &[String],
 ) -> Status {
-    match cli::parse(rt.alloc(), words) {
+    match fmpsim_cli::parse(rt.alloc(), words) {
         Ok(Request::Calls(paths, told)) => ended(rt, &paths, calls(rt, &paths, told)),
         Ok(Request::Trace(paths, asked)) => ended(rt, &paths, trace(rt, &paths, asked)),
         Ok(Request::Smp(request)) => {

@@ -10,12 +10,13 @@ use Rattle.fmp_text.proofs.Limited.{reading_on}
 use Rattle.fmp_text.proofs.SpelledTexts.{text_is_spelled}
 use Rattle.fmp_text.specs.Events.{reading_by_line}
 use Rattle.fmpsim_run.proofs.ByLine.{whole_by_line}
-use Rattle.fmpsim_run.specs.declared.fault.RunFault.{RunFault}
+use Rattle.fmp_judging.specs.declared.fault.RunFault.{RunFault}
 use Rattle.fmpsim_run.specs.declared.stream.Detail.{Detail}
 use Rattle.fmpsim_run.specs.declared.stream.Detail.TheVariants as detail
-use Rattle.fmpsim_run.specs.declared.fault.RunFault.TheVariants as run
-use Rattle.fmpsim_run.specs.Faults.{is_config, is_text, is_write}
-use Rattle.fmpsim_run.specs.Runs.{FirstEventFault, FirstTextFault, IsAnswered, LeavesWritten, SaysConfig, Writing, trace_of}
+use Rattle.fmp_judging.specs.declared.fault.RunFault.TheVariants as run
+use Rattle.fmp_judging.specs.Faults.{is_config, is_text, is_write}
+use Rattle.fmp_judging.specs.Texts.{SaysConfig}
+use Rattle.fmpsim_run.specs.Runs.{FirstEventFault, FirstTextFault, IsAnswered, LeavesWritten, Writing, trace_of}
 use Rattle.fmpsim_run.specs.Details.{AreStatesTold, detail_of, states_of}
 use Rattle.fmpsim_run.specs.Streams.{IsAllOut, Leaves}
 

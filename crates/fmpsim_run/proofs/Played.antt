@@ -1,18 +1,23 @@
 -- How a run of processors that follow scripts ends.
-use Rattle.std.proofs.Common.{◌≡◌, ◌≤◌, ◌++◌, ℕ, List, refl, ap, arith}
+use Rattle.std.proofs.Common.{◌≡◌, ◌≤◌, ◌++◌, ℕ, false, List, Ok, Err, length, refl, ap, arith}
 use Rattle.std.proofs.lemmas.List.{length-map}
 use Rattle.fmp_codes.specs.declared.records.Record.{Record}
 use Rattle.fmp_setup.specs.Setup.{Setup}
 use Rattle.fmp_scripts.specs.ScriptGrammar.{SpellsScripts}
 use Rattle.fmp_scripts.specs.Scripts.{Steps, AreInBits}
 use Rattle.fmp_names.specs.Names.{NameLists}
+use Rattle.fmp_text.specs.Limits.{most_bytes}
 use Rattle.fmp_trace.specs.Lines.{lines_from}
 use Rattle.fmp_smp.specs.Seeds.{IsInOrderOf}
 use Rattle.fmp_world.specs.declared.finishing.Ended.{Ended}
 use Rattle.fmp_world.specs.declared.seats.Receipt.{Receipt}
 use Rattle.fmp_world.specs.Ends.{IsSmpRun}
-use Rattle.fmpsim_run.specs.Devices.{BeginsWith}
-use Rattle.fmpsim_run.specs.Runs.{SaysConfig}
+use Rattle.fmp_world.specs.Histories.{events_of}
+use Rattle.fmp_devices.specs.Devices.{BeginsWith}
+use Rattle.fmp_judging.specs.declared.fault.RunFault.{RunFault}
+use Rattle.fmp_judging.specs.Faults.{is_read}
+use Rattle.fmp_judging.specs.Texts.{CountsReads, SaysConfig}
+use Rattle.fmp_judging.specs.Traces.{IsOwn}
 use Rattle.fmpsim_run.specs.Scripted.{IsPlayBegun, IsPlayed, IsPlayedInOrder, Played}
 
 -- the trace of a run of at most 1,000,000 turns
@@ -37,6 +42,10 @@ played config_text script_text ticks turns c scripts h receipts ended says spell
   };
 }
 
+-- that trace is one of the machine's own
+abbrev pub played_is_own : (config_text script_text trace : List ℕ) (ticks turns : ℕ) (ended : Ended) → Played config_text script_text ticks turns trace ended → length trace ≤ most_bytes → IsOwn config_text trace
+played_is_own config_text script_text trace ticks turns ended p short = record { config = p.config; events = events_of p.records; says = p.says; prints = p.answers short }
+
 -- what was written, where these names and records are that run's
 module _ (config_text script_text : List ℕ) (ticks turns : ℕ) (c : Setup) (h : List Record) (ended : Ended) (run : Played config_text script_text ticks turns (lines_from c.names 1 h) ended)
     (names : NameLists) (records : List Record) (same : names ≡ c.names) (all : records ≡ h) where
@@ -49,3 +58,8 @@ module _ (config_text script_text : List ℕ) (ticks turns : ℕ) (c : Setup) (h
 
   pub begun_played : (old new : List ℕ) → BeginsWith old (lines_from names 1 records) new → IsPlayBegun config_text script_text ticks turns old new
   begun_played old new is = (lines_from c.names 1 h, ended, run, rw (same, all) at is)
+
+-- what was read of both texts stays so, where a run ends with a fault that is no failed read
+pub reads_kept : {T U : Type 0} (value : T) (fault : RunFault) (first_old first_new second_old second_new : ℕ) → CountsReads {T = T} (Ok value) first_old first_new second_old second_new → is_read fault ≡ false
+    → CountsReads {T = U} (Err fault) first_old first_new second_old second_new
+reads_kept value fault first_old first_new second_old second_new reads other = record { sum = rw other reads.sum; first = reads.first; second = reads.second }

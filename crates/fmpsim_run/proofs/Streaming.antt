@@ -18,9 +18,9 @@ use Rattle.fmp_names.specs.Names.{NameLists}
 use Rattle.fmpsim_run.proofs.Traces.{all_begun, begun, detail_more, detail_none, entry_behind, state_more}
 use Rattle.fmpsim_run.specs.declared.stream.Answering.{Answering}
 use Rattle.fmpsim_run.specs.declared.stream.Detail.{Detail}
-use Rattle.fmpsim_run.specs.declared.fault.RunFault.{RunFault}
-use Rattle.fmpsim_run.specs.declared.fault.RunFault.TheVariants as run
-use Rattle.fmpsim_run.specs.Devices.{BeginsWith}
+use Rattle.fmp_judging.specs.declared.fault.RunFault.{RunFault}
+use Rattle.fmp_judging.specs.declared.fault.RunFault.TheVariants as run
+use Rattle.fmp_devices.specs.Devices.{BeginsWith}
 use Rattle.fmpsim_run.specs.Runs.{IsPrefixOut, IsStopped}
 use Rattle.fmpsim_run.specs.Details.{detail_of, entry_text}
 use Rattle.fmpsim_run.specs.Streams.{IsAllOut, Leaves, Streams}

@@ -11,7 +11,7 @@ use Rattle.fmp_machine.specs.Step.{answers, replay, step}
 use Rattle.fmp_machine.specs.World.{World}
 use Rattle.fmp_names.specs.Names.{NameLists}
 use Rattle.fmp_trace.specs.Lines.{lines_from}
-use Rattle.fmpsim_run.specs.Devices.{BeginsWith}
+use Rattle.fmp_devices.specs.Devices.{BeginsWith}
 use Rattle.fmpsim_run.specs.declared.stream.Detail.{Detail}
 use Rattle.fmpsim_run.specs.declared.stream.Detail.TheVariants as detail
 use Rattle.fmpsim_run.specs.Runs.{trace_of}

@@ -14,8 +14,9 @@ use Rattle.fmp_trace.specs.Lines.{line_text}
 use Rattle.fmp_states.specs.States.{state_text}
 use Rattle.fmpsim_run.specs.declared.stream.Detail.{Detail}
 use Rattle.fmpsim_run.specs.declared.stream.Detail.TheVariants as detail
-use Rattle.fmpsim_run.specs.Runs.{LeavesWritten, SaysConfig, Writing, trace_of}
-use Rattle.fmpsim_run.specs.declared.fault.RunFault.{RunFault}
+use Rattle.fmp_judging.specs.Texts.{SaysConfig}
+use Rattle.fmpsim_run.specs.Runs.{LeavesWritten, Writing, trace_of}
+use Rattle.fmp_judging.specs.declared.fault.RunFault.{RunFault}
 
 -- what is written behind the line of an event that led to this state
 abbrev pub behind_line : Detail → NameLists → State → List ℕ

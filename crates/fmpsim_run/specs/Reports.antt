@@ -8,10 +8,10 @@ use Rattle.fmp_check.specs.declared.comparing.Shown.{Shown}
 use Rattle.fmp_check.specs.declared.comparing.Shown.TheVariants.{First, Each}
 use Rattle.fmp_check.specs.Checking.{Judges}
 use Rattle.fmp_check.specs.Differences.{Contrasts}
-use Rattle.fmpsim_run.specs.declared.fault.RunFault.{RunFault}
+use Rattle.fmp_judging.specs.declared.fault.RunFault.{RunFault}
 use Rattle.fmpsim_run.specs.Checks.{verdict_text}
-use Rattle.fmpsim_run.specs.Devices.{BeginsWith}
-use Rattle.fmpsim_run.specs.Runs.{SaysConfig}
+use Rattle.fmp_devices.specs.Devices.{BeginsWith}
+use Rattle.fmp_judging.specs.Texts.{SaysConfig}
 
 -- what stands before the lines that differ: the verdict, or the header of a unified diff, which an empty one has not
 abbrev pub head_text : Shown → Verdict → List ℕ

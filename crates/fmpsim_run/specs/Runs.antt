@@ -1,39 +1,17 @@
 -- What a run over a configuration and events does.
-use Rattle.std.specs.Prelude.{◌≡◌, ◌⊎◌, ℕ, ◌+◌, ◌≤◌, List, ◌++◌, length, take, Some, Result, if◌then◌else◌}
+use Rattle.std.specs.Prelude.{◌≡◌, ◌⊎◌, ℕ, List, ◌++◌, take, Some}
 use Rattle.fmp_codes.specs.declared.records.Event.{Event}
 use Rattle.fmp_text.specs.declared.fault.TextFault.{TextFault}
 use Rattle.fmp_text.specs.Events.{IsFirst, IsMemory, Reading, reading_by_line}
-use Rattle.fmp_text.specs.TextGrammar.{SpellsText}
-use Rattle.fmp_config.specs.Limits.{most_bytes}
-use Rattle.fmp_config.specs.Faults.{IsFirstFault}
-use Rattle.fmp_config_laws.specs.Grammar.{Configures}
 use Rattle.fmp_setup.specs.Setup.{Setup}
 use Rattle.fmp_machine.specs.Boot.{booted}
 use Rattle.fmp_machine.specs.Arrivals.{numbered}
 use Rattle.fmp_machine.specs.Step.{answers}
-use Rattle.fmp_safety.specs.Runs.{IsSafeThroughout}
-use Rattle.fmp_balance.specs.Balance.{IsBalancedThroughout}
 use Rattle.fmp_trace.specs.Lines.{lines_from}
-use Rattle.fmpsim_run.specs.declared.fault.RunFault.{RunFault}
-use Rattle.fmpsim_run.specs.declared.fault.RunFault.TheVariants as run
-use Rattle.fmpsim_run.specs.Devices.{BeginsWith}
-use Rattle.fmpsim_run.specs.Faults.{failed_read}
-
--- a text of a configuration, within the limit
-pub record SaysConfig (text : List ℕ) (config : Setup) : Type 0 where
-  pub configures : Configures text config
-  pub short : length text ≤ most_bytes
-
--- The output is the trace of the one text's machine over the other's events. Every prefix of these leads to a safe state, in
--- which what the records so far say came in and went out agrees with what is there.
-pub record Answered (config_text event_text output : List ℕ) : Type 0 where
-  pub config : Setup
-  pub events : List Event
-  pub says : SaysConfig config_text config
-  pub lists : SpellsText config.names event_text events
-  pub prints : output ≡ lines_from config.names 1 (answers numbered (booted config) events)
-  pub safe : IsSafeThroughout (booted config) events
-  pub balanced : IsBalancedThroughout config events (answers numbered (booted config) events)
+use Rattle.fmp_judging.specs.declared.fault.RunFault.{RunFault}
+use Rattle.fmp_judging.specs.declared.fault.RunFault.TheVariants as run
+use Rattle.fmp_devices.specs.Devices.{BeginsWith}
+use Rattle.fmp_judging.specs.Texts.{Answered, SaysConfig}
 
 -- the output was written after old, all of it
 abbrev pub IsAnswered : List ℕ → List ℕ → List ℕ → List ℕ → Type 0
@@ -88,11 +66,6 @@ LeavesWritten writing config_text event_text old new other = IsPrefix writing co
 abbrev pub LeavesOut : List ℕ → List ℕ → List ℕ → List ℕ → RunFault → Type 0
 LeavesOut config_text event_text old new fault = LeavesWritten trace_of config_text event_text old new fault
 
--- a fault of the configuration is the first one of its text, or want of memory
-abbrev pub FirstConfigFault : List ℕ → RunFault → Type 0
-FirstConfigFault text (run.Config fault) = IsFirstFault text fault
-FirstConfigFault text other = Unit {0}
-
 -- a fault of the events is the first one of their reading, or want of memory
 abbrev pub FirstEventFault : Reading → RunFault → Type 0
 FirstEventFault reading (run.Text fault) = IsFirst reading fault
@@ -103,9 +76,3 @@ abbrev pub FirstTextFault : List ℕ → List ℕ → RunFault → Type 0
 FirstTextFault config_text event_text (run.Text fault) =
     (config : Setup) × SaysConfig config_text config × FirstEventFault (reading_by_line config.names event_text) (run.Text fault)
 FirstTextFault config_text event_text other = Unit {0}
-
--- of two readers one read failed where the run ended so, and else none
-pub record CountsReads {T : Type 0} (result : Result T RunFault) (first_old first_new second_old second_new : ℕ) : Type 0 where
-  pub sum : first_new + second_new ≡ first_old + second_old + (if failed_read result then 1 else 0)
-  pub first : first_old ≤ first_new
-  pub second : second_old ≤ second_new

@@ -1,24 +1,26 @@
 -- What a run of processors that follow scripts does.
-use Rattle.std.specs.Prelude.{◌≡◌, ◌⊎◌, ◌≤◌, ℕ, List, ◌++◌, length, Err}
+use Rattle.std.specs.Prelude.{◌≡◌, ◌≤◌, ℕ, List, ◌++◌, length}
 use Rattle.fmp_codes.specs.declared.records.Record.{Record}
 use Rattle.fmp_setup.specs.Setup.{Setup}
-use Rattle.fmp_names.specs.Names.{NameLists}
 use Rattle.fmp_scripts.specs.ScriptGrammar.{SpellsScripts}
 use Rattle.fmp_scripts.specs.Scripts.{Steps}
-use Rattle.fmp_scripts.specs.Texts.{scripts_in}
+use Rattle.fmp_smp.specs.declared.fault.SmpFault.{SmpFault}
+use Rattle.fmp_smp.specs.declared.fault.SmpFault.TheVariants as smp
 use Rattle.fmp_smp.specs.Seeds.{IsInOrderOf}
-use Rattle.fmp_text.specs.Events.{IsMemory}
 use Rattle.fmp_text.specs.Limits.{most_bytes}
 use Rattle.fmp_check.specs.Checking.{PrintsAnswers}
 use Rattle.fmp_trace.specs.Lines.{lines_from}
 use Rattle.fmp_world.specs.declared.finishing.Ended.{Ended}
+use Rattle.fmp_world.specs.declared.finishing.Ended.TheVariants as ended
 use Rattle.fmp_world.specs.declared.seats.Receipt.{Receipt}
 use Rattle.fmp_world.specs.Ends.{IsSmpRun}
 use Rattle.fmp_world.specs.Histories.{events_of}
-use Rattle.fmpsim_run.specs.declared.fault.RunFault.{RunFault}
-use Rattle.fmpsim_run.specs.declared.fault.RunFault.TheVariants as run
-use Rattle.fmpsim_run.specs.Devices.{BeginsWith}
-use Rattle.fmpsim_run.specs.Runs.{SaysConfig}
+use Rattle.fmp_judging.specs.declared.fault.RunFault.{RunFault}
+use Rattle.fmp_judging.specs.declared.fault.RunFault.TheVariants as run
+use Rattle.fmp_devices.specs.Devices.{BeginsWith}
+use Rattle.fmp_judging.specs.declared.status.Status.{Status}
+use Rattle.fmp_judging.specs.declared.status.Status.TheVariants.{Done, Limit}
+use Rattle.fmp_judging.specs.Texts.{SaysConfig}
 
 -- the output is the trace of a run of the one text's machine by the other's scripts, which ended so
 pub record Played (config_text script_text : List ℕ) (ticks turns : ℕ) (output : List ℕ) (ended : Ended) : Type 0 where
@@ -49,13 +51,13 @@ abbrev pub IsPlayBegun : List ℕ → List ℕ → ℕ → ℕ → List ℕ → 
 IsPlayBegun config_text script_text ticks turns old new =
     (output : List ℕ) × (ended : Ended) × Played config_text script_text ticks turns output ended × BeginsWith old output new
 
--- a fault of the scripts is the first one of their text, or want of memory
-abbrev pub IsFirstOfScripts : NameLists → List ℕ → RunFault → Type 0
-IsFirstOfScripts names text (run.Text fault) = (scripts_in names text ≡ Err fault) ⊎ IsMemory fault
-IsFirstOfScripts names text other = Unit {0}
+-- the run's fault where the processors made no run
+abbrev pub smp_fault_of : SmpFault → RunFault
+smp_fault_of smp.Memory = run.Memory
+smp_fault_of smp.Start = run.Start
+smp_fault_of smp.Disagree = run.Disagree
 
--- the same, for the names of a right configuration
-abbrev pub FirstScriptFault : List ℕ → List ℕ → RunFault → Type 0
-FirstScriptFault config_text script_text (run.Text fault) =
-    (config : Setup) × SaysConfig config_text config × IsFirstOfScripts config.names script_text (run.Text fault)
-FirstScriptFault config_text script_text other = Unit {0}
+-- how the program ends after a run of processors
+abbrev pub status_of_end : Ended → Status
+status_of_end ended.Quiet = Done
+status_of_end ended.Limit = Limit

@@ -8,11 +8,11 @@ use Rattle.fmp_machine.specs.Boot.{booted}
 use Rattle.fmp_machine.specs.Arrivals.{numbered}
 use Rattle.fmp_machine.specs.Step.{replay}
 use Rattle.fmp_lists.specs.Stands.{Stands}
-use Rattle.fmpsim_run.specs.declared.fault.RunFault.{RunFault}
-use Rattle.fmpsim_run.specs.declared.fault.RunFault.TheVariants as run
+use Rattle.fmp_judging.specs.declared.fault.RunFault.{RunFault}
+use Rattle.fmp_judging.specs.declared.fault.RunFault.TheVariants as run
 use Rattle.fmpsim_run.specs.declared.stream.Answering.{Answering}
 use Rattle.fmpsim_run.specs.declared.stream.Detail.{Detail}
-use Rattle.fmpsim_run.specs.Devices.{BeginsWith}
+use Rattle.fmp_devices.specs.Devices.{BeginsWith}
 use Rattle.fmpsim_run.specs.Runs.{IsPrefixOut, IsStopped}
 use Rattle.fmpsim_run.specs.Details.{detail_of}
 

@@ -4,16 +4,14 @@ ghost use Rattle.fmp_setup.specs.Valid.{IsValid};
 ghost use Rattle.fmp_text.specs.Events.{Reading, reading_by_line};
 ghost use Rattle.fmp_text.specs.Limits.{most_bytes, most_events};
 ghost use Rattle.fmpsim_run.specs.Details.{AreStatesTold, LeavesStates};
-ghost use Rattle.fmpsim_run.specs.Faults.{failed_read, failed_write, is_config, is_thread_fault};
-ghost use Rattle.fmpsim_run.specs.Runs.{CountsReads, FirstConfigFault, FirstEventFault, FirstTextFault, IsAnswered, LeavesOut};
+ghost use Rattle.fmp_judging.specs.Faults.{failed_read, failed_write, is_config, is_thread_fault};
+ghost use Rattle.fmp_judging.specs.Texts.{CountsReads, FirstConfigFault};
+ghost use Rattle.fmpsim_run.specs.Runs.{FirstEventFault, FirstTextFault, IsAnswered, LeavesOut};
 ghost use Rattle.fmpsim_run.specs.Streams.{IsAllOut, Leaves, Streams};
 
-use crate::fault::RunFault;
-use crate::sink::Sink;
-use crate::source::Source;
 use crate::stream::{Answering, Detail};
-use crate::texts::config_from;
-use crate::whole::new_piece;
+use fmp_devices::{Sink, Source, new_piece};
+use fmp_judging::{RunFault, config_from};
 use fmp_machine::Config;
 use std::alloc::Global;
 

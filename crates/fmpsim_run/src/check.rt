@@ -1,92 +1,22 @@
 //! The run that checks a trace.
-ghost use Rattle.std.specs.Prelude.{◌≡◌, ◌≢◌, ℕ, ◌+◌, ◌-◌, ◌^◌, ◌<◌, ◌≤◌, List, ◌++◌, [], length, IsTrue, OnOk, IfOk, IfErr, Err, Ok, false, if◌then◌else◌};
-ghost use Rattle.fmp_codes.specs.declared.records.Event.{Event as AnyEvent};
+ghost use Rattle.std.specs.Prelude.{◌≡◌, ◌≢◌, ℕ, ◌+◌, ◌-◌, ◌^◌, ◌<◌, ◌≤◌, List, ◌++◌, [], length, IsTrue, OnOk, IfOk, IfErr, Err, false, if◌then◌else◌};
 ghost use Rattle.fmp_text.specs.Limits.{most_bytes as MOST_BYTES};
-ghost use Rattle.fmp_check.specs.Checking.{Judges, PrintsAnswers};
-ghost use Rattle.fmpsim_run.specs.Faults.{failed_read, failed_write, is_config, is_write, is_thread_fault};
-ghost use Rattle.fmpsim_run.specs.Runs.{Answered, CountsReads, FirstConfigFault, SaysConfig};
+ghost use Rattle.fmp_judging.specs.Faults.{failed_write, is_thread_fault};
+ghost use Rattle.fmp_judging.specs.Texts.{Answered, CountsReads, FirstConfigFault};
 ghost use Rattle.fmp_world.specs.declared.finishing.Ended.{Ended};
 ghost use Rattle.fmpsim_run.specs.Scripted.{Played};
-ghost use Rattle.fmpsim_run.specs.Checks.{Checked, IsCheckBegun, IsFirstOfTrace, IsYes, FirstTraceFault, verdict_in, verdict_text};
+ghost use Rattle.fmp_judging.specs.Traces.{Checked, IsYes, FirstTraceFault};
+ghost use Rattle.fmpsim_run.specs.Checks.{IsCheckBegun, verdict_text};
 
-use crate::fault::RunFault;
-use crate::sink::{Sink, write_out};
-use crate::source::Source;
-use crate::texts::config_from;
-use crate::whole::read_up_to;
 use arrayvec::ArrayString;
-use fmp_check::{Verdict, check};
-use fmp_machine::Config;
+use fmp_check::Verdict;
+use fmp_devices::{Sink, Source, write_out};
+use fmp_judging::{RunFault, judged_texts};
 use itoa::Buffer;
 use std::alloc::Global;
 
 /// How many bytes the longest verdict has, `no 4294967295` and a line feed.
 const MOST_TEXT: usize = 14;
-
-/// A configuration and a trace that were read, and the verdict on the trace.
-#[derive(Drop)]
-pub struct Judged {
-    pub config: Config,
-    pub text: Vec<u8>,
-    pub verdict: Verdict,
-}
-
-/// Reads a trace to its end, and judges it.
-fn judged_by<S: Source>(alloc: Global, config: Config, trace: &mut S) -> Result<Judged, RunFault>
-    requires { S.failures trace.old < 2 ^ 64 - 1 }
-    ensures config { IfOk result (λ judged. judged.config ≡ config) }
-    ensures text { IsTrue S.tells → IfOk result (λ judged. judged.text.items ≡ S.left trace.old) }
-    ensures judged { IfOk result (λ judged. Judges judged.config judged.text.items judged.verdict) }
-    ensures answers { IsTrue S.tells → (events : List AnyEvent) → PrintsAnswers config (S.left trace.old) events → IsYes (verdict_in result) }
-    ensures read { IsTrue S.tells → OnOk result (S.left trace.new ≡ []) }
-    ensures fault { IsTrue S.tells → IfErr result (IsFirstOfTrace config.names (S.left trace.old)) }
-    ensures kinds { IfErr result (λ fault. (is_config fault ≡ false) × (is_write fault ≡ false)) }
-    ensures no_thread_fault { IfErr result (λ fault. is_thread_fault fault ≡ false) }
-    ensures count { S.failures trace.new ≡ S.failures trace.old + (if failed_read result then 1 else 0) }
-{
-    let text = read_up_to(alloc, trace, fmp_text::MOST_BYTES)?;
-    match check(alloc, &config, text.as_slice()) {
-        Ok(verdict) => Ok(Judged {
-            config,
-            text,
-            verdict,
-        }),
-        Err(fault) => Err(RunFault::Text(fault)),
-    }
-}
-
-/// Reads a configuration and a trace to their ends, and judges the trace. It has no writer in hand, so nothing is written before
-/// both texts are accepted.
-#[tactic(auto, using(crate::proofs::JudgedTexts::checked_of_texts))]
-pub fn judged_texts<R: Source, S: Source>(
-    alloc: Global,
-    config: &mut R,
-    trace: &mut S,
-) -> Result<Judged, RunFault>
-    requires config_calls { R.failures config.old < 2 ^ 64 - 1 }
-    requires trace_calls { S.failures trace.old < 2 ^ 64 - 1 }
-
-    ensures says { IsTrue R.tells → IfOk result (λ judged. SaysConfig (R.left config.old) judged.config) }
-    ensures text { IsTrue S.tells → IfOk result (λ judged. judged.text.items ≡ S.left trace.old) }
-    ensures judged { IfOk result (λ judged. Judges judged.config judged.text.items judged.verdict) }
-    ensures checked { IsTrue R.tells → IsTrue S.tells → IfOk result (λ judged. Checked (R.left config.old) (S.left trace.old) judged.verdict) }
-    ensures answers { IsTrue R.tells → IsTrue S.tells → (event_text : List ℕ) → Answered (R.left config.old) event_text (S.left trace.old)
-        → length (S.left trace.old) ≤ MOST_BYTES → IsYes (verdict_in result) }
-    ensures plays { IsTrue R.tells → IsTrue S.tells → (script_text : List ℕ) (ticks turns : ℕ) (ended : Ended)
-        → Played (R.left config.old) script_text ticks turns (S.left trace.old) ended → length (S.left trace.old) ≤ MOST_BYTES → IsYes (verdict_in result) }
-    ensures config_read { IsTrue R.tells → OnOk result (R.left config.new ≡ []) }
-    ensures trace_read { IsTrue S.tells → OnOk result (S.left trace.new ≡ []) }
-
-    ensures config_fault { IsTrue R.tells → IfErr result (FirstConfigFault (R.left config.old)) }
-    ensures text_fault { IsTrue R.tells → IsTrue S.tells → IfErr result (FirstTraceFault (R.left config.old) (S.left trace.old)) }
-    ensures reads { CountsReads result (R.failures config.old) (R.failures config.new) (S.failures trace.old) (S.failures trace.new) }
-    ensures no_write { failed_write result ≡ false }
-    ensures no_thread_fault { IfErr result (λ fault. is_thread_fault fault ≡ false) }
-{
-    let configuration = config_from(alloc, config)?;
-    configuration.names().validity();
-    judged_by(alloc, configuration, trace)
-}
 
 /// A verdict as it is written: `yes`, or `no` and the number of the line.
 pub(crate) fn text_of(verdict: Verdict) -> ArrayString<MOST_TEXT>

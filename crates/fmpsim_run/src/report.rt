@@ -5,20 +5,17 @@ ghost use Rattle.fmp_text.specs.Limits.{most_bytes as MOST_BYTES};
 ghost use Rattle.fmp_check.specs.Checking.{Judges, PrintsAnswers};
 ghost use Rattle.fmp_check.specs.Differences.{Contrasts};
 ghost use Rattle.fmp_world.specs.declared.finishing.Ended.{Ended};
-ghost use Rattle.fmpsim_run.specs.Checks.{IsFirstOfTrace, IsYes, FirstTraceFault};
-ghost use Rattle.fmpsim_run.specs.Devices.{BeginsWith};
-ghost use Rattle.fmpsim_run.specs.Faults.{failed_read, failed_write, is_config, is_write, is_thread_fault};
+ghost use Rattle.fmp_judging.specs.Traces.{IsFirstOfTrace, IsYes, FirstTraceFault};
+ghost use Rattle.fmp_devices.specs.Devices.{BeginsWith};
+ghost use Rattle.fmp_judging.specs.Faults.{failed_read, failed_write, is_config, is_write, is_thread_fault};
 ghost use Rattle.fmpsim_run.specs.Reports.{Compared, IsReported, IsReportBegun, head_text, verdict_in};
-ghost use Rattle.fmpsim_run.specs.Runs.{Answered, CountsReads, FirstConfigFault};
+ghost use Rattle.fmp_judging.specs.Texts.{Answered, CountsReads, FirstConfigFault};
 ghost use Rattle.fmpsim_run.specs.Scripted.{Played};
 
 use crate::check::text_of;
-use crate::fault::RunFault;
-use crate::sink::{Sink, write_all, write_out};
-use crate::source::{Failed, Source};
-use crate::texts::config_from;
-use crate::whole::read_up_to;
 use fmp_check::{Comparison, Shown, Verdict, compare_lines};
+use fmp_devices::{Failed, Sink, Source, read_up_to, write_all, write_out};
+use fmp_judging::{RunFault, config_from};
 use fmp_machine::Config;
 use std::alloc::Global;
 

@@ -1,27 +1,37 @@
 //! The runs of processors that follow scripts, each in a thread of its own or in an order that a seed determines.
-ghost use Rattle.std.specs.Prelude.{◌≡◌, ◌≢◌, ◌+◌, ◌-◌, ◌≤◌, ◌^◌, ◌<◌, ◌++◌, [], length, IsTrue, OnOk, IfOk, IfErr, Err, false, if◌then◌else◌};
+ghost use Rattle.std.specs.Prelude.{◌≡◌, ◌≢◌, ◌+◌, ◌-◌, ◌≤◌, ◌^◌, ◌<◌, ◌++◌, [], length, map, IsTrue, OnOk, IfOk, IfErr, Err, false, if◌then◌else◌};
 ghost use Rattle.fmp_scripts.specs.ScriptGrammar.{SpellsScripts};
 ghost use Rattle.fmp_scripts.specs.Scripts.{AreInBits};
 ghost use Rattle.fmp_trace.specs.Lines.{lines_from};
-ghost use Rattle.fmpsim_run.specs.Devices.{BeginsWith};
-ghost use Rattle.fmpsim_run.specs.Faults.{failed_read, failed_write, is_config, is_read, is_thread_fault, is_text};
-ghost use Rattle.fmpsim_run.specs.Runs.{CountsReads, FirstConfigFault, SaysConfig};
-ghost use Rattle.fmpsim_run.specs.Scripted.{FirstScriptFault, IsPlayBegun, IsPlayed, IsPlayedInOrder};
+ghost use Rattle.fmp_devices.specs.Devices.{BeginsWith};
+ghost use Rattle.fmp_world.specs.Ends.{IsSmpRun};
+ghost use Rattle.fmp_judging.specs.Faults.{failed_read, failed_write, is_config, is_read, is_thread_fault, is_text, is_write};
+ghost use Rattle.fmp_judging.specs.Texts.{CountsReads, FirstConfigFault, FirstScriptFault, SaysConfig};
+ghost use Rattle.fmpsim_run.specs.Scripted as spec;
+ghost use Rattle.fmpsim_run.specs.Scripted.{IsPlayBegun, IsPlayed, IsPlayedInOrder};
 
-use crate::fault::RunFault;
-use crate::sink::{Sink, write_out};
-use crate::source::Source;
-use crate::texts::{config_from, scripts_from};
-use fmp_codes::Record;
+use fmp_codes::{Answer, Event, Proc, Record};
+use fmp_devices::{Sink, Source, write_out};
+use fmp_judging::{RunFault, Status, config_from, scripts_from};
 use fmp_machine::Config;
 use fmp_scripts::Scripts;
-use fmp_smp::{Gate, run_smp};
+use fmp_smp::{Gate, SmpFault, run_smp};
 use fmp_text::Names;
-use fmp_trace::trace_text;
-use fmp_world::Ended;
-use std::alloc::Global;
+use fmp_trace::put_line;
+use fmp_world::{Ended, History, SmpRun};
+use std::alloc::{AllocError, Global};
 use std::sync::Wait;
 use std::thread::Threads;
+
+/// How the program ends after a run of processors.
+pub const fn status_of_end(ended: Ended) -> Status
+    ensures { result ≡ spec.status_of_end ended }
+{
+    match ended {
+        Ended::Quiet => Status::Done,
+        Ended::Limit => Status::Limit,
+    }
+}
 
 /// The machine and the scripts of two texts. It has no writer in hand, so nothing is written before both are accepted.
 fn texts_from<R: Source, S: Source>(
@@ -47,26 +57,75 @@ fn texts_from<R: Source, S: Source>(
     Ok((configuration, list))
 }
 
-/// Writes the trace of the records, and holds none of it back.
-fn write_records<W: Sink>(
+/// The trace of a history, whose records are made again one after the other.
+fn history_text(alloc: Global, history: &History<'_>, names: &Names) -> Result<Vec<u8>, AllocError>
+    requires { length history.now.records < 2 ^ 32 }
+    ensures { IfOk result (λ v. v.items ≡ lines_from names.now 1 history.now.records) }
+{
+    let mut replay = history.replay(alloc)?;
+    let mut told = Record::answer(Event::Tick(Proc::new(1)), None, Answer::Nothing);
+    let mut out = Vec::new(alloc);
+    let mut n: u32 = 0;
+    while replay.next(&mut told) {
+        n += 1;
+        put_line(&mut out, names, n, &told)?;
+    }
+    Ok(out)
+}
+
+/// Writes the trace of a history, and holds none of it back. It is whole before the first byte is out.
+fn write_history<W: Sink>(
     alloc: Global,
     names: &Names,
-    records: &[Record],
+    history: &History<'_>,
     trace: &mut W,
 ) -> Result<(), RunFault>
     requires calls { W.failures trace.old < 2 ^ 64 - 1 }
-    requires few { length records.now < 2 ^ 32 }
-    ensures written { IsTrue W.tells → OnOk result (W.written trace.new ≡ W.written trace.old ++ lines_from names.now 1 records.now) }
+    requires few { length history.now.records < 2 ^ 32 }
+    ensures written { IsTrue W.tells → OnOk result (W.written trace.new ≡ W.written trace.old ++ lines_from names.now 1 history.now.records) }
     ensures passed { OnOk result (W.buffered trace.new ≡ []) }
     ensures write { IsTrue W.tells → (result ≡ Err RunFault.Write)
-        → BeginsWith (W.written trace.old) (lines_from names.now 1 records.now) (W.written trace.new) }
+        → BeginsWith (W.written trace.old) (lines_from names.now 1 history.now.records) (W.written trace.new) }
     ensures unwritten { IsTrue W.tells → IfErr result (λ fault. fault ≢ RunFault.Write → W.written trace.new ≡ W.written trace.old) }
     ensures kinds { IfErr result (λ fault. (is_config fault ≡ false) × (is_text fault ≡ false) × (is_read fault ≡ false)) }
     ensures no_thread_fault { IfErr result (λ fault. is_thread_fault fault ≡ false) }
     ensures writes { W.failures trace.new ≡ W.failures trace.old + (if failed_write result then 1 else 0) }
 {
-    let text = trace_text(alloc, records, names)?;
+    let text = history_text(alloc, history, names)?;
     Ok(write_out(trace, text.as_slice())?)
+}
+
+/// The run's fault where the processors made no run.
+fn run_fault(fault: SmpFault) -> RunFault
+    ensures { result ≡ spec.smp_fault_of fault }
+{
+    match fault {
+        SmpFault::Memory => RunFault::Memory,
+        SmpFault::Start => RunFault::Start,
+        SmpFault::Disagree => RunFault::Disagree,
+    }
+}
+
+/// Runs each processor in a thread of its own.
+fn threads_run<'a, T: Threads + Wait + Sync, G: Gate + Sync>(
+    rt: &T,
+    alloc: Global,
+    config: &'a Config,
+    scripts: &'a Scripts,
+    ticks: u32,
+    turns: u32,
+    gate: &G,
+) -> Result<SmpRun<'a>, RunFault>
+    requires ticks { ticks ≤ 1000000 }
+    requires least { 1 ≤ turns }
+    requires most { turns ≤ 1000000 }
+    ensures run { IfOk result (λ r. IsSmpRun config.entry.now scripts.entry.now ticks turns r.history.records (map (λ v. v.items) r.receipts.items) r.ended) }
+    ensures kinds { IfErr result (λ fault. (is_config fault ≡ false) × (is_text fault ≡ false) × (is_read fault ≡ false) × (is_write fault ≡ false)) }
+{
+    match run_smp(rt, alloc, config, scripts, ticks, turns, gate) {
+        Ok(run) => Ok(run),
+        Err(fault) => Err(run_fault(fault)),
+    }
 }
 
 /// Reads a configuration and scripts, runs each processor in a thread of its own, and writes the trace of what happened.
@@ -112,8 +171,9 @@ pub fn run_threads<T: Threads + Wait + Sync, R: Source, S: Source, W: Sink, G: G
     ensures writes { W.failures trace.new ≡ W.failures trace.old + (if failed_write result then 1 else 0) }
 {
     let (machine, list) = texts_from(alloc, config, scripts)?;
-    let run = run_smp(rt, alloc, &machine, list, ticks, turns, gate)?;
-    write_records(alloc, machine.names(), run.records.as_slice(), trace)?;
+    let run = threads_run(rt, alloc, &machine, &list, ticks, turns, gate)?;
+    drop(run.receipts);
+    write_history(alloc, machine.names(), &run.history, trace)?;
     Ok(run.ended)
 }
 
@@ -159,7 +219,8 @@ pub fn run_seeded<R: Source, S: Source, W: Sink>(
     ensures writes { W.failures trace.new ≡ W.failures trace.old + (if failed_write result then 1 else 0) }
 {
     let (machine, list) = texts_from(alloc, config, scripts)?;
-    let run = fmp_smp::run_seeded(alloc, &machine, list, ticks, turns, seed)?;
-    write_records(alloc, machine.names(), run.records.as_slice(), trace)?;
+    let run = fmp_smp::run_seeded(alloc, &machine, &list, ticks, turns, seed)?;
+    drop(run.receipts);
+    write_history(alloc, machine.names(), &run.history, trace)?;
     Ok(run.ended)
 }

@@ -52,6 +52,16 @@ pub fn values(call: SystemCall) -> Values
     system_calls!(values, call)
 }
 
+/// How the call is written, and its arguments.
+pub fn parts(call: SystemCall) -> (CallForm, Values)
+    ensures text { result.0.text.now ≡ (line_of call).text }
+    ensures bare { result.0.bare ≡ (line_of call).bare }
+    ensures kinds { result.0.kinds.now ≡ (line_of call).kinds }
+    ensures values { result.1.items ≡ (line_of call).values }
+{
+    system_calls!(parts, call)
+}
+
 /// The call of the same name with the arguments that the values are.
 pub fn with_values(call: SystemCall, values: &[Value]) -> SystemCall
     ensures { result ≡ (line_of call).make values.now }

@@ -1,9 +1,9 @@
-use Rattle.std.proofs.Common.{◌≡◌, ◌∙◌, Some, rules, refl, sym, subst}
+use Rattle.std.proofs.Common.{◌≡◌, ◌∙◌, Some, rules, refl, ap, sym, subst}
 use Rattle.fmp_setup.specs.Valid.{IsValid}
 use Rattle.fmp_smp.specs.Seeds.{IsInOrderOf}
 use Rattle.fmp_smp.proofs.Following.{Carries, carries, follows_at_first}
 use Rattle.fmp_smp.proofs.Seating.{seated_at_first}
-use Rattle.fmp_smp.proofs.Wholes.{judged_records, whole_at_end}
+use Rattle.fmp_smp.proofs.Wholes.{judged_history, whole_at_end}
 use Rattle.fmp_smp.proofs.seeded.run_seeded.Goals as goal
 
 pub loop-alloc-init : goal.loop-alloc-init
@@ -12,8 +12,8 @@ loop-alloc-init c =
       configured = refl;
       scripted = refl;
       room = refl;
-      follows = follows_at_first c.args.seed c.args.config.now c.args.scripts c.args.ticks c.args.turns;
-      seated = seated_at_first c.args.config.now c.args.scripts c.args.turns _ _ c.in_ok-world.ensures.cpus c.in_ok-world.ensures.clock;
+      follows = follows_at_first c.args.seed c.args.config.now c.args.scripts.now c.args.ticks c.args.turns;
+      seated = seated_at_first c.args.config.now c.args.scripts.now c.args.turns _ _ c.in_ok-world.ensures.cpus c.in_ok-world.ensures.clock;
     })
 
 pub loop-alloc-preserved : goal.loop-alloc-preserved
@@ -46,5 +46,5 @@ returns-clause-order c =
     let valid : IsValid c.loop-alloc.world.config = subst IsValid (sym before.configured) of_config in
     let end = whole_at_end _ _ _ _ _ _ _ _ _ _ _ _ _ _ (search rules) valid before.follows before.configured before.scripted before.room c.go_on.ensures.seated c.go_on.ensures.goes in
     let is : c.finish-run.result ≡ Some c.unwrap.result = search rules in
-    let same = judged_records c.finish-run.result c.unwrap.result _ c.finish-run.ensures.records is in
-    subst (IsInOrderOf c.args.seed c.args.config.now c.args.scripts c.args.ticks) (sym same) end.1
+    let same = ap (λ w. w.records) (judged_history c.finish-run.result c.unwrap.result _ c.finish-run.ensures.history is) in
+    subst (IsInOrderOf c.args.seed c.args.config.now c.args.scripts.now c.args.ticks) (sym same) end.1

@@ -2,9 +2,9 @@ use Rattle.std.proofs.Common.{◌≡◌, ◌≤◌, ◌∙◌, List, ℕ, length
 use Rattle.fmp_text.specs.Limits.{most_bytes as MOST_BYTES}
 use Rattle.fmp_check.specs.declared.checking.Verdict.{Verdict}
 use Rattle.fmp_check.specs.declared.checking.Verdict.TheVariants.{Yes}
-use Rattle.fmpsim_run.specs.Checks.{IsYes}
-use Rattle.fmpsim_run.specs.Runs.{Answered}
-use Rattle.fmpsim_run.specs.declared.fault.RunFault.{RunFault}
+use Rattle.fmp_judging.specs.Traces.{IsYes}
+use Rattle.fmp_judging.specs.Texts.{Answered}
+use Rattle.fmp_judging.specs.declared.fault.RunFault.{RunFault}
 use Rattle.fmp_tests.proofs.run.verdict_on_own.Goals as goal
 
 yes_if_ok : (r : Result Verdict RunFault) → IsYes r → IfOk r (λ v. v ≡ Yes)

@@ -2,8 +2,8 @@ use Rattle.std.proofs.Common.{List, ℕ, ◌++◌, ap, sym, ◌∙◌, subst, ar
 use Rattle.std.proofs.lemmas.Grind.{common_steps}
 use Rattle.fmp_bytes.proofs.Cutting.{shorter}
 use Rattle.fmp_machine.specs.Boot.{booted}
-use Rattle.fmpsim_run.specs.Devices.{BeginsWith}
-use Rattle.fmpsim_run.proofs.Begun.{begun_first}
+use Rattle.fmp_devices.specs.Devices.{BeginsWith}
+use Rattle.fmp_devices.proofs.Begun.{begun_first}
 use Rattle.fmp_wave.specs.Waves.{events_text, start_text}
 use Rattle.fmp_wave.proofs.SoFar.{begins, events_of, goes_on, is_begun, is_cut, is_drawn, is_told, on_err}
 use Rattle.fmp_wave.proofs.run.draw.Goals as goal
@@ -33,15 +33,15 @@ loop-line-init g c =
       failures = grind (arith, common_steps);
     }
 
-pub returns-in-Err-clause-begun : goal.returns-in-Err-clause-begun
-returns-in-Err-clause-begun g c = λ tell records prints.
+pub returns-in_default-event_of-clause-begun : goal.returns-in_default-event_of-clause-begun
+returns-in_default-event_of-clause-begun g c = λ tell records prints.
     absurd (is_told c.names-names.result.now c.validity.ensures c.loop-line.number c.loop-line.drawing.plain.state c.loop-line.rest.now c.in-Some.line.now c.in-Some.after.now
-    c.in-Some.ensures.line c.in-Some.ensures.rest _ g.W.Sink.tells _ _ _ (c.loop-line.invariant.so_far records prints) c.in-Err.fault (sym c.guessed.ensures ∙ c.in-Err.is))
+    c.in-Some.ensures.line c.in-Some.ensures.rest g.W.Sink.tells _ _ _ (c.loop-line.invariant.so_far records prints) (sym c.event_of.ensures ∙ c.in_default-event_of.is))
 
-pub returns-in-Err-clause-kinds : goal.returns-in-Err-clause-kinds
-returns-in-Err-clause-kinds g c = λ records prints.
+pub returns-in_default-event_of-clause-kinds : goal.returns-in_default-event_of-clause-kinds
+returns-in_default-event_of-clause-kinds g c = λ records prints.
     absurd (is_told c.names-names.result.now c.validity.ensures c.loop-line.number c.loop-line.drawing.plain.state c.loop-line.rest.now c.in-Some.line.now c.in-Some.after.now
-    c.in-Some.ensures.line c.in-Some.ensures.rest _ g.W.Sink.tells _ _ _ (c.loop-line.invariant.so_far records prints) c.in-Err.fault (sym c.guessed.ensures ∙ c.in-Err.is))
+    c.in-Some.ensures.line c.in-Some.ensures.rest g.W.Sink.tells _ _ _ (c.loop-line.invariant.so_far records prints) (sym c.event_of.ensures ∙ c.in_default-event_of.is))
 
 pub returns-in_err-play-clause-begun : goal.returns-in_err-play-clause-begun
 returns-in_err-play-clause-begun g c = λ tell records prints.
@@ -53,7 +53,7 @@ returns-in_err-write_all-2-clause-begun g c = λ tell records prints.
     let new = g.W.Sink.written c.write_all-in-Some.new.sink in
     let piece = c.piece-in-Some.ensures ∙ c.in_ok-play.ensures.piece in
     on_err c.from_residual-in_err-write_all-2.result _ (is_cut c.names-names.result.now c.validity.ensures c.loop-line.number c.loop-line.drawing.plain.state c.loop-line.rest.now c.in-Some.line.now c.in-Some.after.now
-    c.in-Some.ensures.line c.in-Some.ensures.rest _ g.W.Sink.tells _ _ _ (c.loop-line.invariant.so_far records prints) c.in-Ok.entry c.play.new.self.plain.state new (sym c.guessed.ensures ∙ c.in-Ok.is) c.play.ensures.state tell
+    c.in-Some.ensures.line c.in-Some.ensures.rest g.W.Sink.tells _ _ _ (c.loop-line.invariant.so_far records prints) c.in-Some-event_of.event c.play.new.self.plain.state new (sym c.event_of.ensures ∙ c.in-Some-event_of.is) c.play.ensures.state tell
     (subst (λ (xs : List ℕ). BeginsWith old xs new) piece (c.in_err-write_all-2.ensures.err tell)))
 
 pub loop-line-smaller : goal.loop-line-smaller
@@ -66,8 +66,8 @@ loop-line-preserved g c =
     record {
       so_far = λ records prints.
           goes_on c.names-names.result.now c.validity.ensures c.loop-line.number c.loop-line.drawing.plain.state c.loop-line.rest.now c.in-Some.line.now c.in-Some.after.now
-          c.in-Some.ensures.line c.in-Some.ensures.rest _ g.W.Sink.tells _ _ _ (c.loop-line.invariant.so_far records prints) c.in-Ok.entry c.play.new.self.plain.state (g.W.Sink.written c.write_all-in-Some.new.sink)
-          (sym c.guessed.ensures ∙ c.in-Ok.is) c.play.ensures.state (λ tell. c.in_ok-write_all-2.ensures.ok tell ∙ ap (λ (xs : List ℕ). old ++ xs) piece);
+          c.in-Some.ensures.line c.in-Some.ensures.rest g.W.Sink.tells _ _ _ (c.loop-line.invariant.so_far records prints) c.in-Some-event_of.event c.play.new.self.plain.state (g.W.Sink.written c.write_all-in-Some.new.sink)
+          (sym c.event_of.ensures ∙ c.in-Some-event_of.is) c.play.ensures.state (λ tell. c.in_ok-write_all-2.ensures.ok tell ∙ ap (λ (xs : List ℕ). old ++ xs) piece);
       values = c.in_ok-play.ensures.values;
       steps = omega (arith, c.loop-line.invariant.steps, c.play.ensures.steps);
       left = omega (arith, c.loop-line.invariant.left, shorter 10 c.loop-line.rest.now c.in-Some.after.now c.in-Some.ensures.rest);

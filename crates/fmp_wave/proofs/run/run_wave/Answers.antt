@@ -1,4 +1,5 @@
 use Rattle.std.proofs.lemmas.Result.{err_from_is_err_and}
+use Rattle.fmp_wave.proofs.JudgedTexts.{drawn_of_texts, late_is_yes, leaves_of_texts}
 use Rattle.fmp_wave.proofs.run.run_wave.Goals as goal
 
 pub returns-in_err-judged-clause-answers : goal.returns-in_err-judged-clause-answers
@@ -6,7 +7,28 @@ returns-in_err-judged-clause-answers g c = λ tells tells_too event_text answere
     let p = err_from_is_err_and c.from_residual.result c.from_residual.ensures.1 in
     rw (p.1, p.2) (c.in_err-judged.ensures.answers tells tells_too event_text answered short)
 
-pub returns-in_err-judged-clause-plays : goal.returns-in_err-judged-clause-plays
-returns-in_err-judged-clause-plays g c = λ tells tells_too script_text ticks turns ended played short.
+pub returns-in_err-judged-clause-own : goal.returns-in_err-judged-clause-own
+returns-in_err-judged-clause-own g c = λ tells tells_too own.
     let p = err_from_is_err_and c.from_residual.result c.from_residual.ensures.1 in
-    rw (p.1, p.2) (c.in_err-judged.ensures.plays tells tells_too script_text ticks turns ended played short)
+    rw (p.1, p.2) (c.in_err-judged.ensures.own tells tells_too own)
+
+pub returns-in_err-draw_judged-clause-leaves : goal.returns-in_err-draw_judged-clause-leaves
+returns-in_err-draw_judged-clause-leaves g c = λ tells tells_too tell.
+    let p = err_from_is_err_and c.from_residual-in_err-draw_judged.result c.from_residual-in_err-draw_judged.ensures.1 in
+    let judged = c.in_ok-judged.judged in
+    rw (p.1, p.2) (leaves_of_texts _ _ _ _ judged.text.items judged.config (c.in_ok-judged.ensures.says tells) (c.in_ok-judged.ensures.text tells_too) _ (c.in_err-draw_judged.ensures.leaves tell))
+
+pub returns-clause-drawn : goal.returns-clause-drawn
+returns-clause-drawn g c = λ tells tells_too tell.
+    let judged = c.in_ok-judged.judged in
+    drawn_of_texts _ _ _ _ judged.text.items judged.config (c.in_ok-judged.ensures.says tells) (c.in_ok-judged.ensures.text tells_too) judged.verdict c.in_ok-judged.ensures.judged (c.in_ok-draw_judged.ensures.drawn tell)
+
+pub returns-in_err-draw_judged-clause-answers : goal.returns-in_err-draw_judged-clause-answers
+returns-in_err-draw_judged-clause-answers g c = λ tells tells_too event_text answered short.
+    let p = err_from_is_err_and c.from_residual-in_err-draw_judged.result c.from_residual-in_err-draw_judged.ensures.1 in
+    rw (p.1, p.2) (late_is_yes _ c.in_err-draw_judged.ensures.kinds)
+
+pub returns-in_err-draw_judged-clause-own : goal.returns-in_err-draw_judged-clause-own
+returns-in_err-draw_judged-clause-own g c = λ tells tells_too own.
+    let p = err_from_is_err_and c.from_residual-in_err-draw_judged.result c.from_residual-in_err-draw_judged.ensures.1 in
+    rw (p.1, p.2) (late_is_yes _ c.in_err-draw_judged.ensures.kinds)

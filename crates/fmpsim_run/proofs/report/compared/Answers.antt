@@ -1,8 +1,9 @@
 use Rattle.std.proofs.Common.{subst}
 use Rattle.std.proofs.lemmas.Result.{err_from_is_err_and}
 use Rattle.fmp_names.specs.Names.{AreValid}
-use Rattle.fmpsim_run.proofs.Yes.{answered_prints, played_prints}
-use Rattle.fmpsim_run.proofs.Grammars.{only_memory}
+use Rattle.fmp_judging.proofs.Yes.{answered_prints, own_prints}
+use Rattle.fmp_judging.proofs.Grammars.{only_memory}
+use Rattle.fmpsim_run.proofs.Played.{played_is_own}
 use Rattle.fmpsim_run.proofs.report.compared.Goals as goal
 
 pub returns-in_err-configuration-clause-answers : goal.returns-in_err-configuration-clause-answers
@@ -24,4 +25,4 @@ returns-in_err-configuration-clause-plays g c = λ tells tells_too script_text t
 pub returns-clause-plays : goal.returns-clause-plays
 returns-clause-plays g c = λ tells tells_too script_text ticks turns ended played short.
     c.comparison_from.ensures.answers tells_too _
-    (played_prints _ script_text _ ticks turns ended c.in_ok-configuration.configuration (c.in_ok-configuration.ensures.ok tells) played short)
+    (own_prints _ _ c.in_ok-configuration.configuration (c.in_ok-configuration.ensures.ok tells) (played_is_own _ _ _ _ _ _ played short))

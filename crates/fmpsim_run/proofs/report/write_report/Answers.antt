@@ -1,7 +1,7 @@
 use Rattle.std.proofs.Common.{◌++◌, Ok, Err, OnErr}
-use Rattle.fmpsim_run.specs.Devices.{BeginsWith}
+use Rattle.fmp_devices.specs.Devices.{BeginsWith}
 use Rattle.fmpsim_run.specs.Reports.{head_text}
-use Rattle.fmpsim_run.proofs.Begun.{begun_first, begun_second}
+use Rattle.fmp_devices.proofs.Begun.{begun_first, begun_second}
 use Rattle.fmpsim_run.proofs.report.write_report.Goals as goal
 
 pub returns-in_err-write_head-clause-err : goal.returns-in_err-write_head-clause-err

@@ -8,7 +8,10 @@ insert_object-requires-clause-new c =
     (rw (← c.self.view_is) at c.requires.new)
 
 pub invariant_of-self : goal.invariant_of-self
-invariant_of-self c =
+invariant_of-self c = c.self.invariant
+
+pub invariant_of-self-in-Object : goal.invariant_of-self-in-Object
+invariant_of-self-in-Object c =
     object_kept (lists_of c.self.inside.processors c.self.inside.objects c.self.inside.functions c.self.inside.defined) c.args.name.now c.self.invariant c.args.kind c.in_ok-copy.copy.items c.in_ok-copy.ensures.items c.requires.name c.requires.free (rw (← c.self.view_is) at c.requires.new) (rw (← c.self.view_is) at c.requires.room)
     c.insert_object.result c.in-Object.kind c.place.result _ c.in-Object.is c.place.ensures.value c.insert_object.ensures.ok c.insert_object.ensures.err
 

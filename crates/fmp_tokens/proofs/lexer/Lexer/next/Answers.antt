@@ -1,4 +1,4 @@
-use Rattle.std.proofs.Common.{arith}
+use Rattle.std.proofs.Common.{sym, ◌∙◌, arith}
 use Rattle.fmp_tokens.proofs.Stepping.{passes, gives, stops, ends}
 use Rattle.fmp_tokens.proofs.lexer.Lexer.next.Goals as goal
 
@@ -13,9 +13,9 @@ returns-in-Stop-clause-err c =
 
 pub loop-byte-preserved : goal.loop-byte-preserved
 loop-byte-preserved c = (
-  rw c.line_after-next_line.ensures.value
+  sym (c.past_comment-rest.ensures.same c.line_after-next_line.result) ∙ rw c.line_after-next_line.ensures.value
       (passes c.loop-byte.mode c.loop-byte.line c.loop-byte.rest.now _ c.in-Some.byte.now c.in-Some.after.now c.in-Pass.next c.in-Some.ensures.cases.0 c.in-Pass.ensures c.loop-byte.invariant.0),
-  omega (arith, c.line_after-next_line.ensures.bound, c.in-Some.ensures.cases.1, c.loop-byte.invariant.1),
+  omega (arith, c.past_comment-rest.ensures.shorter, c.line_after-next_line.ensures.bound, c.in-Some.ensures.cases.1, c.loop-byte.invariant.1),
 )
 
 pub returns-clause-ok : goal.returns-clause-ok

@@ -1,0 +1,315 @@
+-- What the short reader finds is spelled.
+use Rattle.std.proofs.Common.{◌≡◌, ℕ, ◌+◌, ◌*◌, ◌-◌, ◌/◌, ◌%◌, ◌<◌, ◌≤◌, ◌^◌, Bool, true, false, eqb, get_or, Option, Bor, IfSome, inl, inr, List, [], ◌∷◌, ◌++◌, length, take, drop, Some, None, Ok, refl, sym, ap, subst, ◌∙◌, arith, decimal, append_assoc, length-append, suc}
+use Rattle.std.specs.Prelude.{codes, slice_index}
+use Rattle.std.specs.Option.{option_copied}
+use Rattle.std.specs.List.{list_all, join_with_byte}
+use Rattle.std.proofs.lemmas.List.{append-nil, take_all}
+use Rattle.std.proofs.lemmas.Bool.{eqb-true, false≢true}
+use Rattle.std.proofs.Math.Seq.{drop-append-add}
+use Rattle.std.proofs.lemmas.Fmt.{decimal_step, decimal_digit}
+use Rattle.fmp_codes.specs.declared.calls.Call.{Call}
+use Rattle.fmp_codes.specs.declared.calls.Call.TheVariants as calls
+use Rattle.fmp_codes.specs.declared.numbers.Proc.{Proc}
+use Rattle.fmp_codes.specs.declared.records.Event.{Event}
+use Rattle.fmp_codes.specs.declared.records.Event.TheVariants as events
+use Rattle.fmp_bytes.proofs.Prefixes.{list_all-both}
+use Rattle.fmp_bytes.specs.declared.classes.Class.TheVariants.{Blank, Line}
+use Rattle.fmp_bytes.specs.Bytes.{is_of, behind}
+use Rattle.fmp_bytes.proofs.Spelled.{behind_is}
+use Rattle.fmp_calls.specs.declared.kinds.ArgumentKind.{ArgumentKind}
+use Rattle.fmp_calls.specs.declared.kinds.Value.{Value}
+use Rattle.fmp_calls.specs.Table.{text_of, is_bare, kinds_of, values_of, call_of}
+use Rattle.fmp_calls.proofs.Matched.{call_of-same, call_of-agrees}
+use Rattle.fmp_names.specs.Names.{NameLists, AreValid}
+use Rattle.fmp_names.proofs.Listed.{list_all-at}
+use Rattle.fmp_text.specs.Argument.{ranged, constant_of}
+use Rattle.fmp_text.specs.Grammar.{AreBlank, Padded, IsNumber, IsObjectName, SpellsValue, SpellsPieces, SpellsArguments, SpellsCall}
+use Rattle.fmp_text.specs.TextGrammar.{IsAlone, OnProcessor, SpellsEvent}
+use Rattle.fmp_text.specs.Fronts.{IsFront, IsBehindComma, IsClosed, IsClosedBehind, IsMade, IsNumberOf, Happens}
+use Rattle.fmp_text.specs.Events.{HasNoFeed, IsFirstLine}
+use Rattle.fmp_text.specs.Reading.{call_in}
+use Rattle.fmp_text.proofs.SpelledCalls.{call_in-spelled}
+use Rattle.fmp_text.proofs.SpelledEvents.{line_of_spelled}
+use Rattle.fmp_text.proofs.SpelledTexts.{one_read}
+
+-- ---- numbers
+
+-- the first byte and the others
+pub head_tail : (text : List ℕ) → 1 ≤ length text → text ≡ slice_index text 0 ∷ take (length text - 1) (drop 1 text)
+head_tail [] some = absurd (omega (arith, some))
+head_tail (b ∷ bytes) some = ap (λ (r : List ℕ). b ∷ r) (sym (take_all (length (b ∷ bytes) - 1) bytes (omega arith)))
+
+pub digit_head : (text : List ℕ) → 1 ≤ length text → 48 ≤ slice_index text 0 → text ≡ (48 + (slice_index text 0 - 48)) ∷ take (length text - 1) (drop 1 text)
+digit_head text some least =
+    let same : 48 + (slice_index text 0 - 48) ≡ slice_index text 0 = omega (arith, least) in
+    head_tail text some ∙ ap (λ (b : ℕ). b ∷ take (length text - 1) (drop 1 text)) (sym same)
+
+-- what follows a byte
+pub behind_some : (byte : ℕ) (text : List ℕ) (found : Option (Bor (List ℕ))) → option_copied found ≡ behind byte text → IfSome found (λ rest. text ≡ byte ∷ rest.now)
+behind_some byte text (Some rest) e = behind_is byte text rest.now (sym e)
+behind_some byte text None e = tt
+
+empty_list : (xs : List ℕ) → length xs ≡ 0 → xs ≡ []
+empty_list [] e = refl
+empty_list (x ∷ xs) e = absurd (omega (arith, e))
+
+-- one digit more
+pub decimal_more : (text rest more : List ℕ) (n digit : ℕ) → 0 < n → n < 10 ^ 8 → digit ≤ 9 → rest ≡ (48 + digit) ∷ more → text ≡ decimal n ++ rest
+    → text ≡ decimal (n * 10 + digit) ++ more
+decimal_more text rest more n digit some few most follows parts =
+    let step = decimal_step (n * 10 + digit) (omega (arith, some)) (omega (arith, few, most)) in
+    let front : (n * 10 + digit) / 10 ≡ n = omega (arith, most) in
+    let last : (n * 10 + digit) % 10 ≡ digit = omega (arith, most) in
+    let whole : decimal (n * 10 + digit) ≡ decimal n ++ ((48 + digit) ∷ []) = rw (front, last) at step in
+    parts ∙ ap (λ (r : List ℕ). decimal n ++ r) follows ∙ sym (append_assoc (decimal n) ((48 + digit) ∷ []) more) ∙ ap (λ (l : List ℕ). l ++ more) (sym whole)
+
+-- the first digit
+pub decimal_first : (text rest : List ℕ) (digit : ℕ) → digit ≤ 9 → text ≡ (48 + digit) ∷ rest → text ≡ decimal digit ++ rest
+decimal_first text rest digit most parts = parts ∙ ap (λ (d : List ℕ). d ++ rest) (sym (decimal_digit digit (omega (arith, most))))
+
+pub front_positive : (kind : ArgumentKind) (text rest : List ℕ) (n : ℕ) (value : Value) → n < 10 ^ 9 → text ≡ decimal n ++ rest → ranged kind false n ≡ Some value
+    → IsFront (IsNumber kind) text value rest
+front_positive kind text rest n value few parts range =
+    record { token = decimal n; spelled = record { negative = false; magnitude = n; spelled = (omega (arith, few), inl refl); in_range = range }; parts = parts }
+
+pub front_negative : (kind : ArgumentKind) (text digits rest : List ℕ) (n : ℕ) (value : Value) → n < 10 ^ 9 → text ≡ 45 ∷ digits → digits ≡ decimal n ++ rest → ranged kind true n ≡ Some value
+    → IsFront (IsNumber kind) text value rest
+front_negative kind text digits rest n value few signed parts range =
+    record { token = 45 ∷ decimal n; spelled = record { negative = true; magnitude = n; spelled = (decimal n, refl, (omega (arith, few), inl refl)); in_range = range }; parts = signed ∙ ap (λ (d : List ℕ). 45 ∷ d) parts }
+
+-- ---- values
+
+pub front_number : (names : NameLists) (kind : ArgumentKind) (text rest : List ℕ) (value : Value) → IsFront (IsNumber kind) text value rest → IsFront (SpellsValue names kind) text value rest
+front_number names kind text rest value f = record { token = f.token; spelled = inl f.spelled; parts = f.parts }
+
+pub front_constant : (names : NameLists) (kind : ArgumentKind) (text rest : List ℕ) (value : Value) → IsFront (λ token v. constant_of kind token ≡ Some v) text value rest
+    → IsFront (SpellsValue names kind) text value rest
+front_constant names kind text rest value f = record { token = f.token; spelled = inr (inl f.spelled); parts = f.parts }
+
+pub front_object : (names : NameLists) (kind : ArgumentKind) (text rest : List ℕ) (value : Value) → IsFront (IsObjectName names kind) text value rest
+    → IsFront (SpellsValue names kind) text value rest
+front_object names kind text rest value f = record { token = f.token; spelled = inr (inr f.spelled); parts = f.parts }
+
+pub constant_some : (names : NameLists) (kind : ArgumentKind) (text : List ℕ) (found : Option (Value × Bor (List ℕ))) → IfSome found (λ f. IsFront (λ token v. constant_of kind token ≡ Some v) text f.0 f.1.now)
+    → IfSome found (λ f. IsFront (SpellsValue names kind) text f.0 f.1.now)
+constant_some names kind text (Some f) is = front_constant names kind text f.1.now f.0 is
+constant_some names kind text None is = tt
+
+-- ---- arguments
+
+alone : (token : List ℕ) → Padded token token
+alone token = record { before = []; behind = []; before_blank = refl; behind_blank = refl; parts = sym (append-nil token) }
+
+pub closed_one : (names : NameLists) (kind : ArgumentKind) (value : Value) (text rest end : List ℕ) → IsFront (SpellsValue names kind) text value rest → rest ≡ 41 ∷ end
+    → IsClosed names (kind ∷ []) (value ∷ []) text end
+closed_one names kind value text rest end f closes =
+    record { inner = f.token; arguments = (f.token ∷ [], refl, ((f.token, alone f.token, f.spelled), tt)); parts = f.parts ∙ ap (λ (r : List ℕ). f.token ++ r) closes }
+
+pub comma_space : (text rest more : List ℕ) → text ≡ 44 ∷ rest → rest ≡ 32 ∷ more → IsBehindComma text more
+unfolding is_of
+comma_space text rest more comma space = record { blanks = 32 ∷ []; blank = refl; parts = comma ∙ ap (λ (r : List ℕ). 44 ∷ r) space }
+
+-- blanks in front of the first piece
+join_blanks : (blanks piece : List ℕ) (pieces : List (List ℕ)) → join_with_byte 44 ((blanks ++ piece) ∷ pieces) ≡ blanks ++ join_with_byte 44 (piece ∷ pieces)
+join_blanks blanks piece [] = refl
+join_blanks blanks piece (next ∷ pieces) = append_assoc blanks piece (44 ∷ join_with_byte 44 (next ∷ pieces))
+
+padded_more : (blanks token piece : List ℕ) → AreBlank blanks → Padded token piece → Padded token (blanks ++ piece)
+padded_more blanks token piece blank p = record {
+  before = blanks ++ p.before;
+  behind = p.behind;
+  before_blank = list_all-both (is_of Blank) blanks p.before blank p.before_blank;
+  behind_blank = p.behind_blank;
+  parts = ap (λ (r : List ℕ). blanks ++ r) p.parts ∙ sym (append_assoc blanks p.before (token ++ p.behind));
+}
+
+-- a list of pieces with one more in front
+more_pieces : (names : NameLists) (kind next : ArgumentKind) (kinds : List ArgumentKind) (value : Value) (others : List Value) (token blanks : List ℕ) (pieces : List (List ℕ))
+    → SpellsValue names kind token value → AreBlank blanks → SpellsPieces names (next ∷ kinds) others pieces → SpellsArguments names (kind ∷ next ∷ kinds) (value ∷ others) (token ++ (44 ∷ (blanks ++ join_with_byte 44 pieces)))
+more_pieces names kind next kinds value [] token blanks pieces spelled blank rest = absurd rest
+more_pieces names kind next kinds value (other ∷ others) token blanks [] spelled blank rest = absurd rest
+more_pieces names kind next kinds value (other ∷ others) token blanks (piece ∷ pieces) spelled blank rest =
+    let first = rest.0 in (
+      token ∷ (blanks ++ piece) ∷ pieces,
+      ap (λ (r : List ℕ). token ++ (44 ∷ r)) (sym (join_blanks blanks piece pieces)),
+      ((token, alone token, spelled), ((first.0, padded_more blanks first.0 piece blank first.1, first.2), rest.1)),
+    )
+
+pub closed_more : (names : NameLists) (kind next : ArgumentKind) (kinds : List ArgumentKind) (value : Value) (others : List Value) (text rest more end : List ℕ)
+    → IsFront (SpellsValue names kind) text value rest → IsBehindComma rest more → IsClosed names (next ∷ kinds) others more end → IsClosed names (kind ∷ next ∷ kinds) (value ∷ others) text end
+closed_more names kind next kinds value others text rest more end f c closed =
+    let a = closed.arguments in
+    let behind : rest ≡ (44 ∷ (c.blanks ++ join_with_byte 44 a.0)) ++ (41 ∷ end) =
+    c.parts ∙ ap (λ (r : List ℕ). 44 ∷ (c.blanks ++ r)) (closed.parts ∙ ap (λ (i : List ℕ). i ++ (41 ∷ end)) a.1) ∙ ap (λ (r : List ℕ). 44 ∷ r) (sym (append_assoc c.blanks (join_with_byte 44 a.0) (41 ∷ end))) in
+    record {
+      inner = f.token ++ (44 ∷ (c.blanks ++ join_with_byte 44 a.0));
+      arguments = more_pieces names kind next kinds value others f.token c.blanks a.0 f.spelled c.blank a.2;
+      parts = f.parts ∙ ap (λ (r : List ℕ). f.token ++ r) behind ∙ sym (append_assoc f.token (44 ∷ (c.blanks ++ join_with_byte 44 a.0)) (41 ∷ end));
+    }
+
+pub closed_none : (names : NameLists) (text end : List ℕ) → text ≡ 41 ∷ end → IsClosed names [] [] text end
+closed_none names text end closes = record { inner = []; arguments = (refl, refl); parts = closes }
+
+-- the only argument, behind other values
+pub closed_last : (names : NameLists) (kind : ArgumentKind) (others all : List Value) (value : Value) (text rest end : List ℕ) → all ≡ others ++ value ∷ [] → IsFront (SpellsValue names kind) text value rest
+    → rest ≡ 41 ∷ end → IsClosedBehind names (kind ∷ []) others all text end
+closed_last names kind others all value text rest end added f closes = (value ∷ [], added, closed_one names kind value text rest end f closes)
+
+-- one argument and then more, behind other values
+pub closed_next : (names : NameLists) (kind : ArgumentKind) (kinds : List ArgumentKind) (others more all : List Value) (value : Value) (text rest after end : List ℕ) → more ≡ others ++ value ∷ []
+    → 1 ≤ length kinds → IsFront (SpellsValue names kind) text value rest → IsBehindComma rest after → IsClosedBehind names kinds more all after end → IsClosedBehind names (kind ∷ kinds) others all text end
+closed_next names kind [] others more all value text rest after end added some f c closed = absurd (omega (arith, some))
+closed_next names kind (next ∷ kinds) others more all value text rest after end added some f c closed = (
+  value ∷ closed.0,
+  closed.1 ∙ ap (λ (vs : List Value). vs ++ closed.0) added ∙ append_assoc others (value ∷ []) closed.0,
+  closed_more names kind next kinds value closed.0 text rest after end f c closed.2,
+)
+
+empty_kinds : (ks : List ArgumentKind) → length ks ≡ 0 → ks ≡ []
+empty_kinds [] e = refl
+empty_kinds (k ∷ ks) e = absurd (omega (arith, e))
+
+some_kinds : (ks : List ArgumentKind) → eqb (length ks) 0 ≡ false → 1 ≤ length ks
+some_kinds [] e = absurd (false≢true (sym e))
+some_kinds (k ∷ ks) e = omega arith
+
+-- the first of some kinds and the others
+pub kinds_head : (ks : List ArgumentKind) (d : ArgumentKind) → 1 ≤ length ks → get_or ks 0 d ∷ take (length ks - 1) (drop 1 ks) ≡ ks
+kinds_head [] d some = absurd (omega (arith, some))
+kinds_head (k ∷ ks) d some = ap (λ (r : List ArgumentKind). k ∷ r) (take_all (length (k ∷ ks) - 1) ks (omega arith))
+
+module _ (names : NameLists) (kinds tail : List ArgumentKind) (kind : ArgumentKind) (others more : List Value) (value : Value) (text rest : List ℕ) (whole : kind ∷ tail ≡ kinds) (added : more ≡ others ++ value ∷ [])
+    (f : IsFront (SpellsValue names kind) text value rest) (test : Bool) (tested : test ≡ eqb (length tail) 0) where
+  -- the last argument
+  pub ends_here : (found : Option (Bor (List ℕ))) → test ≡ true → IfSome found (λ end. rest ≡ 41 ∷ end.now) → IfSome found (λ end. IsClosedBehind names kinds others more text end.now)
+  ends_here (Some end) last closes =
+      let none = empty_kinds tail (eqb-true (length tail) 0 (sym tested ∙ last)) in
+      subst (λ (ks : List ArgumentKind). IsClosedBehind names ks others more text end.now) (ap (λ (ks : List ArgumentKind). kind ∷ ks) (sym none) ∙ whole) (closed_last names kind others more value text rest end.now added f closes)
+  ends_here None last closes = tt
+
+  -- another one follows
+  pub goes_on : (after : List ℕ) (all : List Value) (found : Option (Bor (List ℕ))) → test ≡ false → IsBehindComma rest after → IfSome found (λ end. IsClosedBehind names tail more all after end.now)
+      → IfSome found (λ end. IsClosedBehind names kinds others all text end.now)
+  goes_on after all (Some end) next comma closed =
+      let some = some_kinds tail (sym tested ∙ next) in
+      subst (λ (ks : List ArgumentKind). IsClosedBehind names ks others all text end.now) whole (closed_next names kind tail others more all value text rest after end.now added some f comma closed)
+  goes_on after all None next comma closed = tt
+
+-- ---- calls
+
+pub call_made : (names : NameLists) (call made : Call) (kinds : List ArgumentKind) (values : List Value) (text end : List ℕ) (found : Option Call) → kinds ≡ kinds_of call
+    → found ≡ call_of call values → found ≡ Some made → IsClosed names kinds values text end → IsMade names call text made end
+call_made names call made kinds values text end found same is was closed =
+    let made_of = sym is ∙ was in
+    let all = call_of-same call values made made_of in
+    let agrees = call_of-agrees call values made made_of in
+    record {
+      same_text = all.0;
+      same_bare = all.2;
+      closed = subst (λ (ks : List ArgumentKind). IsClosed names ks (values_of made) text end) (same ∙ sym all.1) (subst (λ (vs : List Value). IsClosed names kinds vs text end) (sym agrees.1) closed);
+    }
+
+pub call_closed : (names : NameLists) (call made : Call) (kinds : List ArgumentKind) (text end : List ℕ) (none all values : List Value) (found : Option Call) → kinds ≡ kinds_of call
+    → found ≡ call_of call values → found ≡ Some made → none ≡ [] → values ≡ all → IsClosedBehind names kinds none all text end → IsMade names call text made end
+call_closed names call made kinds text end none all values found same is was nothing whole closed =
+    call_made names call made kinds values text end found same is was
+    (subst (λ (vs : List Value). IsClosed names kinds vs text end) (sym (whole ∙ closed.1 ∙ ap (λ (vs : List Value). vs ++ closed.0) nothing)) closed.2)
+
+pub call_spelled : (names : NameLists) (call made : Call) (text rest inner end : List ℕ) → text ≡ text_of call ++ rest → rest ≡ 40 ∷ inner → is_bare call ≡ false
+    → IsMade names call inner made end → IsFront (SpellsCall names) text made end
+call_spelled names call made text rest inner end parts opened bare m =
+    let arguments = m.closed.inner in
+    let enclosed : List ℕ = 40 ∷ (arguments ++ (41 ∷ [])) in
+    let closing : rest ≡ enclosed ++ end = opened ∙ ap (λ (r : List ℕ). 40 ∷ r) (m.closed.parts ∙ sym (append_assoc arguments (41 ∷ []) end)) in
+    record {
+      token = text_of call ++ enclosed;
+      spelled = record {
+        before = [];
+        rest = enclosed;
+        before_blank = refl;
+        follows = inr (m.same_bare ∙ bare, record { between = []; inner = arguments; behind = []; between_blank = refl; behind_blank = refl; arguments = m.closed.arguments; parts = refl });
+        parts = ap (λ (t : List ℕ). t ++ enclosed) (sym m.same_text);
+      };
+      parts = parts ∙ ap (λ (r : List ℕ). text_of call ++ r) closing ∙ sym (append_assoc (text_of call) enclosed end);
+    }
+
+pub return_spelled : (names : NameLists) → SpellsCall names (codes "ret_hdr") calls.RetHdr
+return_spelled names = record { before = []; rest = []; before_blank = refl; follows = inl (refl, refl); parts = refl }
+
+-- a call that is the whole text is read
+pub whole_call : (names : NameLists) (text rest : List ℕ) (call : Call) (test : Bool) → AreValid names → IsFront (SpellsCall names) text call rest → test ≡ eqb (length rest) 0 → test ≡ true → call_in names text ≡ Ok call
+whole_call names text rest call test valid f e t =
+    let whole : text ≡ f.token = f.parts ∙ ap (λ (r : List ℕ). f.token ++ r) (empty_list rest (eqb-true (length rest) 0 (sym e ∙ t))) ∙ append-nil f.token in
+    ap (call_in names) whole ∙ call_in-spelled names f.token call valid f.spelled
+
+-- ---- what happens on a processor
+
+pub word_alone : (word : List ℕ) → IsAlone word word
+word_alone word = record { behind = []; behind_blank = refl; parts = sym (append-nil word) }
+
+on_digit : (names : NameLists) (processor : Proc) (Says : List ℕ → Type 0) (number : ℕ) (token : List ℕ) → IsNumberOf names number processor → Says token
+    → OnProcessor names processor Says (80 ∷ ((48 + number) ∷ (32 ∷ token)))
+unfolding is_of
+on_digit names processor Says number token is says =
+    let spelled : decimal number ≡ (48 + number) ∷ [] = decimal_digit number (omega (arith, is.most)) in
+    record {
+      before = [];
+      number = number;
+      between = 32 ∷ [];
+      rest = token;
+      before_blank = refl;
+      least = is.least;
+      most = is.within;
+      is_number = is.is_number;
+      apart = omega arith;
+      between_blank = refl;
+      happens = says;
+      parts = ap (λ (d : List ℕ). 80 ∷ (d ++ (32 ∷ token))) (sym spelled);
+    }
+
+event_on : (names : NameLists) (processor : Proc) (number : ℕ) (token : List ℕ) (event : Event) → IsNumberOf names number processor → Happens names processor token event
+    → SpellsEvent names (80 ∷ ((48 + number) ∷ (32 ∷ token))) event
+event_on names processor number token (events.Tick on) is (same, says) = subst (λ (p : Proc). OnProcessor names p (IsAlone (codes "tick")) (80 ∷ ((48 + number) ∷ (32 ∷ token)))) (sym same) (on_digit names processor _ number token is says)
+event_on names processor number token (events.Ipi on) is (same, says) = subst (λ (p : Proc). OnProcessor names p (IsAlone (codes "ipi")) (80 ∷ ((48 + number) ∷ (32 ∷ token)))) (sym same) (on_digit names processor _ number token is says)
+event_on names processor number token (events.Call on call) is (same, says) =
+    subst (λ (p : Proc). OnProcessor names p (λ rest. SpellsCall names rest call) (80 ∷ ((48 + number) ∷ (32 ∷ token)))) (sym same) (on_digit names processor _ number token is says)
+
+pub event_spelled : (names : NameLists) (processor : Proc) (text first second behind end : List ℕ) (number : ℕ) (event : Event) → IsNumberOf names number processor
+    → text ≡ 80 ∷ first → first ≡ (48 + number) ∷ second → second ≡ 32 ∷ behind → IsFront (Happens names processor) behind event end → IsFront (SpellsEvent names) text event end
+event_spelled names processor text first second behind end number event is begins digit between f = record {
+  token = 80 ∷ ((48 + number) ∷ (32 ∷ f.token));
+  spelled = event_on names processor number f.token event is f.spelled;
+  parts = begins ∙ ap (λ (r : List ℕ). 80 ∷ r) (digit ∙ ap (λ (r : List ℕ). (48 + number) ∷ r) (between ∙ ap (λ (r : List ℕ). 32 ∷ r) f.parts));
+}
+
+pub happens_call : (names : NameLists) (processor : Proc) (text end : List ℕ) (call : Call) → IsFront (SpellsCall names) text call end → IsFront (Happens names processor) text (events.Call processor call) end
+happens_call names processor text end call f = record { token = f.token; spelled = (refl, f.spelled); parts = f.parts }
+
+pub happens_return : (names : NameLists) (processor : Proc) (text word end : List ℕ) → text ≡ word ++ end → word ≡ codes "ret_hdr" → IsFront (Happens names processor) text (events.Call processor calls.RetHdr) end
+happens_return names processor text word end parts is = record { token = word; spelled = (refl, subst (λ (t : List ℕ). SpellsCall names t calls.RetHdr) (sym is) (return_spelled names)); parts = parts }
+
+-- ---- lines
+
+no_feed_in : (line : List ℕ) → list_all (is_of Line) line ≡ true → HasNoFeed line
+unfolding is_of
+no_feed_in line all k low is = absurd (false≢true (ap (is_of Line) (sym is) ∙ list_all-at (is_of Line) line k 0 low all))
+
+drop_rest : (line rest : List ℕ) → drop (length (line ++ (10 ∷ rest)) - length rest) (line ++ (10 ∷ rest)) ≡ rest
+drop_rest line rest =
+    let place : length (line ++ (10 ∷ rest)) - length rest ≡ length line + 1 = omega (arith, length-append line (10 ∷ rest)) in
+    ap (λ (n : ℕ). drop n (line ++ (10 ∷ rest))) place ∙ drop-append-add line (10 ∷ rest) 1
+
+-- a line feed behind an event ends the first line
+pub first_ended : (names : NameLists) (bytes rest behind : List ℕ) (event : Event) → AreValid names → IsFront (SpellsEvent names) bytes event rest → rest ≡ 10 ∷ behind
+    → IsFirstLine names bytes (Ok (Some event)) (length bytes - length behind)
+first_ended names bytes rest behind event valid f feed =
+    let whole : bytes ≡ f.token ++ (10 ∷ behind) = f.parts ∙ ap (λ (r : List ℕ). f.token ++ r) feed in
+    let long : length bytes ≡ length f.token + suc (length behind) = ap length whole ∙ length-append f.token (10 ∷ behind) in
+    record {
+      line = f.token;
+      no_feed = no_feed_in f.token (line_of_spelled names f.token event valid f.spelled);
+      parts = whole ∙ ap (λ (r : List ℕ). f.token ++ (10 ∷ r)) (sym (rw whole (drop_rest f.token behind)));
+      some = omega (arith, long);
+      within = omega arith;
+      says = sym (one_read names f.token event valid (f.token, inl refl, f.spelled));
+    }

@@ -1,0 +1,54 @@
+-- What stands at the front of a text, as the short reader takes it apart: an event, in it a call, and its arguments.
+use Rattle.std.specs.Prelude.{◌≡◌, ℕ, ◌≤◌, List, ◌∷◌, ◌++◌, codes}
+use Rattle.fmp_codes.specs.Numbers.{as_proc}
+use Rattle.fmp_codes.specs.declared.calls.Call.{Call}
+use Rattle.fmp_codes.specs.declared.numbers.Proc.{Proc}
+use Rattle.fmp_codes.specs.declared.records.Event.{Event}
+use Rattle.fmp_codes.specs.declared.records.Event.TheVariants as events
+use Rattle.fmp_calls.specs.declared.kinds.ArgumentKind.{ArgumentKind}
+use Rattle.fmp_calls.specs.declared.kinds.Value.{Value}
+use Rattle.fmp_calls.specs.Table.{text_of, is_bare, kinds_of, values_of}
+use Rattle.fmp_names.specs.Names.{NameLists}
+use Rattle.fmp_text.specs.Grammar.{AreBlank, SpellsArguments, SpellsCall}
+use Rattle.fmp_text.specs.TextGrammar.{IsAlone}
+
+-- a text begins with a token that spells the value, and the rest follows
+pub record IsFront {X : Type 0} (Spells : List ℕ → X → Type 0) (text : List ℕ) (value : X) (rest : List ℕ) : Type 0 where
+  pub token : List ℕ
+  pub spelled : Spells token value
+  pub parts : text ≡ token ++ rest
+
+-- a comma and blanks, and the rest follows
+pub record IsBehindComma (text rest : List ℕ) : Type 0 where
+  pub blanks : List ℕ
+  pub blank : AreBlank blanks
+  pub parts : text ≡ 44 ∷ (blanks ++ rest)
+
+-- arguments of these kinds and the closing parenthesis, and the rest follows
+pub record IsClosed (names : NameLists) (kinds : List ArgumentKind) (values : List Value) (text rest : List ℕ) : Type 0 where
+  pub inner : List ℕ
+  pub arguments : SpellsArguments names kinds values inner
+  pub parts : text ≡ inner ++ (41 ∷ rest)
+
+-- the same, where the values were added to others
+abbrev pub IsClosedBehind : NameLists → List ArgumentKind → List Value → List Value → List ℕ → List ℕ → Type 0
+IsClosedBehind names kinds others all text rest = (values : List Value) × (all ≡ others ++ values) × IsClosed names kinds values text rest
+
+-- a call of the same name, with the arguments that the text spells behind the opening parenthesis
+pub record IsMade (names : NameLists) (name : Call) (text : List ℕ) (made : Call) (rest : List ℕ) : Type 0 where
+  pub same_text : text_of made ≡ text_of name
+  pub same_bare : is_bare made ≡ is_bare name
+  pub closed : IsClosed names (kinds_of made) (values_of made) text rest
+
+-- a processor's number, of one digit
+pub record IsNumberOf (names : NameLists) (number : ℕ) (processor : Proc) : Type 0 where
+  pub least : 1 ≤ number
+  pub most : number ≤ 9
+  pub within : number ≤ names.processors
+  pub is_number : processor ≡ as_proc number
+
+-- the event is on this processor, and the token says what happens there
+abbrev pub Happens : NameLists → Proc → List ℕ → Event → Type 0
+Happens names processor token (events.Tick on) = (on ≡ processor) × IsAlone (codes "tick") token
+Happens names processor token (events.Ipi on) = (on ≡ processor) × IsAlone (codes "ipi") token
+Happens names processor token (events.Call on call) = (on ≡ processor) × SpellsCall names token call

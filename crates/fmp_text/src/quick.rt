@@ -1,0 +1,309 @@
+//! The short way through an event of the common forms: one pass, in which a call and the names of objects are guessed by their
+//! first bytes and then compared. The text spells what is found. Where nothing is found, the line has to be read in full.
+ghost use Rattle.std.specs.Prelude.{◌≡◌, ◌++◌, ◌∷◌, [], ◌+◌, ◌<◌, ◌≤◌, ◌^◌, IfSome, Some, decimal, length};
+ghost use Rattle.fmp_calls.specs.Table.{kinds_of};
+ghost use Rattle.fmp_calls.specs.declared.kinds.ArgumentKind.TheVariants as kinds;
+ghost use Rattle.fmp_text.specs.Grammar.{IsNumber, IsObjectName, SpellsValue, SpellsCall};
+ghost use Rattle.fmp_text.specs.TextGrammar.{SpellsEvent};
+ghost use Rattle.fmp_text.specs.Fronts.{IsFront, IsBehindComma, IsClosedBehind, IsMade, IsNumberOf, Happens};
+ghost use Rattle.fmp_text.specs.Argument.{constant_of};
+
+use crate::argument::ranged;
+use arrayvec::ArrayVec;
+use fmp_bytes::behind;
+use fmp_calls::{ArgumentKind, MOST_ARGUMENTS, NameKind, ObjectKind, Value, form, with_values_of};
+use fmp_codes::{Call, Event, Mode, Proc};
+use fmp_names::{Names, word_key};
+
+/// What follows the prefix, where the text begins with it.
+#[inline(always)]
+fn behind_all<'a>(prefix: &[u8], text: &'a [u8]) -> Option<&'a [u8]>
+    ensures { IfSome result (λ rest. text.now ≡ prefix.now ++ rest.now) }
+{
+    let length = prefix.len();
+    if text.len() < length {
+        return None;
+    }
+    for index in 0..length {
+        if text[index] != prefix[index] {
+            return None;
+        }
+    }
+    Some(&text[length..])
+}
+
+/// What follows a byte, where the text begins with it.
+#[inline(always)]
+pub(crate) fn after_byte(byte: u8, text: &[u8]) -> Option<&[u8]>
+    ensures { IfSome result (λ rest. text.now ≡ byte ∷ rest.now) }
+{
+    behind(byte, text)
+}
+
+/// The value of a decimal digit, and what follows it.
+#[inline(always)]
+#[tactic(auto, using(crate::proofs::Fronted::digit_head))]
+fn digit_front(text: &[u8]) -> Option<(u32, &[u8])>
+    ensures few { IfSome result (λ found. found.0 ≤ 9) }
+    ensures parts { IfSome result (λ found. text.now ≡ (48 + found.0) ∷ found.1.now) }
+{
+    match text {
+        [first, rest @ ..] if b'0' <= *first && *first <= b'9' => {
+            Some((u32::from(*first - b'0'), rest))
+        }
+        _ => None,
+    }
+}
+
+/// A decimal number of at most nine digits, without leading zeros.
+#[inline(always)]
+fn decimal_front(text: &[u8]) -> Option<(u32, &[u8])>
+    ensures few { IfSome result (λ found. found.0 < 10 ^ 9) }
+    ensures parts { IfSome result (λ found. text.now ≡ decimal found.0 ++ found.1.now) }
+{
+    let (first, rest) = digit_front(text)?;
+    let mut number = first;
+    let mut rest = rest;
+    while let Some((digit, more)) = digit_front(rest) {
+        if number == 0 || 100_000_000 <= number {
+            return None;
+        }
+        number = number * 10 + digit;
+        rest = more;
+    }
+    Some((number, rest))
+}
+
+/// The value of a number.
+#[inline(always)]
+fn number_front(kind: ArgumentKind, text: &[u8]) -> Option<(Value, &[u8])>
+    ensures { IfSome result (λ found. IsFront (IsNumber kind) text.now found.0 found.1.now) }
+{
+    if let Some(digits) = after_byte(b'-', text) {
+        let (number, rest) = decimal_front(digits)?;
+        let value = ranged(kind, true, u64::from(number))?;
+        return Some((value, rest));
+    }
+    let (number, rest) = decimal_front(text)?;
+    let value = ranged(kind, false, u64::from(number))?;
+    Some((value, rest))
+}
+
+/// A constant of the kind, where the text begins with its word.
+#[inline(always)]
+fn word_front<'a>(
+    kind: ArgumentKind,
+    word: &[u8],
+    value: Value,
+    text: &'a [u8],
+) -> Option<(Value, &'a [u8])>
+    requires { constant_of kind word.now ≡ Some value }
+    ensures { IfSome result (λ found. IsFront (λ token value. constant_of kind token ≡ Some value) text.now found.0 found.1.now) }
+{
+    let rest = behind_all(word, text)?;
+    Some((value, rest))
+}
+
+/// A constant of the kind.
+#[tactic(auto, unfolding(crate::specs::Argument::constant_of))]
+fn constant_front(kind: ArgumentKind, text: &[u8]) -> Option<(Value, &[u8])>
+    ensures { IfSome result (λ found. IsFront (λ token value. constant_of kind token ≡ Some value) text.now found.0 found.1.now) }
+{
+    match kind {
+        ArgumentKind::Object(ObjectKind::Task) => {
+            word_front(kind, b"TSK_SELF".as_slice(), Value::Number(0), text)
+        }
+        ArgumentKind::Priority => {
+            if let Some(found) = word_front(kind, b"TPRI_SELF".as_slice(), Value::Number(0), text) {
+                return Some(found);
+            }
+            word_front(kind, b"TPRI_INI".as_slice(), Value::Number(0), text)
+        }
+        ArgumentKind::Processor => {
+            word_front(kind, b"TPRC_INI".as_slice(), Value::Number(0), text)
+        }
+        ArgumentKind::Timeout => {
+            if let Some(found) = word_front(kind, b"TMO_POL".as_slice(), Value::Number(0), text) {
+                return Some(found);
+            }
+            word_front(kind, b"TMO_FEVR".as_slice(), Value::Number(-1), text)
+        }
+        ArgumentKind::Mode => {
+            if let Some(found) = word_front(
+                kind,
+                b"TWF_ANDW".as_slice(),
+                Value::Mode(Mode::Andw),
+                text,
+            ) {
+                return Some(found);
+            }
+            word_front(kind, b"TWF_ORW".as_slice(), Value::Mode(Mode::Orw), text)
+        }
+        _ => None,
+    }
+}
+
+/// The name of the object with this number, where the text begins with it.
+#[inline(always)]
+fn object_front<'a>(
+    names: &Names,
+    kind: ObjectKind,
+    number: u8,
+    text: &'a [u8],
+) -> Option<(Value, &'a [u8])>
+    ensures { IfSome result (λ found. IsFront (IsObjectName names.now (kinds.Object kind)) text.now found.0 found.1.now) }
+{
+    let name = names.name(NameKind::Object(kind), usize::from(number))?;
+    let rest = behind_all(name, text)?;
+    Some((Value::Number(i32::from(number)), rest))
+}
+
+/// The name of an object of the kind.
+#[inline(always)]
+fn name_front<'a>(names: &Names, kind: ObjectKind, text: &'a [u8]) -> Option<(Value, &'a [u8])>
+    ensures { IfSome result (λ found. IsFront (IsObjectName names.now (kinds.Object kind)) text.now found.0 found.1.now) }
+{
+    let (likelier, other) = names.likely_objects(kind, word_key(text));
+    if let Some(found) = object_front(names, kind, likelier, text) {
+        return Some(found);
+    }
+    object_front(names, kind, other, text)
+}
+
+/// The name of an object, where the kind is one of objects.
+#[inline(always)]
+fn named_front<'a>(names: &Names, kind: ArgumentKind, text: &'a [u8]) -> Option<(Value, &'a [u8])>
+    ensures { IfSome result (λ found. IsFront (IsObjectName names.now kind) text.now found.0 found.1.now) }
+{
+    match kind {
+        ArgumentKind::Object(object) => name_front(names, object, text),
+        _ => None,
+    }
+}
+
+/// The value of an argument of the kind. It ends where a comma, the closing parenthesis or nothing that was read follows.
+#[inline(always)]
+fn value_front<'a>(names: &Names, kind: ArgumentKind, text: &'a [u8]) -> Option<(Value, &'a [u8])>
+    ensures { IfSome result (λ found. IsFront (SpellsValue names.now kind) text.now found.0 found.1.now) }
+{
+    let [first, ..] = text else {
+        return None;
+    };
+    if *first <= b'9' {
+        return number_front(kind, text);
+    }
+    if let Some(found) = named_front(names, kind, text) {
+        return Some(found);
+    }
+    constant_front(kind, text)
+}
+
+/// What follows a comma, with a space behind it or not.
+#[inline(always)]
+fn behind_comma(text: &[u8]) -> Option<&[u8]>
+    ensures { IfSome result (λ rest. IsBehindComma text.now rest.now) }
+{
+    let rest = after_byte(b',', text)?;
+    match after_byte(b' ', rest) {
+        Some(more) => Some(more),
+        None => Some(rest),
+    }
+}
+
+/// Adds the values of arguments of these kinds to others, up to the closing parenthesis. Gives what follows that.
+fn arguments_front<'a>(
+    names: &Names,
+    kinds: &[ArgumentKind],
+    text: &'a [u8],
+    values: &mut ArrayVec<Value, MOST_ARGUMENTS>,
+) -> Option<&'a [u8]>
+    requires { length values.old.items + length kinds.now ≤ MOST_ARGUMENTS }
+    ensures { IfSome result (λ rest. IsClosedBehind names.now kinds.now values.old.items values.new.items text.now rest.now) }
+{
+    let [kind, others @ ..] = kinds else {
+        return after_byte(b')', text);
+    };
+    let (value, rest) = value_front(names, *kind, text)?;
+    values.push(value);
+    if others.is_empty() {
+        return after_byte(b')', rest);
+    }
+    arguments_front(names, others, behind_comma(rest)?, values)
+}
+
+/// The call of this name with the arguments in the text behind the opening parenthesis, and what follows the closing one.
+#[inline(always)]
+fn call_closed<'a>(
+    names: &Names,
+    call: Call,
+    kinds: &[ArgumentKind],
+    text: &'a [u8],
+) -> Option<(Call, &'a [u8])>
+    requires kinds { kinds.now ≡ kinds_of call }
+    requires few { length kinds.now ≤ MOST_ARGUMENTS }
+    ensures { IfSome result (λ found. IsMade names.now call text.now found.0 found.1.now) }
+{
+    let mut values = ArrayVec::new();
+    let end = arguments_front(names, kinds, text, &mut values)?;
+    let made = with_values_of(call, kinds, values.as_slice())?;
+    Some((made, end))
+}
+
+/// The call that the text begins with, and what follows it. `None` says nothing.
+#[inline(always)]
+pub fn quick_call<'a>(names: &Names, text: &'a [u8]) -> Option<(Call, &'a [u8])>
+    ensures { IfSome result (λ found. IsFront (SpellsCall names.now) text.now found.0 found.1.now) }
+{
+    let call = names.likely_call(word_key(text));
+    let form = form(call);
+    if form.bare {
+        return None;
+    }
+    let rest = behind_all(form.text, text)?;
+    let inner = after_byte(b'(', rest)?;
+    let (made, end) = call_closed(names, call, form.kinds, inner)?;
+    Some((made, end))
+}
+
+/// The processor with this number.
+#[inline(always)]
+fn processor_at(names: &Names, number: u32) -> Option<Proc>
+    requires { number ≤ 9 }
+    ensures { IfSome result (λ processor. IsNumberOf names.now number processor) }
+{
+    if 1 <= number && number <= u32::from(names.processors()) {
+        Some(Proc::new(number as u8))
+    } else {
+        None
+    }
+}
+
+/// What happens on the processor, where the text begins with that.
+#[inline(always)]
+fn happening_front<'a>(names: &Names, processor: Proc, text: &'a [u8]) -> Option<(Event, &'a [u8])>
+    ensures { IfSome result (λ found. IsFront (Happens names.now processor) text.now found.0 found.1.now) }
+{
+    if let Some(rest) = behind_all(b"tick".as_slice(), text) {
+        return Some((Event::Tick(processor), rest));
+    }
+    if let Some(rest) = behind_all(b"ipi".as_slice(), text) {
+        return Some((Event::Ipi(processor), rest));
+    }
+    if let Some(rest) = behind_all(b"ret_hdr".as_slice(), text) {
+        return Some((Event::Call(processor, Call::RetHdr), rest));
+    }
+    let (call, rest) = quick_call(names, text)?;
+    Some((Event::Call(processor, call), rest))
+}
+
+/// The event that the text begins with, and what follows it. `None` says nothing.
+#[inline(always)]
+pub fn quick_event<'a>(names: &Names, text: &'a [u8]) -> Option<(Event, &'a [u8])>
+    ensures { IfSome result (λ found. IsFront (SpellsEvent names.now) text.now found.0 found.1.now) }
+{
+    let (number, rest) = digit_front(after_byte(b'P', text)?)?;
+    let behind = after_byte(b' ', rest)?;
+    let processor = processor_at(names, number)?;
+    let (event, end) = happening_front(names, processor, behind)?;
+    Some((event, end))
+}
