@@ -8,6 +8,9 @@ devices_that_fail() {
     unread check "$late/machine.cfg" missing
     unwritten calls "$late/machine.cfg" "$late/events.txt"
     unwritten check "$late/machine.cfg" "$late/trace.txt"
+    printf 'P1 act_tsk(T2)\nP1 jump()\n' > wrong.txt
+    unwritten calls "$late/machine.cfg" wrong.txt
+    unwritten calls --state "$late/machine.cfg" wrong.txt
     yes '#' | head -c 50000000 > long.txt
     head -c 50000000 /dev/zero | tr '\0' '#' > line.txt
     seconds=30 memory=40000 run 0 /dev/null /dev/null calls "$late/machine.cfg" long.txt

@@ -1,5 +1,5 @@
 -- What is collected of a text that prints records: where it differs from the machine's own.
-use Rattle.std.proofs.Common.{◌≡◌, ℕ, ◌+◌, ◌<◌, ◌^◌, ◌⊎◌, inl, inr, List, [], ◌∷◌, ◌++◌, length, Result, Ok, Err, IfOk, IfErr, refl, sym, ap, subst, ◌∙◌, arith, append_assoc}
+use Rattle.std.proofs.Common.{◌≡◌, ℕ, ◌+◌, ◌<◌, ◌^◌, ◌⊎◌, inl, inr, List, [], ◌∷◌, ◌++◌, length, Some, Result, Ok, Err, IfOk, IfErr, refl, sym, ap, subst, ◌∙◌, arith}
 use Rattle.std.proofs.lemmas.Bool.{cases_Bool}
 use Rattle.std.proofs.lemmas.List.{append-nil}
 use Rattle.std.specs.Str.{bytes_eq}
@@ -16,110 +16,96 @@ use Rattle.fmp_text.specs.declared.fault.TextFault.{TextFault}
 use Rattle.fmp_text.specs.Events.{IsMemory}
 use Rattle.fmp_text.proofs.Parsed.{bind_parts}
 use Rattle.fmp_check.specs.declared.checking.Verdict.{Verdict}
-use Rattle.fmp_check.specs.declared.checking.Verdict.TheVariants.{Yes, No}
+use Rattle.fmp_check.specs.declared.checking.Verdict.TheVariants.{Yes}
 use Rattle.fmp_check.specs.declared.comparing.Comparison.{Comparison}
 use Rattle.fmp_check.specs.declared.comparing.Shown.{Shown}
 use Rattle.fmp_check.specs.declared.comparing.Shown.TheVariants.{First, Each}
-use Rattle.fmp_check.specs.Checking.{Judges, PrintsAnswers, answered, cores_from, checked, verdict_from}
-use Rattle.fmp_check.specs.Comparing.{Found, found_of, with_difference, own_line, found_from, found_in}
+use Rattle.fmp_check.specs.Checking.{Judges, PrintsAnswers, cores_from, checked, verdict_at}
+use Rattle.fmp_check.specs.Comparing.{Found, found_of, hunks_from, shown_at, found_in}
 use Rattle.fmp_check.specs.Differences.{Difference, differences_from, differences, verdict_of, shown_of, difference_text, differences_text, Contrasts}
+use Rattle.fmp_check.specs.Walking.{stop_from, stop_in}
 use Rattle.fmp_trace.specs.Fits.{AllFit}
+use Rattle.fmp_trace.specs.Heads.{event_of}
 use Rattle.fmp_trace.specs.Lines.{core_text, lines_from}
 use Rattle.fmp_trace.specs.Prints.{PrintsWithin, FirstFault}
 use Rattle.fmp_trace.specs.Reading.{GivesOrFails, records_in}
-use Rattle.fmp_check.proofs.CheckedTexts.{told, is_judged, has_one, is_answered, is_reading_fault}
-use Rattle.fmp_check.proofs.Collected.{found_from-line}
+use Rattle.fmp_check.proofs.Hunks.{hunks_from-line}
+use Rattle.fmp_check.proofs.CheckedTexts.{told, stop_told, is_judged, has_one, is_answered, is_reading_fault}
 use Rattle.fmp_trace.proofs.GuessedLines.{line_guessed}
-use Rattle.fmp_check.proofs.Agreed.{verdict_from-line}
-use Rattle.fmp_trace.proofs.ReadTexts.{lines_pieces, read_prints, prints_read}
-
--- what is found where these differences are added
-abbrev pub grown : Shown → Found → List Difference → Found
-grown shown found [] = found
-grown First found (d ∷ ds) = with_difference First found d
-grown Each found (d ∷ ds) = grown Each (with_difference Each found d) ds
+use Rattle.fmp_trace.proofs.Headed.{guess-event}
+use Rattle.fmp_trace.proofs.ReadTexts.{lines_pieces, read_prints}
 
 -- the differences between the records' lines and the machine's own, from line n on
 abbrev pub differing : NameLists → State → ℕ → List Record → List Difference
 differing names w n rs = differences_from n (cores_from names n rs) (cores_from names n (told w rs))
 
-module _ (names : NameLists) (w : State) (n : ℕ) (r : Record) (rs : List Record) (valid : AreValid names) (small : n < 2 ^ 64) (fit : AllFit names (r ∷ rs)) where
-  own_so : own_line names w n (core_text names n r) ≡ Ok ((step numbered w r.event).0, core_text names n (step numbered w r.event).1)
-  unfolding own_line
-  own_so = rw (line_guessed names r valid fit.0 n small) refl
+-- ---- what is found of lines that print records
 
-  answered_so : answered names w n (core_text names n r) ≡ Ok ((step numbered w r.event).0, bytes_eq (core_text names n (step numbered w r.event).1) (core_text names n r))
-  unfolding answered
-  answered_so = rw (line_guessed names r valid fit.0 n small) refl
-
-found_all : (shown : Shown) (names : NameLists) (w : State) (n : ℕ) (found : Found) (rs : List Record) → AreValid names → AllFit names rs → n + length rs < 2 ^ 64
-    → found_from shown names w n found (pieces_of 10 (lines_from names n rs)) ≡ Ok (grown shown found (differing names w n rs))
-unfolding found_from pieces_of
-found_all shown names w n found [] valid fit few = refl
-found_all First names w n found (r ∷ rs) valid fit few =
-    let pieces = lines_pieces names n r rs valid in
-    let own = own_so names w n r rs valid (omega (arith, few)) fit in
-    let next = (step numbered w r.event).0 in
-    let rest = found_all First names next (n + 1) found rs valid fit.1 (omega (arith, few)) in
+hunks_told : (names : NameLists) (w : State) (n : ℕ) (rs : List Record) → AreValid names → AllFit names rs → n + length rs < 2 ^ 64
+    → hunks_from names w n (pieces_of 10 (lines_from names n rs)) ≡ differences_text Each (differing names w n rs)
+unfolding hunks_from pieces_of
+hunks_told names w n [] valid fit few = refl
+hunks_told names w n (r ∷ rs) valid fit few =
+    let small : n < 2 ^ 64 = omega (arith, few) in
+    let event : event_of names (core_text names n r) ≡ Some r.event = guess-event names (core_text names n r) r (line_guessed names r valid fit.0 n small) in
+    let rest = hunks_told names (step numbered w r.event).0 (n + 1) rs valid fit.1 (omega (arith, few)) in
     elim (cases_Bool (bytes_eq (core_text names n (step numbered w r.event).1) (core_text names n r))) [
-      | inl t ↦ rw (pieces, found_from-line, own, t) rest
-      | inr f ↦ rw (pieces, found_from-line, own, f) refl
-    ]
-found_all Each names w n found (r ∷ rs) valid fit few =
-    let pieces = lines_pieces names n r rs valid in
-    let own = own_so names w n r rs valid (omega (arith, few)) fit in
-    let next = (step numbered w r.event).0 in
-    let difference : Difference = record { number = n; line = core_text names n r; own = core_text names n (step numbered w r.event).1 } in
-    let same = found_all Each names next (n + 1) found rs valid fit.1 (omega (arith, few)) in
-    let other = found_all Each names next (n + 1) (with_difference Each found difference) rs valid fit.1 (omega (arith, few)) in
-    elim (cases_Bool (bytes_eq (core_text names n (step numbered w r.event).1) (core_text names n r))) [
-      | inl t ↦ rw (pieces, found_from-line, own, t) same
-      | inr f ↦ rw (pieces, found_from-line, own, f) other
+      | inl t ↦ rw (lines_pieces names n r rs valid, hunks_from-line, event, t) rest
+      | inr f ↦ rw (lines_pieces names n r rs valid, hunks_from-line, event, f) (ap (λ (text : List ℕ). difference_text Each (record { number = n; line = core_text names n r; own = core_text names n (step numbered w r.event).1 }) ++ text) rest)
     ]
 
 verdict_all : (names : NameLists) (w : State) (n : ℕ) (rs : List Record) → AreValid names → AllFit names rs → n + length rs < 2 ^ 64
-    → verdict_from names w n (pieces_of 10 (lines_from names n rs)) ≡ Ok (verdict_of (differing names w n rs))
-unfolding verdict_from pieces_of
+    → verdict_at (stop_from names w n (pieces_of 10 (lines_from names n rs))) ≡ verdict_of (differing names w n rs)
+unfolding stop_from pieces_of
 verdict_all names w n [] valid fit few = refl
 verdict_all names w n (r ∷ rs) valid fit few =
-    let pieces = lines_pieces names n r rs valid in
-    let answer = answered_so names w n r rs valid (omega (arith, few)) fit in
+    let stop_is = stop_told names w n r rs valid (omega (arith, few)) fit in
     let rest = verdict_all names (step numbered w r.event).0 (n + 1) rs valid fit.1 (omega (arith, few)) in
     elim (cases_Bool (bytes_eq (core_text names n (step numbered w r.event).1) (core_text names n r))) [
-      | inl t ↦ rw (pieces, verdict_from-line, answer, t) rest
-      | inr f ↦ rw (pieces, verdict_from-line, answer, f) refl
+      | inl t ↦ rw (stop_is, t) rest
+      | inr f ↦ rw (stop_is, f) refl
     ]
 
--- ---- what was found is what is shown
+first_shown : (d : Difference) (ds : List Difference) → difference_text First d ≡ differences_text First (shown_of First (d ∷ ds))
+first_shown d ds = sym (append-nil (difference_text First d))
 
-grown_each : (n : ℕ) (out : List ℕ) (ds : List Difference) → grown Each (No n, out) ds ≡ (No n, out ++ differences_text Each ds)
-grown_each n out [] = ap (λ (text : List ℕ). (No n, text)) (sym (append-nil out))
-grown_each n out (d ∷ ds) = grown_each n (out ++ difference_text Each d) ds ∙ ap (λ (text : List ℕ). (No n, text)) (append_assoc out (difference_text Each d) (differences_text Each ds))
+none_at_all : (shown : Shown) → [] ≡ differences_text shown (shown_of shown [])
+none_at_all First = refl
+none_at_all Each = refl
 
-grown_shown : (shown : Shown) (ds : List Difference) → grown shown (Yes, []) ds ≡ (verdict_of ds, differences_text shown (shown_of shown ds))
-grown_shown First [] = refl
-grown_shown Each [] = refl
-grown_shown First (d ∷ ds) = ap (λ (text : List ℕ). (No d.number, text)) (sym (append-nil (difference_text First d)))
-grown_shown Each (d ∷ ds) = grown_each d.number (difference_text Each d) ds
+shown_all : (shown : Shown) (names : NameLists) (w : State) (n : ℕ) (rs : List Record) → AreValid names → AllFit names rs → n + length rs < 2 ^ 64
+    → shown_at shown names (stop_from names w n (pieces_of 10 (lines_from names n rs))) ≡ differences_text shown (shown_of shown (differing names w n rs))
+unfolding stop_from pieces_of
+shown_all shown names w n [] valid fit few = none_at_all shown
+shown_all First names w n (r ∷ rs) valid fit few =
+    let stop_is = stop_told names w n r rs valid (omega (arith, few)) fit in
+    let rest = shown_all First names (step numbered w r.event).0 (n + 1) rs valid fit.1 (omega (arith, few)) in
+    let difference : Difference = record { number = n; line = core_text names n r; own = core_text names n (step numbered w r.event).1 } in
+    elim (cases_Bool (bytes_eq (core_text names n (step numbered w r.event).1) (core_text names n r))) [
+      | inl t ↦ rw (stop_is, t) rest
+      | inr f ↦ rw (stop_is, f) (first_shown difference (differing names (step numbered w r.event).0 (n + 1) rs))
+    ]
+shown_all Each names w n (r ∷ rs) valid fit few =
+    let stop_is = stop_told names w n r rs valid (omega (arith, few)) fit in
+    let rest = shown_all Each names (step numbered w r.event).0 (n + 1) rs valid fit.1 (omega (arith, few)) in
+    let hunks = hunks_told names (step numbered w r.event).0 (n + 1) rs valid fit.1 (omega (arith, few)) in
+    let difference : Difference = record { number = n; line = core_text names n r; own = core_text names n (step numbered w r.event).1 } in
+    elim (cases_Bool (bytes_eq (core_text names n (step numbered w r.event).1) (core_text names n r))) [
+      | inl t ↦ rw (stop_is, t) rest
+      | inr f ↦ rw (stop_is, f) (ap (λ (text : List ℕ). difference_text Each difference ++ text) hunks)
+    ]
 
 -- ---- whole texts
 
-text_found : (shown : Shown) (c : Setup) (text : List ℕ) (records : List Record) → AreValid c.names → PrintsWithin c.names text records
-    → found_from shown c.names (booted c) 1 (Yes, []) (pieces_of 10 text) ≡ Ok (verdict_of (differences c records), differences_text shown (shown_of shown (differences c records)))
-text_found shown c text records valid prints =
-    let few = prints.few in
-    let lines = prints.prints.lines in
-    ap (λ (t : List ℕ). found_from shown c.names (booted c) 1 (Yes, []) (pieces_of 10 t)) lines
-    ∙ found_all shown c.names (booted c) 1 (Yes, []) records valid prints.prints.fit (omega (arith, few))
-    ∙ ap (λ (found : Found). Ok found) (grown_shown shown (differences c records))
+module _ (c : Setup) (text : List ℕ) (records : List Record) (valid : AreValid c.names) (prints : PrintsWithin c.names text records) where
+  small : 1 + length records < 2 ^ 64
+  small = let few = prints.few in omega (arith, few)
 
-text_judged : (c : Setup) (text : List ℕ) (records : List Record) → AreValid c.names → PrintsWithin c.names text records → checked c text ≡ Ok (verdict_of (differences c records))
-unfolding checked
-text_judged c text records valid prints =
-    let few = prints.few in
-    let lines = prints.prints.lines in
-    let read = prints_read c.names text records valid prints in
-    rw read (ap (λ (t : List ℕ). verdict_from c.names (booted c) 1 (pieces_of 10 t)) lines ∙ verdict_all c.names (booted c) 1 records valid prints.prints.fit (omega (arith, few)))
+  verdict_is : verdict_at (stop_in c text) ≡ verdict_of (differences c records)
+  verdict_is = ap (λ (t : List ℕ). verdict_at (stop_in c t)) prints.prints.lines ∙ verdict_all c.names (booted c) 1 records valid prints.prints.fit small
+
+  shown_is : (shown : Shown) → shown_at shown c.names (stop_in c text) ≡ differences_text shown (shown_of shown (differences c records))
+  shown_is shown = ap (λ (t : List ℕ). shown_at shown c.names (stop_in c t)) prints.prints.lines ∙ shown_all shown c.names (booted c) 1 records valid prints.prints.fit small
 
 ok_parts : {A B : Type 0} (a b : A) (x y : B) → ◌≡◌ {A = Result (A × B) TextFault} (Ok (a, x)) (Ok (b, y)) → (a ≡ b) × (x ≡ y)
 ok_parts {A} {B} a b x y e =
@@ -130,23 +116,20 @@ ok_parts {A} {B} a b x y e =
 contrast : (shown : Shown) (c : Setup) (text : List ℕ) (verdict : Verdict) (lines : List ℕ) → AreValid c.names → found_in shown c text ≡ Ok (verdict, lines) → Contrasts shown c text verdict lines
 unfolding found_in
 contrast shown c text verdict lines valid e =
-    let p = bind_parts (records_in c.names text) (λ records. found_from shown c.names (booted c) 1 (Yes, []) (pieces_of 10 text)) (verdict, lines) e in
+    let p = bind_parts (records_in c.names text) (λ records. Ok (verdict_at (stop_in c text), shown_at shown c.names (stop_in c text))) (verdict, lines) e in
     let prints = read_prints c.names text p.0 valid p.1 in
-    let found = text_found shown c text p.0 valid prints in
-    let same = ok_parts verdict (verdict_of (differences c p.0)) lines (differences_text shown (shown_of shown (differences c p.0))) (sym p.2 ∙ found) in
-    record { records = p.0; prints = prints; judged = same.0; told = same.1 }
+    let same = ok_parts verdict (verdict_at (stop_in c text)) lines (shown_at shown c.names (stop_in c text)) (sym p.2) in
+    record { records = p.0; prints = prints; judged = same.0 ∙ verdict_is c text p.0 valid prints; told = same.1 ∙ shown_is c text p.0 valid prints shown }
 
--- the same fault
-fault_alike : (shown : Shown) (c : Setup) (text : List ℕ) (fault : TextFault) (read : Result (List Record) TextFault) → AreValid c.names → records_in c.names text ≡ read → found_in shown c text ≡ Err fault → checked c text ≡ Err fault
+-- the same verdict, or the same fault
+abbrev verdict_in : Result Found TextFault → Result Verdict TextFault
+verdict_in (Ok found) = Ok found.0
+verdict_in (Err fault) = Err fault
+
+alike_in : (shown : Shown) (c : Setup) (text : List ℕ) (read : Result (List Record) TextFault) → records_in c.names text ≡ read → checked c text ≡ verdict_in (found_in shown c text)
 unfolding found_in checked
-fault_alike shown c text fault (Err first) valid is_read e =
-    let same : ◌≡◌ {A = Result Found TextFault} (Err first) (Err fault) = rw is_read at e in
-    let alike : first ≡ fault = cc in
-    rw (is_read, alike) refl
-fault_alike shown c text fault (Ok records) valid is_read e =
-    let found = text_found shown c text records valid (read_prints c.names text records valid is_read) in
-    let same : found_from shown c.names (booted c) 1 (Yes, []) (pieces_of 10 text) ≡ Err fault = rw is_read at e in
-    absurd cc
+alike_in shown c text (Ok records) is = rw is refl
+alike_in shown c text (Err fault) is = rw is refl
 
 abbrev as_verdict : Result Comparison TextFault → Result Verdict TextFault
 as_verdict (Ok found) = Ok found.verdict
@@ -163,10 +146,8 @@ nothing_shown shown c text lines k = k.told ∙ none_shown shown (differences c 
 
 module _ (shown : Shown) (c : Setup) (text : List ℕ) (valid : AreValid c.names) where
   alike : (result : Result Comparison TextFault) → GivesOrFails found_of result (found_in shown c text) → GivesOrFails (λ v. v) (as_verdict result) (checked c text)
-  alike (Ok found) e =
-      let k = contrast shown c text found.verdict found.lines.items valid e in
-      text_judged c text k.records valid k.prints ∙ ap (λ (v : Verdict). Ok v) (sym k.judged)
-  alike (Err fault) (inl e) = inl (fault_alike shown c text fault (records_in c.names text) valid refl e)
+  alike (Ok found) e = alike_in shown c text (records_in c.names text) refl ∙ ap verdict_in e
+  alike (Err fault) (inl e) = inl (alike_in shown c text (records_in c.names text) refl ∙ ap verdict_in e)
   alike (Err fault) (inr memory) = inr memory
 
   pub contrasts : (result : Result Comparison TextFault) → GivesOrFails found_of result (found_in shown c text) → IfOk result (λ found. Contrasts shown c text found.verdict found.lines.items)

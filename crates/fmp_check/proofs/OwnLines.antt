@@ -1,10 +1,10 @@
 -- Going over the lines of a text as long as they are the machine's own, as the loop does.
-use Rattle.std.proofs.Common.{◌≡◌, ℕ, ◌+◌, ◌<◌, ◌≤◌, ◌^◌, Bool, true, false, cond, eqb, ltb, inl, inr, List, [], ◌∷◌, length, Option, Some, None, Result, Ok, Err, IfOk, refl, sym, ap, subst, ◌∙◌, arith}
-use Rattle.std.specs.Str.{bytes_eq}
-use Rattle.std.proofs.lemmas.Bool.{cases_Bool, false≢true}
+use Rattle.std.proofs.Common.{◌≡◌, ℕ, ◌+◌, ◌<◌, ◌≤◌, ◌^◌, true, false, cond, List, [], ◌∷◌, length, Option, Some, None, Result, Ok, Err, refl, sym, ap, subst, ◌∙◌, arith}
+use Rattle.std.proofs.lemmas.Bool.{false≢true}
 use Rattle.std.proofs.lemmas.List.Elements.{All-cons, All-nil}
 use Rattle.std.proofs.lemmas.Slice.Eq.{bytes_eq-Decides}
 use Rattle.fmp_bytes.specs.Bytes.{cut_at, pieces_of}
+use Rattle.fmp_bytes.proofs.Cutting.{pieces_of-cut}
 use Rattle.fmp_codes.specs.Records.{processor_of}
 use Rattle.fmp_codes.specs.declared.records.Event.{Event}
 use Rattle.fmp_codes.specs.declared.records.Record.{Record}
@@ -21,39 +21,46 @@ use Rattle.fmp_safety.proofs.Telling.{step_names}
 use Rattle.fmp_text.specs.Limits.{most_events}
 use Rattle.fmp_text.specs.declared.fault.TextFault.{TextFault}
 use Rattle.fmp_text.specs.declared.fault.TextKind.{TextKind}
-use Rattle.fmp_text.specs.declared.fault.TextKind.TheVariants.{CutShort}
-use Rattle.fmp_text.specs.Reading.{◌>>=◌}
 use Rattle.fmp_text.proofs.Parsed.{bind_parts}
 use Rattle.fmp_names.specs.Names.{NameLists, AreValid}
 use Rattle.fmp_trace.specs.Fits.{FitsNames}
-use Rattle.fmp_trace.specs.Guess.{guess}
 use Rattle.fmp_trace.specs.Heads.{event_of}
 use Rattle.fmp_trace.specs.Lines.{core_text}
 use Rattle.fmp_trace.specs.Prints.{PrintsLine}
-use Rattle.fmp_trace.specs.Reading.{Fails, GivesOrFails, Passes, at_line, line_record, records_from}
-use Rattle.fmp_trace.proofs.GuessedLines.{line_guessed}
-use Rattle.fmp_trace.proofs.Headed.{guess-event, event_of-fits}
-use Rattle.fmp_trace.proofs.Numbered.{first_piece, only_piece, records_from-line, records_from-last}
+use Rattle.fmp_trace.specs.Reading.{at_line, line_record, records_from}
+use Rattle.fmp_trace.proofs.Headed.{event_of-fits}
+use Rattle.fmp_trace.proofs.Numbered.{first_piece, only_piece, records_from-line, with_prefix}
 use Rattle.fmp_trace.proofs.ReadTexts.{line_read, limited_ok, line_told, LineTold}
-use Rattle.fmp_check.specs.declared.checking.Verdict.{Verdict}
-use Rattle.fmp_check.specs.declared.checking.Verdict.TheVariants.{Yes, No}
-use Rattle.fmp_check.specs.Checking.{answered, verdict_from, judged_from, behind, prints_answer}
-use Rattle.fmp_check.proofs.Agreed.{verdict_from-line, verdict_from-last}
+use Rattle.fmp_check.specs.Walking.{behind, prints_answer, stopped, stop_from}
 use Rattle.fmp_check.proofs.FittingAnswers.{record_fits, step_event}
+
+-- ---- where the lines of a text stop being the machine's own
+
+-- the first line of a text with a line feed
+pub stop_from-line : (names : NameLists) (w : State) (n : ℕ) (line rest : List ℕ) → stop_from names w n (line ∷ pieces_of 10 rest)
+    ≡ cond (prints_answer names w n line (event_of names line)) (stop_from names (behind w (event_of names line)) (n + 1) (pieces_of 10 rest)) (Some (stopped names w n line (event_of names line) (pieces_of 10 rest)))
+unfolding stop_from
+stop_from-line names w n line rest = rw (pieces_of-cut 10 rest) refl
+
+module _ (names : NameLists) (w : State) (n : ℕ) (text : List ℕ) where
+  pub goes_behind : (line rest : List ℕ) → (cut_at 10 text).0 ≡ line → (cut_at 10 text).1 ≡ Some rest → prints_answer names w n line (event_of names line) ≡ true
+      → stop_from names w n (pieces_of 10 text) ≡ stop_from names (behind w (event_of names line)) (n + 1) (pieces_of 10 rest)
+  goes_behind line rest is_line cut own = rw (first_piece text line rest is_line cut, stop_from-line, own) refl
+
+  pub stops_here : (line rest : List ℕ) → (cut_at 10 text).0 ≡ line → (cut_at 10 text).1 ≡ Some rest → prints_answer names w n line (event_of names line) ≡ false
+      → stop_from names w n (pieces_of 10 text) ≡ Some (stopped names w n line (event_of names line) (pieces_of 10 rest))
+  stops_here line rest is_line cut other = rw (first_piece text line rest is_line cut, stop_from-line, other) refl
+
+  pub stops_nowhere : (cut_at 10 text).1 ≡ None → stop_from names w n (pieces_of 10 text) ≡ None
+  unfolding stop_from
+  stops_nowhere none = rw (only_piece text none) refl
 
 -- the state is one that the machine can be in
 pub record Goes (c : Setup) (w : State) : Type 0 where
   pub safe : Safe numbered w
   pub counts : HasCounts (counts_of c) w
 
--- ---- reading and judging one line more
-
--- what is judged of a line and what follows it
-stepped : (names : NameLists) (w : State) (n : ℕ) (line rest : List ℕ) (r : Record) (next : State) → at_line n (line_record names n line) ≡ Ok r → answered names w n line ≡ Ok (next, true)
-    → (more : Result (List Record) TextFault) → records_from names (n + 1) (pieces_of 10 rest) ≡ more
-    → (records_from names n (line ∷ pieces_of 10 rest) >>= λ rs. verdict_from names w n (line ∷ pieces_of 10 rest)) ≡ (more >>= λ rs. verdict_from names next (n + 1) (pieces_of 10 rest))
-stepped names w n line rest r next read answer (Ok rs) is_more = rw (records_from-line, read, is_more, verdict_from-line, answer) refl
-stepped names w n line rest r next read answer (Err fault) is_more = rw (records_from-line, read, is_more) refl
+-- ---- a line of its own has no fault
 
 module _ (c : Setup) (valid : IsValid c) (names_valid : AreValid c.names) (w : State) (n : ℕ) (few : n ≤ most_events) (goes : Goes c w) where
   -- an event that a line tells leads to a state that goes, and its record fits the names
@@ -70,12 +77,11 @@ module _ (c : Setup) (valid : IsValid c) (names_valid : AreValid c.names) (w : S
         record_fits c valid (step numbered w e).1 told.1 (subst EventInBits (sym event_is) in_bits),
       )
 
-  -- what is known where a line is the machine's own: its event, the state behind it, how it is read and what is answered
-  abbrev Own : List ℕ → Type 0
-  Own line = (e : Event) × (event_of c.names line ≡ Some e) × Goes c (step numbered w e).0 × (at_line n (line_record c.names n line) ≡ Ok (step numbered w e).1) × (answered c.names w n line ≡ Ok ((step numbered w e).0, true))
+  -- a line of its own leads to a state that goes, and is read
+  abbrev Own : List ℕ → Option Event → Type 0
+  Own line told = Goes c (behind w told) × ((r : Record) × (at_line n (line_record c.names n line) ≡ Ok r))
 
-  own_line : (line : List ℕ) (told : Option Event) → event_of c.names line ≡ told → prints_answer c.names w n line told ≡ true → Own line
-  unfolding answered
+  own_line : (line : List ℕ) (told : Option Event) → event_of c.names line ≡ told → prints_answer c.names w n line told ≡ true → Own line told
   own_line line None is_told own = absurd (false≢true own)
   own_line line (Some e) is_told own =
       let r : Record = (step numbered w e).1 in
@@ -83,61 +89,31 @@ module _ (c : Setup) (valid : IsValid c) (names_valid : AreValid c.names) (w : S
       let fits = event_of-fits c.names line e names_valid is_told in
       let on = goes_on e fits.0 fits.1 in
       let small : n < 2 ^ 64 = omega (arith, few) in
-      let found : guess c.names line ≡ Some r = ap (guess c.names) (sym same) ∙ line_guessed c.names r names_valid on.1 n small in
-      let event_is : r.event ≡ e = step_event w e in (
-        e,
-        is_told,
-        on.0,
-        ap (at_line n) (line_read c.names n line r names_valid small (sym same, on.1) ∙ limited_ok n r few),
-        rw (found, event_is, own) refl,
-      )
+      (on.0, (r, ap (at_line n) (line_read c.names n line r names_valid small (sym same, on.1) ∙ limited_ok n r few)))
 
-  -- a line of its own, and what is left to judge
-  pub agrees : (text line rest : List ℕ) → (cut_at 10 text).0 ≡ line → (cut_at 10 text).1 ≡ Some rest → prints_answer c.names w n line (event_of c.names line) ≡ true
-      → Goes c (behind w (event_of c.names line)) × (judged_from c.names w n (pieces_of 10 text) ≡ judged_from c.names (behind w (event_of c.names line)) (n + 1) (pieces_of 10 rest))
-  unfolding judged_from
-  agrees text line rest is_line cut test =
-      let own = own_line line (event_of c.names line) refl test in
-      let next : behind w (event_of c.names line) ≡ (step numbered w own.0).0 = ap (behind w) own.1 in
-      let pieces = first_piece text line rest is_line cut in (
-        subst (Goes c) (sym next) own.2,
-        rw (next, pieces) (stepped c.names w n line rest (step numbered w own.0).1 (step numbered w own.0).0 own.3 own.4 (records_from c.names (n + 1) (pieces_of 10 rest)) refl),
-      )
+  pub is_own : (line : List ℕ) → prints_answer c.names w n line (event_of c.names line) ≡ true → Own line (event_of c.names line)
+  is_own line test = own_line line (event_of c.names line) refl test
+
+-- ---- what is read from a line on is what is read of the whole text
+
+-- the records before line n of a text were read, which goes on with this rest
+abbrev pub ReadTo : NameLists → List ℕ → ℕ → List ℕ → Type 0
+ReadTo names text n rest = (before : List Record) × (with_prefix before (records_from names n (pieces_of 10 rest)) ≡ records_from names 1 (pieces_of 10 text))
+
+pub reads_begin : (names : NameLists) (text : List ℕ) (read : Result (List Record) TextFault) → records_from names 1 (pieces_of 10 text) ≡ read → ReadTo names text 1 text
+reads_begin names text (Ok records) is = ([], rw is refl)
+reads_begin names text (Err fault) is = ([], rw is refl)
 
 at_line_parts : (n : ℕ) (read : Result Record TextKind) (r : Record) → at_line n read ≡ Ok r → read ≡ Ok r
 at_line_parts n (Ok x) r e = let same : x ≡ r = cc in ap (λ (y : Record). Ok y) same
 at_line_parts n (Err kind) r e = absurd cc
 
-module _ (names : NameLists) (valid : AreValid names) (w : State) (n : ℕ) (small : n < 2 ^ 64) where
-  -- a line that prints a record, but not the machine's own
-  answered_other : (line : List ℕ) (r : Record) → line_record names n line ≡ Ok r → (n ≤ most_events → prints_answer names w n line (event_of names line) ≡ false) → answered names w n line ≡ Ok ((step numbered w r.event).0, false)
-  unfolding answered
-  answered_other line r read test =
-      let told : PrintsLine names n line r × (n ≤ most_events) = subst (LineTold names n line) read (line_told names n line valid small) in
-      let found : guess names line ≡ Some r = ap (guess names) told.0.0 ∙ line_guessed names r valid told.0.1 n small in
-      let event : event_of names line ≡ Some r.event = guess-event names line r found in
-      let other : bytes_eq (core_text names n (step numbered w r.event).1) line ≡ false = ap (prints_answer names w n line) (sym event) ∙ test told.1 in
-      rw (found, other) refl
-
-  -- the first line that is not the machine's own: what is read from there on tells the fault, or the line is the verdict
-  pub differs : (text line rest : List ℕ) (result : Result Verdict TextFault) → (cut_at 10 text).0 ≡ line → (cut_at 10 text).1 ≡ Some rest → (n ≤ most_events → prints_answer names w n line (event_of names line) ≡ false)
-      → IfOk result (λ verdict. verdict ≡ No n) → Passes result (records_from names n (pieces_of 10 text)) → GivesOrFails (λ v. v) result (judged_from names w n (pieces_of 10 text))
-  unfolding judged_from
-  differs text line rest (Ok verdict) is_line cut test is_no passes =
-      let pieces = first_piece text line rest is_line cut in
-      let read : records_from names n (line ∷ pieces_of 10 rest) ≡ Ok passes.0 = ap (records_from names n) (sym pieces) ∙ passes.1 in
-      let p = bind_parts (at_line n (line_record names n line)) _ passes.0 (sym (records_from-line names n line rest) ∙ read) in
-      let other = answered_other line p.0 (at_line_parts n (line_record names n line) p.0 p.1) test in
-      rw (passes.1, pieces, verdict_from-line, other, is_no) refl
-  differs text line rest (Err fault) is_line cut test is_no (inl e) = inl (rw e refl)
-  differs text line rest (Err fault) is_line cut test is_no (inr memory) = inr memory
-
-  -- what follows the last line feed
-  pub ends : (text : List ℕ) (result : Result Verdict TextFault) → (cut_at 10 text).1 ≡ None → result ≡ cond (eqb (length text) 0) (Ok Yes) (Err (record { kind = CutShort; line = n })) → GivesOrFails (λ v. v) result (judged_from names w n (pieces_of 10 text))
-  unfolding judged_from
-  ends text result none is =
-      let one = only_piece text none in
-      elim (cases_Bool (eqb (length text) 0)) [
-        | inl t ↦ rw (is, t, one, records_from-last, t, verdict_from-last) refl
-        | inr f ↦ rw (is, f, one, records_from-last, f) (inl refl)
-      ]
+-- a line that is read stands within the limit of events
+pub is_within : (names : NameLists) (valid : AreValid names) (n : ℕ) (small : n < 2 ^ 64) (text line rest : List ℕ) (records : List Record) → (cut_at 10 text).0 ≡ line → (cut_at 10 text).1 ≡ Some rest
+    → records_from names n (pieces_of 10 text) ≡ Ok records → n ≤ most_events
+is_within names valid n small text line rest records is_line cut read =
+    let pieces = first_piece text line rest is_line cut in
+    let read_so : records_from names n (line ∷ pieces_of 10 rest) ≡ Ok records = ap (records_from names n) (sym pieces) ∙ read in
+    let p = bind_parts (at_line n (line_record names n line)) _ records (sym (records_from-line names n line rest) ∙ read_so) in
+    let told : PrintsLine names n line p.0 × (n ≤ most_events) = subst (LineTold names n line) (at_line_parts n (line_record names n line) p.0 p.1) (line_told names n line valid small) in
+    told.1

@@ -1,27 +1,24 @@
 -- What is answered of a text that prints records: whether they are the machine's own answers.
-use Rattle.std.specs.Prelude.{◌≡◌, ◌≢◌, ℕ, ◌+◌, ◌-◌, ◌≤◌, Bool, false, List, [], ◌∷◌, length, map, take, slice_get, Option, None, Some, Result, Ok, All, if◌then◌else◌}
-use Rattle.std.specs.Option.{ok_or}
-use Rattle.std.specs.Str.{bytes_eq}
+use Rattle.std.specs.Prelude.{◌≡◌, ◌≢◌, ℕ, ◌+◌, ◌-◌, ◌≤◌, List, [], ◌∷◌, length, map, take, slice_get, Option, None, Some, Result, Ok, All}
 use Rattle.fmp_codes.specs.Records.{AreOn}
 use Rattle.fmp_codes.specs.declared.records.Event.{Event}
 use Rattle.fmp_codes.specs.declared.records.Record.{Record}
 use Rattle.fmp_bytes.specs.Bytes.{pieces_of, line_feed}
 use Rattle.fmp_calls.specs.Arguments.{EventInBits}
 use Rattle.fmp_machine.specs.Boot.{booted}
-use Rattle.fmp_machine.specs.Arrivals.{State, numbered}
+use Rattle.fmp_machine.specs.Arrivals.{numbered}
 use Rattle.fmp_setup.specs.Setup.{Setup}
-use Rattle.fmp_machine.specs.Step.{step, answers}
+use Rattle.fmp_machine.specs.Step.{answers}
 use Rattle.fmp_text.specs.Limits.{most_bytes, most_events}
 use Rattle.fmp_text.specs.declared.fault.TextFault.{TextFault}
-use Rattle.fmp_text.specs.declared.fault.TextKind.TheVariants.{BadWord}
 use Rattle.fmp_names.specs.Names.{NameLists}
 use Rattle.fmp_text.specs.Reading.{◌>>=◌}
 use Rattle.fmp_check.specs.declared.checking.Verdict.{Verdict}
 use Rattle.fmp_check.specs.declared.checking.Verdict.TheVariants.{Yes, No}
-use Rattle.fmp_trace.specs.Guess.{guess}
 use Rattle.fmp_trace.specs.Lines.{core_text, lines_from}
 use Rattle.fmp_trace.specs.Prints.{PrintsWithin}
-use Rattle.fmp_trace.specs.Reading.{records_in, records_from}
+use Rattle.fmp_check.specs.Walking.{Stopped, stop_in}
+use Rattle.fmp_trace.specs.Reading.{records_in}
 
 -- what the machine answers to the events of these records, as a text
 abbrev pub own_text : Setup → List Record → List ℕ
@@ -62,34 +59,11 @@ pub record PrintsAnswers (c : Setup) (text : List ℕ) (events : List Event) : T
   pub short : length text ≤ most_bytes
   pub prints : text ≡ lines_from c.names 1 (answers numbered (booted c) events)
 
--- the state behind the event of line n, and whether the line prints the answer
-unfoldable pub answered : NameLists → State → ℕ → List ℕ → Result (State × Bool) TextFault
-answered names w n line = do
-  r ← ok_or (guess names line) (record { kind = BadWord; line = n })
-  Ok ((step numbered w r.event).0, bytes_eq (core_text names n (step numbered w r.event).1) line)
-
--- the verdict on the lines from line n on. The last line has no line feed
-unfoldable pub verdict_from : NameLists → State → ℕ → List (List ℕ) → Result Verdict TextFault
-verdict_from names w n [] = Ok Yes
-verdict_from names w n (last ∷ []) = Ok Yes
-verdict_from names w n (line ∷ next ∷ lines) = do
-  told ← answered names w n line
-  if told.1 then verdict_from names told.0 (n + 1) (next ∷ lines) else Ok (No n)
-
--- the state behind the event that a line tells, if it tells any
-abbrev pub behind : State → Option Event → State
-behind w None = w
-behind w (Some e) = (step numbered w e).0
-
--- whether line n prints what the machine answers to the event that it tells
-abbrev pub prints_answer : NameLists → State → ℕ → List ℕ → Option Event → Bool
-prints_answer names w n line None = false
-prints_answer names w n line (Some e) = bytes_eq (core_text names n (step numbered w e).1) line
-
--- the verdict on the lines from line n on, or their first fault
-unfoldable pub judged_from : NameLists → State → ℕ → List (List ℕ) → Result Verdict TextFault
-judged_from names w n lines = records_from names n lines >>= λ records. verdict_from names w n lines
+-- the verdict where the lines stop being the machine's own
+abbrev pub verdict_at : Option Stopped → Verdict
+verdict_at None = Yes
+verdict_at (Some s) = No s.number
 
 -- the verdict on a text, or its first fault
 unfoldable pub checked : Setup → List ℕ → Result Verdict TextFault
-checked c text = records_in c.names text >>= λ records. verdict_from c.names (booted c) 1 (pieces_of line_feed text)
+checked c text = records_in c.names text >>= λ records. Ok (verdict_at (stop_in c text))

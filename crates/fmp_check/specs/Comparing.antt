@@ -1,66 +1,53 @@
--- Comparing a trace with the machine's own line by line, as the code does.
-use Rattle.std.specs.Prelude.{ℕ, ◌+◌, Bool, true, false, List, [], ◌∷◌, ◌++◌, Result, Ok, if◌then◌else◌}
-use Rattle.std.specs.Option.{ok_or}
-use Rattle.std.specs.Str.{bytes_eq}
-use Rattle.fmp_bytes.specs.Bytes.{pieces_of, line_feed}
-use Rattle.fmp_machine.specs.Boot.{booted}
-use Rattle.fmp_machine.specs.Arrivals.{State, numbered}
+-- Showing where a trace differs from the machine's own lines, as the code does.
+use Rattle.std.specs.Prelude.{ℕ, ◌+◌, List, [], ◌∷◌, ◌++◌, Option, None, Some, Result, Ok, if◌then◌else◌}
+use Rattle.fmp_machine.specs.Arrivals.{State}
 use Rattle.fmp_setup.specs.Setup.{Setup}
-use Rattle.fmp_machine.specs.Step.{step}
 use Rattle.fmp_text.specs.declared.fault.TextFault.{TextFault}
-use Rattle.fmp_text.specs.declared.fault.TextKind.TheVariants.{BadWord}
 use Rattle.fmp_names.specs.Names.{NameLists}
 use Rattle.fmp_text.specs.Reading.{◌>>=◌}
 use Rattle.fmp_check.specs.declared.checking.Verdict.{Verdict}
-use Rattle.fmp_check.specs.declared.checking.Verdict.TheVariants.{Yes, No}
 use Rattle.fmp_check.specs.declared.comparing.Comparison.{Comparison}
 use Rattle.fmp_check.specs.declared.comparing.Shown.{Shown}
-use Rattle.fmp_check.specs.declared.comparing.Shown.TheVariants.{First}
+use Rattle.fmp_check.specs.declared.comparing.Shown.TheVariants.{First, Each}
+use Rattle.fmp_check.specs.Checking.{verdict_at}
 use Rattle.fmp_check.specs.Differences.{Difference, difference_text}
-use Rattle.fmp_trace.specs.Guess.{guess}
-use Rattle.fmp_trace.specs.Lines.{core_text}
+use Rattle.fmp_check.specs.Walking.{Stopped, behind, own_core, prints_answer, stop_in}
+use Rattle.fmp_trace.specs.Heads.{event_of}
 use Rattle.fmp_trace.specs.Reading.{records_in}
 
--- the state behind the event of line n, and the machine's own line
-unfoldable pub own_line : NameLists → State → ℕ → List ℕ → Result (State × List ℕ) TextFault
-own_line names w n line = do
-  r ← ok_or (guess names line) (record { kind = BadWord; line = n })
-  Ok ((step numbered w r.event).0, core_text names n (step numbered w r.event).1)
-
--- the verdict so far, and what is shown so far
+-- the verdict, and what is shown
 abbrev pub Found : Type 0
 Found = Verdict × List ℕ
 
 abbrev pub found_of : Comparison → Found
 found_of c = (c.verdict, c.lines.items)
 
--- the first difference decides
-abbrev pub noted : Verdict → ℕ → Verdict
-noted Yes n = No n
-noted (No first) n = No first
+-- line n, and the machine's own for the event that it tells
+abbrev pub difference_at : NameLists → State → ℕ → List ℕ → Difference
+difference_at names w n line = record { number = n; line = line; own = own_core names w n (event_of names line) }
 
--- one difference more
-abbrev pub with_difference : Shown → Found → Difference → Found
-with_difference shown found d = (noted found.0 d.number, found.1 ++ difference_text shown d)
+-- the hunks of the lines from line n on. The last line has no line feed
+unfoldable pub hunks_from : NameLists → State → ℕ → List (List ℕ) → List ℕ
+hunks_from names w n [] = []
+hunks_from names w n (last ∷ []) = []
+hunks_from names w n (line ∷ next ∷ lines) =
+    (if prints_answer names w n line (event_of names line) then [] else difference_text Each (difference_at names w n line))
+    ++ hunks_from names (behind w (event_of names line)) (n + 1) (next ∷ lines)
 
--- a line more
-abbrev pub with_line : Shown → Found → Difference → Found
-with_line shown found d = if bytes_eq d.own d.line then found else with_difference shown found d
+-- the first line that differs
+abbrev pub difference_of : Stopped → Difference
+difference_of s = record { number = s.number; line = s.line; own = s.own }
 
--- whether a line is the last that is looked at
-abbrev pub is_last : Shown → Bool → Bool
-is_last First false = true
-is_last _ _ = false
+-- what is shown of lines that differ, where this is the first of them
+abbrev pub shown_from : Shown → NameLists → Stopped → List ℕ
+shown_from First names s = difference_text First (difference_of s)
+shown_from Each names s = difference_text Each (difference_of s) ++ hunks_from names s.state (s.number + 1) s.rest
 
--- the lines from line n on. The last line has no line feed
-unfoldable pub found_from : Shown → NameLists → State → ℕ → Found → List (List ℕ) → Result Found TextFault
-found_from shown names w n found [] = Ok found
-found_from shown names w n found (last ∷ []) = Ok found
-found_from shown names w n found (line ∷ next ∷ lines) = do
-  own ← own_line names w n line
-  let after : Found = with_line shown found (record { number = n; line = line; own = own.1 }) in
-      if is_last shown (bytes_eq own.1 line) then Ok after else found_from shown names own.0 (n + 1) after (next ∷ lines)
+-- what is shown of a text
+abbrev pub shown_at : Shown → NameLists → Option Stopped → List ℕ
+shown_at shown names None = []
+shown_at shown names (Some s) = shown_from shown names s
 
 -- a whole text, or its first fault
 unfoldable pub found_in : Shown → Setup → List ℕ → Result Found TextFault
-found_in shown c text = records_in c.names text >>= λ records. found_from shown c.names (booted c) 1 (Yes, []) (pieces_of line_feed text)
+found_in shown c text = records_in c.names text >>= λ records. Ok (verdict_at (stop_in c text), shown_at shown c.names (stop_in c text))

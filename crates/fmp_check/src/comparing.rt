@@ -1,8 +1,6 @@
 //! The lines of a trace that are not the plain machine's own, with those.
-ghost use Rattle.std.specs.Prelude.{◌≡◌, ◌≤◌, ◌<◌, ◌+◌, ◌++◌, ◌⊎◌, [], List, length, Ok, IfOk, IfErr, OnOk};
-ghost use Rattle.std.specs.Str.{bytes_eq};
+ghost use Rattle.std.specs.Prelude.{◌≡◌, ◌≤◌, ◌+◌, ◌++◌, ◌⊎◌, [], List, length, Ok, IfOk, IfErr, OnOk};
 ghost use Rattle.fmp_bytes.specs.Bytes.{pieces_of};
-ghost use Rattle.fmp_machine.specs.Boot.{booted};
 ghost use Rattle.fmp_codes.specs.declared.records.Event.{Event as AnyEvent};
 ghost use Rattle.fmp_codes.specs.declared.records.Record.{Record as AnyRecord};
 ghost use Rattle.fmp_text.specs.Events.{IsMemory};
@@ -10,14 +8,15 @@ ghost use Rattle.fmp_text.specs.Limits.{most_bytes};
 ghost use Rattle.fmp_check.specs.Checking.{Judges, PrintsAnswers};
 ghost use Rattle.fmp_check.specs.Comparing as spec;
 ghost use Rattle.fmp_check.specs.Differences.{Contrasts, difference_text, hunk_head};
+ghost use Rattle.fmp_check.specs.Walking.{seen};
 ghost use Rattle.fmp_trace.specs.Prints.{PrintsWithin, FirstFault};
 ghost use Rattle.fmp_trace.specs.Reading.{GivesOrFails};
 
 use crate::checking::Verdict;
+use crate::walking::{Player, Stop, walk};
 use fmp_machine::Config;
-use fmp_plain::Plain;
-use fmp_text::{MOST_BYTES, Names, TextFault, TextKind};
-use fmp_trace::{guessed, next_line, put_core, put_number, validate};
+use fmp_text::{Names, TextFault};
+use fmp_trace::{next_line, put_number};
 use std::alloc::{AllocError, Global};
 
 /// Which of the lines that differ are shown, and how.
@@ -36,43 +35,6 @@ pub struct Comparison {
     pub verdict: Verdict,
     /// The lines that are shown, each ended by a line feed.
     pub lines: Vec<u8>,
-}
-
-/// Replaces what the vector holds by the machine's own line n, without its line feed. The line that is given says which
-/// event it answers.
-#[tactic(auto, unfolding(crate::specs::Comparing::own_line))]
-fn answer_line(
-    own: &mut Vec<u8>,
-    plain: &mut Plain,
-    names: &Names,
-    n: u32,
-    line: &[u8],
-) -> Result<(), TextFault>
-    requires { plain.old.steps < 4294967295 }
-    ensures told { GivesOrFails (λ done. (plain.new.state, own.new.items)) result (spec.own_line names.now plain.old.state n line.now) }
-    ensures steps { OnOk result (plain.new.steps ≡ plain.old.steps + 1) }
-{
-    let entry = guessed(names, n, line)?;
-    let answer = plain.step(entry.event);
-    own.clear();
-    put_core(own, names, n, &answer)?;
-    Ok(())
-}
-
-/// Adds how line n differs from the machine's own.
-fn put_difference(
-    out: &mut Vec<u8>,
-    shown: Shown,
-    n: u32,
-    line: &[u8],
-    own: &[u8],
-) -> Result<(), AllocError>
-    ensures { OnOk result (out.new.items ≡ out.old.items ++ difference_text shown (record { number = n; line = line.now; own = own.now })) }
-{
-    match shown {
-        Shown::First => put_pair(out, line, own),
-        Shown::Each => put_hunk(out, n, line, own),
-    }
 }
 
 fn put_pair(out: &mut Vec<u8>, line: &[u8], own: &[u8]) -> Result<(), AllocError>
@@ -110,55 +72,53 @@ fn put_hunk(out: &mut Vec<u8>, n: u32, line: &[u8], own: &[u8]) -> Result<(), Al
     Ok(())
 }
 
-impl Comparison {
-    /// Takes line n in. Says whether no more lines are wanted.
-    fn add(&mut self, shown: Shown, n: u32, line: &[u8], own: &[u8]) -> Result<bool, AllocError>
-        ensures found { OnOk result (spec.found_of self.new ≡ spec.with_line shown (spec.found_of self.old) (record { number = n; line = line.now; own = own.now })) }
-        ensures last { IfOk result (λ last. last ≡ spec.is_last shown (bytes_eq own.now line.now)) }
-    {
-        if own == line {
-            return Ok(false);
-        }
-        if let Verdict::Yes = self.verdict {
-            self.verdict = Verdict::No(n);
-        }
-        put_difference(&mut self.lines, shown, n, line, own)?;
-        Ok(shown == Shown::First)
-    }
-}
-
-/// Compares a text that reads as records.
-fn collect(
-    alloc: Global,
-    config: &Config,
+/// Adds a hunk for each line of a text that is not the machine's own. The text begins behind line n.
+fn put_hunks(
+    out: &mut Vec<u8>,
+    player: &mut Player,
+    names: &Names,
+    n: u32,
     text: &[u8],
-    shown: Shown,
-) -> Result<Comparison, TextFault>
-    requires { length text.now ≤ most_bytes }
-    ensures { GivesOrFails spec.found_of result (spec.found_from shown config.now.names (booted config.now) 1 (Verdict.Yes, []) (pieces_of 10 text.now)) }
+) -> Result<(), AllocError>
+    requires steps { player.old.plain.steps ≤ n }
+    requires left { n + length text.now ≤ most_bytes }
+    ensures { OnOk result (out.new.items ≡ out.old.items ++ spec.hunks_from names.now player.old.plain.state (n + 1) (pieces_of 10 text.now)) }
 {
-    let names = config.names();
-    let mut plain = Plain::boot(config)?;
-    let mut own = Vec::new(alloc);
-    let mut found = Comparison {
-        verdict: Verdict::Yes,
-        lines: Vec::new(alloc),
-    };
-    let mut number: u32 = 1;
+    let mut number = n;
     let mut rest = text;
     while let Some((line, after)) = next_line(rest) {
-        answer_line(&mut own, &mut plain, names, number, line)?;
-        if found.add(shown, number, line, own.as_slice())? {
-            return Ok(found);
-        }
         number += 1;
+        if !player.play(names, number, line)? {
+            put_hunk(out, number, line, player.own.as_slice())?;
+        }
         rest = after;
     }
-    Ok(found)
+    Ok(())
 }
 
-#[tactic(auto, unfolding(crate::specs::Comparing::found_in, fmp_trace::specs::Reading::records_in))]
-fn compare_within(
+/// Adds what is shown of lines that differ, where this is the first of them.
+fn put_shown(out: &mut Vec<u8>, shown: Shown, names: &Names, stop: Stop) -> Result<(), AllocError>
+    requires steps { stop.player.plain.steps ≤ stop.number }
+    requires left { stop.number + length stop.rest.now ≤ most_bytes }
+    ensures { OnOk result (out.new.items ≡ out.old.items ++ spec.shown_from shown names.now (seen stop.entry.number stop.entry.line.now stop.entry.player.own.items stop.entry.player.plain.state (pieces_of 10 stop.entry.rest.now))) }
+{
+    let Stop {
+        mut player,
+        number,
+        line,
+        rest,
+    } = stop;
+    match shown {
+        Shown::First => put_pair(out, line, player.own.as_slice()),
+        Shown::Each => {
+            put_hunk(out, number, line, player.own.as_slice())?;
+            put_hunks(out, &mut player, names, number, rest)
+        }
+    }
+}
+
+#[tactic(auto, unfolding(crate::specs::Comparing::found_in))]
+fn comparison_of(
     alloc: Global,
     config: &Config,
     text: &[u8],
@@ -166,14 +126,15 @@ fn compare_within(
 ) -> Result<Comparison, TextFault>
     ensures { GivesOrFails spec.found_of result (spec.found_in shown config.now text.now) }
 {
-    if text.len() > MOST_BYTES {
-        return Err(TextFault {
-            kind: TextKind::TooMany,
-            line: 0,
-        });
+    let mut found = Comparison {
+        verdict: Verdict::Yes,
+        lines: Vec::new(alloc),
+    };
+    if let Some(stop) = walk(alloc, config, text)? {
+        found.verdict = Verdict::No(stop.number);
+        put_shown(&mut found.lines, shown, config.names(), stop)?;
     }
-    validate(alloc, text, config.names())?;
-    collect(alloc, config, text, shown)
+    Ok(found)
 }
 
 /// Compares a trace line by line with what the plain machine answers to the trace's own events, whatever it is that the
@@ -197,5 +158,5 @@ pub fn compare_lines(
     ensures fault { IfErr result (λ fault. FirstFault config.now.names text.now fault ⊎ IsMemory fault) }
 {
     config.names().validity();
-    compare_within(alloc, config, text, shown)
+    comparison_of(alloc, config, text, shown)
 }

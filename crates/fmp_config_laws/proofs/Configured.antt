@@ -87,7 +87,7 @@ tokens_say text c tokens s are =
     let r = clauses_reach s.clauses s.elements entered.entries blank_draft s.last bounded entered.are entered.tokens_are s.clauses_are s.say in
     (r.0, entered.read blank_draft None (outside r.0 None) r.1, r.2)
 
-setup_read : (text : List ℕ) (c : Setup) → Configures text c → setup_in (lexed_text text) ≡ Ok c
+pub setup_read : (text : List ℕ) (c : Setup) → Configures text c → setup_in (lexed_text text) ≡ Ok c
 unfolding setup_in
 setup_read text c s =
     let lexed = tokens_are_read text s.glyphs s.tokens_are in

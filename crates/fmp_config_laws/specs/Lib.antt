@@ -4,3 +4,4 @@ pub mod Clauses  -- What a text says, one after the other, apart from how it is 
 pub mod Stages  -- How far a text has come, the names that stand for numbers, and the numbers for which words stand.
 pub mod Meaning  -- What statements say: how a configuration grows by them, and which may follow it.
 pub mod Grammar  -- The grammar of configuration texts, apart from how they are read: which texts say which configuration.
+pub mod FirstFaults  -- At which token the first fault of a configuration text is found: what stands before it has none, and which texts have the same fault.

@@ -1,7 +1,16 @@
 -- What devices do.
-use Rattle.std.specs.Prelude.{◌≡◌, ◌≤◌, ℕ, zero, suc, Bool, true, false, List, [], ◌++◌, ◌==◌, ◌&&◌, nat_lt, length, take, Option, None, Some, Result, Ok, Err}
+use Rattle.std.specs.Prelude.{◌≡◌, ◌≤◌, ℕ, zero, suc, Bool, true, false, List, [], ◌++◌, ◌==◌, ◌&&◌, nat_lt, length, take, is_some, IsTrue, Option, None, Some, Result, Ok, Err}
 use Rattle.fmp_devices.specs.declared.whole.ReadFault.{ReadFault}
 use Rattle.fmp_devices.specs.declared.whole.ReadFault.TheVariants.{Failed, Memory}
+
+-- the bytes of a device are known: what it has left to read, or what was written to it
+abbrev pub IsKnown : Option (List ℕ) → Type 0
+IsKnown known = IsTrue (is_some known)
+
+-- these bytes, where they are known
+abbrev pub bytes_of : Option (List ℕ) → List ℕ
+bytes_of None = []
+bytes_of (Some bytes) = bytes
 
 -- a write failed: it answered an error, or 0 for a piece that is not empty
 abbrev pub is_failed_write : {E : Type 0} → Result ℕ E → List ℕ → Bool

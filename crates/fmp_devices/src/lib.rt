@@ -1,11 +1,12 @@
 //! Devices that bytes are read from and written to, and that can fail.
 //!
-//! A [`Source`] is read, a [`Sink`] is written to, and each counts its calls that failed. Those over memory ([`MemSource`],
-//! [`MemSink`]) tell their bytes, and contracts speak of them; they can be made to fail at a chosen call. Those over readers and
-//! writers of std ([`ReadSource`], [`WriteSink`]) tell none, so that of a file no more is said than what its calls answer.
+//! A [`Source`] is read, a [`Sink`] is written to, and each counts its calls that failed. Contracts speak of the bytes that a
+//! source has left and that a sink was given where these are known (`IsKnown`, `bytes_of` in `specs/Devices`). Those of devices over
+//! memory ([`MemSource`], [`MemSink`]) are, and these can be made to fail at a chosen call. Those over readers and writers of std
+//! ([`ReadSource`], [`WriteSink`]) pass on what is known of their reader or writer: the bytes of a slice, a cursor or a vector are,
+//! and of a file no more is said than what its calls answer.
 //!
-//! Every contract that speaks of bytes has the premise that its device tells them (`tells`). What is written after a failed call
-//! is a beginning of what was to be: `BeginsWith` in `specs/Devices`.
+//! What is written after a failed call is a beginning of what was to be: `BeginsWith` in `specs/Devices`.
 #![tactic(auto)]
 
 mod memory;

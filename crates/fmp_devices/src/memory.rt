@@ -1,5 +1,6 @@
-//! Devices over memory, which tell their bytes, and can be made to fail at a chosen call.
-ghost use Rattle.std.specs.Prelude.{◌≡◌, ◌+◌, ◌-◌, ◌^◌, ◌<◌, ◌≤◌, ◌++◌, [], true, length, take, min, vec_len, vec_capacity, IsTrue, IfOk, OnErr, is_err, None, Some, if◌then◌else◌};
+//! Devices over memory, whose bytes are known, and which can be made to fail at a chosen call.
+ghost use Rattle.std.specs.Prelude.{◌≡◌, ◌+◌, ◌-◌, ◌^◌, ◌<◌, ◌≤◌, [], length, min, vec_len, vec_capacity, IfOk, is_err, None, Some, if◌then◌else◌};
+ghost use Rattle.std.specs.Io.KnownBytes.{Keeps, ReadConsumes, WriteAppends};
 ghost use Rattle.fmp_devices.specs.Devices.{is_failed_write, is_turn, next_turn};
 
 use crate::sink::Sink;
@@ -57,9 +58,7 @@ fn takes_turn(until_failure: &mut Option<u64>) -> bool
 }
 
 impl Source for MemSource<'_> {
-    ghost tells = { true };
-
-    ghost left = { λ s. s.rest.now };
+    ghost left = { λ s. Some s.rest.now };
 
     ghost failures = { λ s. s.failures };
 
@@ -71,9 +70,7 @@ impl Source for MemSource<'_> {
         requires { self.old.failures < 2 ^ 64 - 1 }
         ensures fits { IfOk result (λ n. n ≤ length buffer.old) }
         ensures count { self.new.failures ≡ self.old.failures + (if is_err result then 1 else 0) }
-        ensures bytes { IsTrue true → IfOk result (λ n. self.old.rest.now ≡ take n buffer.new ++ self.new.rest.now) }
-        ensures end { IsTrue true → 0 < length buffer.old → IfOk result (λ n. n ≡ 0 → self.new.rest.now ≡ []) }
-        ensures err { IsTrue true → OnErr result (self.new.rest.now ≡ self.old.rest.now) }
+        ensures bytes { ReadConsumes (Some self.old.rest.now) (Some self.new.rest.now) result buffer.new }
 
         // It takes as much as fits, and fails at the chosen call.
         ensures most { IfOk result (λ n. n ≡ min (length self.old.rest.now) (length buffer.old)) }
@@ -133,9 +130,7 @@ impl MemSink {
 }
 
 impl Sink for MemSink {
-    ghost tells = { true };
-
-    ghost written = { λ s. s.bytes.items };
+    ghost written = { λ s. Some s.bytes.items };
 
     ghost buffered = { λ _. [] };
 
@@ -149,8 +144,7 @@ impl Sink for MemSink {
         requires { self.old.failures < 2 ^ 64 - 1 }
         ensures fits { IfOk result (λ n. n ≤ length piece.now) }
         ensures count { self.new.failures ≡ self.old.failures + (if is_failed_write result piece.now then 1 else 0) }
-        ensures bytes { IsTrue true → IfOk result (λ n. self.new.bytes.items ≡ self.old.bytes.items ++ take n piece.now) }
-        ensures err { IsTrue true → OnErr result (self.new.bytes.items ≡ self.old.bytes.items) }
+        ensures bytes { WriteAppends (Some self.old.bytes.items) (Some self.new.bytes.items) result piece.now }
 
         // It takes as much as fits, and fails at the chosen call.
         ensures most { IfOk result (λ n. n ≡ min (length piece.now) (self.old.room - vec_len self.old.bytes)) }
@@ -174,7 +168,7 @@ impl Sink for MemSink {
     fn flush(&mut self) -> Result<(), Failed>
         requires { self.old.failures < 2 ^ 64 - 1 }
         ensures count { self.new.failures ≡ self.old.failures + (if is_err result then 1 else 0) }
-        ensures bytes { IsTrue true → self.new.bytes.items ≡ self.old.bytes.items }
+        ensures bytes { Keeps (Some self.old.bytes.items) (Some self.new.bytes.items) }
 
         // It has nothing to do, and fails at the chosen call.
         ensures turn { is_err result ≡ is_turn self.old.until_failure }

@@ -1,16 +1,14 @@
 //! Devices that bytes are written to.
-ghost use Rattle.std.specs.Prelude.{◌≡◌, ◌+◌, ◌-◌, ◌^◌, ◌<◌, ◌≤◌, ◌++◌, [], ℕ, Bool, List, length, take, IsTrue, IfOk, OnOk, OnErr, is_err, if◌then◌else◌};
-ghost use Rattle.fmp_devices.specs.Devices.{is_failed_write, BeginsWith};
+ghost use Rattle.std.specs.Prelude.{◌≡◌, ◌+◌, ◌-◌, ◌^◌, ◌<◌, ◌≤◌, ◌++◌, [], ℕ, List, Option, length, IfOk, OnOk, OnErr, is_err, if◌then◌else◌};
+ghost use Rattle.std.specs.Io.KnownBytes.{Keeps, WriteAppends};
+ghost use Rattle.fmp_devices.specs.Devices.{is_failed_write, BeginsWith, IsKnown, bytes_of};
 
 use crate::source::Failed;
 
 /// A device that bytes are written to.
 pub trait Sink {
-    // Whether the contracts say which bytes were written. They do for memory, and not for files.
-    ghost tells: { Bool };
-
-    // The bytes that were written, where the device tells them.
-    ghost written: { Self → List ℕ };
+    // The bytes that were written, where they are known, as those in memory are. Those of a file are not.
+    ghost written: { Self → Option (List ℕ) };
 
     // The bytes that were written to the device and are held back in it, to be passed on together.
     ghost buffered: { Self → List ℕ };
@@ -27,23 +25,23 @@ pub trait Sink {
         requires { failures self.old < 2 ^ 64 - 1 }
         ensures fits { IfOk result (λ n. n ≤ length piece.now) }
         ensures count { failures self.new ≡ failures self.old + (if is_failed_write result piece.now then 1 else 0) }
-        ensures bytes { IsTrue tells → IfOk result (λ n. written self.new ≡ written self.old ++ take n piece.now) }
-        ensures err { IsTrue tells → OnErr result (written self.new ≡ written self.old) };
+        ensures bytes { WriteAppends (written self.old) (written self.new) result piece.now };
 
     /// Passes on what is held back. After a failed call some of it may still be.
     fn flush(&mut self) -> Result<(), Failed>
         requires { failures self.old < 2 ^ 64 - 1 }
         ensures count { failures self.new ≡ failures self.old + (if is_err result then 1 else 0) }
         ensures passed { OnOk result (buffered self.new ≡ []) }
-        ensures bytes { IsTrue tells → written self.new ≡ written self.old };
+        ensures bytes { Keeps (written self.old) (written self.new) };
 }
 
 /// Writes all of the bytes. After a failed call a prefix of them is out.
 pub fn write_all<W: Sink>(sink: &mut W, bytes: &[u8]) -> Result<(), Failed>
     requires { W.failures sink.old < 2 ^ 64 - 1 }
     ensures count { W.failures sink.new ≡ W.failures sink.old + (if is_err result then 1 else 0) }
-    ensures ok { IsTrue W.tells → OnOk result (W.written sink.new ≡ W.written sink.old ++ bytes.now) }
-    ensures err { IsTrue W.tells → OnErr result (BeginsWith (W.written sink.old) bytes.now (W.written sink.new)) }
+    ensures known { IsKnown (W.written sink.old) → IsKnown (W.written sink.new) }
+    ensures ok { IsKnown (W.written sink.old) → OnOk result (bytes_of (W.written sink.new) ≡ bytes_of (W.written sink.old) ++ bytes.now) }
+    ensures err { IsKnown (W.written sink.old) → OnErr result (BeginsWith (bytes_of (W.written sink.old)) bytes.now (bytes_of (W.written sink.new))) }
 {
     let mut done = 0;
     while done < bytes.len() {
@@ -61,8 +59,9 @@ pub fn write_out<W: Sink>(sink: &mut W, bytes: &[u8]) -> Result<(), Failed>
     requires { W.failures sink.old < 2 ^ 64 - 1 }
     ensures count { W.failures sink.new ≡ W.failures sink.old + (if is_err result then 1 else 0) }
     ensures passed { OnOk result (W.buffered sink.new ≡ []) }
-    ensures ok { IsTrue W.tells → OnOk result (W.written sink.new ≡ W.written sink.old ++ bytes.now) }
-    ensures err { IsTrue W.tells → OnErr result (BeginsWith (W.written sink.old) bytes.now (W.written sink.new)) }
+    ensures known { IsKnown (W.written sink.old) → IsKnown (W.written sink.new) }
+    ensures ok { IsKnown (W.written sink.old) → OnOk result (bytes_of (W.written sink.new) ≡ bytes_of (W.written sink.old) ++ bytes.now) }
+    ensures err { IsKnown (W.written sink.old) → OnErr result (BeginsWith (bytes_of (W.written sink.old)) bytes.now (bytes_of (W.written sink.new))) }
 {
     write_all(sink, bytes)?;
     sink.flush()

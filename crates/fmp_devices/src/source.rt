@@ -1,5 +1,6 @@
 //! Devices that bytes are read from.
-ghost use Rattle.std.specs.Prelude.{◌≡◌, ◌+◌, ◌-◌, ◌^◌, ◌<◌, ◌≤◌, ◌++◌, [], ℕ, Bool, List, length, take, IsTrue, IfOk, OnErr, is_err, if◌then◌else◌};
+ghost use Rattle.std.specs.Prelude.{◌≡◌, ◌+◌, ◌-◌, ◌^◌, ◌<◌, ◌≤◌, ℕ, List, Option, length, IfOk, is_err, if◌then◌else◌};
+ghost use Rattle.std.specs.Io.KnownBytes.{ReadConsumes};
 
 /// A call of a device that failed.
 #[derive(Clone, Copy, Debug, PartialEq, Eq)]
@@ -7,11 +8,8 @@ pub struct Failed;
 
 /// A device that bytes are read from.
 pub trait Source {
-    // Whether the contracts say which bytes are read. They do for memory, and not for files.
-    ghost tells: { Bool };
-
-    // The bytes that are left to read, where the device tells them.
-    ghost left: { Self → List ℕ };
+    // The bytes that are left to read, where they are known, as those of memory are. Those of a file are not.
+    ghost left: { Self → Option (List ℕ) };
 
     ghost failures: { Self → ℕ };
 
@@ -25,7 +23,5 @@ pub trait Source {
         requires { failures self.old < 2 ^ 64 - 1 }
         ensures fits { IfOk result (λ n. n ≤ length buffer.old) }
         ensures count { failures self.new ≡ failures self.old + (if is_err result then 1 else 0) }
-        ensures bytes { IsTrue tells → IfOk result (λ n. left self.old ≡ take n buffer.new ++ left self.new) }
-        ensures end { IsTrue tells → 0 < length buffer.old → IfOk result (λ n. n ≡ 0 → left self.new ≡ []) }
-        ensures err { IsTrue tells → OnErr result (left self.new ≡ left self.old) };
+        ensures bytes { ReadConsumes (left self.old) (left self.new) result buffer.new };
 }

@@ -1,5 +1,5 @@
 //! Readers and writers of std as devices.
-ghost use Rattle.std.specs.Prelude.{◌≡◌, ◌+◌, ◌-◌, ◌^◌, ◌<◌, ◌≤◌, false, [], length, IfOk, OnOk, is_err, if◌then◌else◌};
+ghost use Rattle.std.specs.Prelude.{◌≡◌, ◌+◌, ◌-◌, ◌^◌, ◌<◌, ◌≤◌, [], length, IfOk, OnOk, is_err, if◌then◌else◌};
 ghost use Rattle.std.specs.Io.Buffered.{writer_buffer, writer_contents, writer_inner};
 ghost use Rattle.std.specs.Io.KnownBytes.{Keeps, ReadConsumes, WriteAppends};
 ghost use Rattle.fmp_devices.specs.Devices.{is_failed_write};
@@ -13,7 +13,7 @@ use std::io::{BufWriter, Read, Write};
 /// How many bytes a sink holds back before it passes them on.
 const ROOM: usize = 65536;
 
-/// A reader of std as a source, which does not tell its bytes.
+/// A reader of std as a source. Its bytes are known where the reader's are, as those of a slice are and those of a file are not.
 #[derive(Drop)]
 pub struct ReadSource<R> {
     reader: R,
@@ -23,7 +23,8 @@ pub struct ReadSource<R> {
 impl<R> ReadSource<R> {
     /// A source over a reader, of which no call has failed.
     pub fn new(reader: R) -> ReadSource<R>
-        ensures { result.failures ≡ 0 }
+        ensures failures { result.failures ≡ 0 }
+        ensures reader { result.reader ≡ reader }
     {
         ReadSource {
             reader,
@@ -33,9 +34,7 @@ impl<R> ReadSource<R> {
 }
 
 impl<R: Read> Source for ReadSource<R> {
-    ghost tells = { false };
-
-    ghost left = { λ _. [] };
+    ghost left = { λ s. R.remaining s.reader };
 
     ghost failures = { λ s. s.failures };
 
@@ -47,9 +46,7 @@ impl<R: Read> Source for ReadSource<R> {
         requires { self.old.failures < 2 ^ 64 - 1 }
         ensures fits { IfOk result (λ n. n ≤ length buffer.old) }
         ensures count { self.new.failures ≡ self.old.failures + (if is_err result then 1 else 0) }
-
-        // What it answers is what the reader did.
-        ensures reader { ReadConsumes (R.remaining self.old.reader) (R.remaining self.new.reader) result buffer.new }
+        ensures bytes { ReadConsumes (R.remaining self.old.reader) (R.remaining self.new.reader) result buffer.new }
     {
         match self.reader.read(buffer) {
             Ok(count) => Ok(count),
@@ -61,7 +58,7 @@ impl<R: Read> Source for ReadSource<R> {
     }
 }
 
-/// A writer of std behind a buffer as a sink, which does not tell its bytes.
+/// A writer of std behind a buffer as a sink. What was written is known where the writer's bytes are: those, and what is held back.
 #[derive(Drop)]
 pub struct WriteSink<W: Write + Drop> {
     writer: BufWriter<W>,
@@ -84,9 +81,7 @@ impl<W: Write + Drop> WriteSink<W> {
 }
 
 impl<W: Write + Drop> Sink for WriteSink<W> {
-    ghost tells = { false };
-
-    ghost written = { λ _. [] };
+    ghost written = { λ s. writer_contents W.contents s.writer };
 
     ghost buffered = { λ s. writer_buffer s.writer };
 
@@ -100,9 +95,7 @@ impl<W: Write + Drop> Sink for WriteSink<W> {
         requires { self.old.failures < 2 ^ 64 - 1 }
         ensures fits { IfOk result (λ n. n ≤ length piece.now) }
         ensures count { self.new.failures ≡ self.old.failures + (if is_failed_write result piece.now then 1 else 0) }
-
-        // What it answers is what the writer did.
-        ensures writer { WriteAppends (writer_contents W.contents self.old.writer) (writer_contents W.contents self.new.writer) result piece.now }
+        ensures bytes { WriteAppends (writer_contents W.contents self.old.writer) (writer_contents W.contents self.new.writer) result piece.now }
     {
         match self.writer.write(piece) {
             Ok(count) => {
@@ -121,10 +114,8 @@ impl<W: Write + Drop> Sink for WriteSink<W> {
     fn flush(&mut self) -> Result<(), Failed>
         requires { self.old.failures < 2 ^ 64 - 1 }
         ensures count { self.new.failures ≡ self.old.failures + (if is_err result then 1 else 0) }
-
-        // After a flush that goes well the writer has all bytes, and after any flush they are the same ones.
         ensures passed { OnOk result (writer_buffer self.new.writer ≡ []) }
-        ensures writer { Keeps (writer_contents W.contents self.old.writer) (writer_contents W.contents self.new.writer) }
+        ensures bytes { Keeps (writer_contents W.contents self.old.writer) (writer_contents W.contents self.new.writer) }
     {
         match self.writer.flush() {
             Ok(()) => Ok(()),

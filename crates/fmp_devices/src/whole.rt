@@ -1,6 +1,6 @@
 //! Reading a text whole.
-ghost use Rattle.std.specs.Prelude.{◌≡◌, ◌+◌, ◌-◌, ◌^◌, ◌<◌, replicate, vec_len, IsTrue, IfOk, if◌then◌else◌};
-ghost use Rattle.fmp_devices.specs.Devices.{ReadUpTo, is_read_failure};
+ghost use Rattle.std.specs.Prelude.{◌≡◌, ◌+◌, ◌-◌, ◌^◌, ◌<◌, ◌≤◌, replicate, vec_len, IfOk, if◌then◌else◌};
+ghost use Rattle.fmp_devices.specs.Devices.{IsKnown, ReadUpTo, bytes_of, is_read_failure};
 
 use crate::source::{Failed, Source};
 use std::alloc::{AllocError, Global};
@@ -22,7 +22,7 @@ pub fn new_piece(alloc: Global) -> Result<Vec<u8>, AllocError>
     vec![in alloc; 0u8; PIECE]
 }
 
-/// Reads the whole text, or, of a text longer than the limit, a prefix that is longer than the limit too.
+/// Reads the whole text, or, of a text longer than the limit, a prefix that is longer than the limit too, by 64 KiB at most.
 pub fn read_up_to<S: Source>(
     alloc: Global,
     source: &mut S,
@@ -30,7 +30,9 @@ pub fn read_up_to<S: Source>(
 ) -> Result<Vec<u8>, ReadFault>
     requires { S.failures source.old < 2 ^ 64 - 1 }
     ensures count { S.failures source.new ≡ S.failures source.old + (if is_read_failure result then 1 else 0) }
-    ensures ok { IsTrue S.tells → IfOk result (λ text. ReadUpTo limit (S.left source.old) text.items (S.left source.new)) }
+    ensures bound { IfOk result (λ text. vec_len text ≤ limit + 65536) }
+    ensures known { IsKnown (S.left source.old) → IsKnown (S.left source.new) }
+    ensures ok { IsKnown (S.left source.old) → IfOk result (λ text. ReadUpTo limit (bytes_of (S.left source.old)) text.items (bytes_of (S.left source.new))) }
 {
     let mut text = Vec::new(alloc);
     let mut piece = new_piece(alloc).map_err(|_| ReadFault::Memory)?;

@@ -7,7 +7,7 @@ use fmp_codes::Runner;
 use std::marker::Model;
 
 /// The handlers that are due on a processor, at most 64, in a ring from the oldest one on. The first one runs.
-#[derive(Debug, Drop)]
+#[derive(Drop)]
 pub(crate) struct Due {
     slots: [Runner; 64],
     oldest: usize,

@@ -10,5 +10,6 @@
 
 mod dispatch;
 mod due;
+mod operations;
 
 pub use dispatch::Dispatch;

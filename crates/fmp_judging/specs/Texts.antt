@@ -13,7 +13,7 @@ use Rattle.fmp_machine.specs.Boot.{booted}
 use Rattle.fmp_machine.specs.Arrivals.{numbered}
 use Rattle.fmp_machine.specs.Step.{answers}
 use Rattle.fmp_safety.specs.Runs.{IsSafeThroughout}
-use Rattle.fmp_balance.specs.Balance.{IsBalancedThroughout}
+use Rattle.fmp_headline.specs.Headline.{HeadlineThroughout}
 use Rattle.fmp_trace.specs.Lines.{lines_from}
 use Rattle.fmp_judging.specs.declared.fault.RunFault.{RunFault}
 use Rattle.fmp_judging.specs.declared.fault.RunFault.TheVariants as run
@@ -24,8 +24,8 @@ pub record SaysConfig (text : List ℕ) (config : Setup) : Type 0 where
   pub configures : Configures text config
   pub short : length text ≤ most_bytes
 
--- The output is the trace of the one text's machine over the other's events. Every prefix of these leads to a safe state, in
--- which what the records so far say came in and went out agrees with what is there.
+-- The output is the trace of the one text's machine over the other's events. Every prefix of these leads to a safe state, and
+-- the headline holds there.
 pub record Answered (config_text event_text output : List ℕ) : Type 0 where
   pub config : Setup
   pub events : List Event
@@ -33,7 +33,7 @@ pub record Answered (config_text event_text output : List ℕ) : Type 0 where
   pub lists : SpellsText config.names event_text events
   pub prints : output ≡ lines_from config.names 1 (answers numbered (booted config) events)
   pub safe : IsSafeThroughout (booted config) events
-  pub balanced : IsBalancedThroughout config events (answers numbered (booted config) events)
+  pub headline : HeadlineThroughout config events (answers numbered (booted config) events)
 
 -- a fault of the configuration is the first one of its text, or want of memory
 abbrev pub FirstConfigFault : List ℕ → RunFault → Type 0
@@ -54,5 +54,11 @@ FirstScriptFault config_text script_text other = Unit {0}
 -- of two readers one read failed where the run ended so, and else none
 pub record CountsReads {T : Type 0} (result : Result T RunFault) (first_old first_new second_old second_new : ℕ) : Type 0 where
   pub sum : first_new + second_new ≡ first_old + second_old + (if failed_read result then 1 else 0)
+  pub first : first_old ≤ first_new
+  pub second : second_old ≤ second_new
+
+-- of two readers at most one read failed
+pub record FailsOnce (first_old first_new second_old second_new : ℕ) : Type 0 where
+  pub sum : first_new + second_new ≤ first_old + second_old + 1
   pub first : first_old ≤ first_new
   pub second : second_old ≤ second_new

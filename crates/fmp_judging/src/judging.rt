@@ -1,8 +1,9 @@
 //! A trace that is read and judged.
-ghost use Rattle.std.specs.Prelude.{◌≡◌, ℕ, ◌+◌, ◌-◌, ◌^◌, ◌<◌, ◌≤◌, List, [], length, IsTrue, OnOk, IfOk, IfErr, false, if◌then◌else◌};
+ghost use Rattle.std.specs.Prelude.{◌≡◌, ℕ, ◌+◌, ◌-◌, ◌^◌, ◌<◌, ◌≤◌, List, [], length, OnOk, IfOk, IfErr, false, if◌then◌else◌};
 ghost use Rattle.fmp_codes.specs.declared.records.Event.{Event as AnyEvent};
 ghost use Rattle.fmp_text.specs.Limits.{most_bytes as MOST_BYTES};
 ghost use Rattle.fmp_check.specs.Checking.{Judges, PrintsAnswers};
+ghost use Rattle.fmp_devices.specs.Devices.{IsKnown, bytes_of};
 ghost use Rattle.fmp_judging.specs.Faults.{failed_read, failed_write, is_config, is_write, is_thread_fault};
 ghost use Rattle.fmp_judging.specs.Texts.{Answered, CountsReads, FirstConfigFault, SaysConfig};
 ghost use Rattle.fmp_judging.specs.Traces.{Checked, IsFirstOfTrace, IsOwn, IsYes, FirstTraceFault, verdict_in};
@@ -26,11 +27,11 @@ pub struct Judged {
 fn judged_by<S: Source>(alloc: Global, config: Config, trace: &mut S) -> Result<Judged, RunFault>
     requires { S.failures trace.old < 2 ^ 64 - 1 }
     ensures config { IfOk result (λ judged. judged.config ≡ config) }
-    ensures text { IsTrue S.tells → IfOk result (λ judged. judged.text.items ≡ S.left trace.old) }
+    ensures text { IsKnown (S.left trace.old) → IfOk result (λ judged. judged.text.items ≡ bytes_of (S.left trace.old)) }
     ensures judged { IfOk result (λ judged. Judges judged.config judged.text.items judged.verdict) }
-    ensures answers { IsTrue S.tells → (events : List AnyEvent) → PrintsAnswers config (S.left trace.old) events → IsYes (verdict_in result) }
-    ensures read { IsTrue S.tells → OnOk result (S.left trace.new ≡ []) }
-    ensures fault { IsTrue S.tells → IfErr result (IsFirstOfTrace config.names (S.left trace.old)) }
+    ensures answers { IsKnown (S.left trace.old) → (events : List AnyEvent) → PrintsAnswers config (bytes_of (S.left trace.old)) events → IsYes (verdict_in result) }
+    ensures read { IsKnown (S.left trace.old) → OnOk result (bytes_of (S.left trace.new) ≡ []) }
+    ensures fault { IsKnown (S.left trace.old) → IfErr result (IsFirstOfTrace config.names (bytes_of (S.left trace.old))) }
     ensures kinds { IfErr result (λ fault. (is_config fault ≡ false) × (is_write fault ≡ false)) }
     ensures no_thread_fault { IfErr result (λ fault. is_thread_fault fault ≡ false) }
     ensures count { S.failures trace.new ≡ S.failures trace.old + (if failed_read result then 1 else 0) }
@@ -57,18 +58,18 @@ pub fn judged_texts<R: Source, S: Source>(
     requires config_calls { R.failures config.old < 2 ^ 64 - 1 }
     requires trace_calls { S.failures trace.old < 2 ^ 64 - 1 }
 
-    ensures says { IsTrue R.tells → IfOk result (λ judged. SaysConfig (R.left config.old) judged.config) }
-    ensures text { IsTrue S.tells → IfOk result (λ judged. judged.text.items ≡ S.left trace.old) }
+    ensures says { IsKnown (R.left config.old) → IfOk result (λ judged. SaysConfig (bytes_of (R.left config.old)) judged.config) }
+    ensures text { IsKnown (S.left trace.old) → IfOk result (λ judged. judged.text.items ≡ bytes_of (S.left trace.old)) }
     ensures judged { IfOk result (λ judged. Judges judged.config judged.text.items judged.verdict) }
-    ensures checked { IsTrue R.tells → IsTrue S.tells → IfOk result (λ judged. Checked (R.left config.old) (S.left trace.old) judged.verdict) }
-    ensures answers { IsTrue R.tells → IsTrue S.tells → (event_text : List ℕ) → Answered (R.left config.old) event_text (S.left trace.old)
-        → length (S.left trace.old) ≤ MOST_BYTES → IsYes (verdict_in result) }
-    ensures own { IsTrue R.tells → IsTrue S.tells → IsOwn (R.left config.old) (S.left trace.old) → IsYes (verdict_in result) }
-    ensures config_read { IsTrue R.tells → OnOk result (R.left config.new ≡ []) }
-    ensures trace_read { IsTrue S.tells → OnOk result (S.left trace.new ≡ []) }
+    ensures checked { IsKnown (R.left config.old) → IsKnown (S.left trace.old) → IfOk result (λ judged. Checked (bytes_of (R.left config.old)) (bytes_of (S.left trace.old)) judged.verdict) }
+    ensures answers { IsKnown (R.left config.old) → IsKnown (S.left trace.old) → (event_text : List ℕ) → Answered (bytes_of (R.left config.old)) event_text (bytes_of (S.left trace.old))
+        → length (bytes_of (S.left trace.old)) ≤ MOST_BYTES → IsYes (verdict_in result) }
+    ensures own { IsKnown (R.left config.old) → IsKnown (S.left trace.old) → IsOwn (bytes_of (R.left config.old)) (bytes_of (S.left trace.old)) → IsYes (verdict_in result) }
+    ensures config_read { IsKnown (R.left config.old) → OnOk result (bytes_of (R.left config.new) ≡ []) }
+    ensures trace_read { IsKnown (S.left trace.old) → OnOk result (bytes_of (S.left trace.new) ≡ []) }
 
-    ensures config_fault { IsTrue R.tells → IfErr result (FirstConfigFault (R.left config.old)) }
-    ensures text_fault { IsTrue R.tells → IsTrue S.tells → IfErr result (FirstTraceFault (R.left config.old) (S.left trace.old)) }
+    ensures config_fault { IsKnown (R.left config.old) → IfErr result (FirstConfigFault (bytes_of (R.left config.old))) }
+    ensures text_fault { IsKnown (R.left config.old) → IsKnown (S.left trace.old) → IfErr result (FirstTraceFault (bytes_of (R.left config.old)) (bytes_of (S.left trace.old))) }
     ensures reads { CountsReads result (R.failures config.old) (R.failures config.new) (S.failures trace.old) (S.failures trace.new) }
     ensures no_write { failed_write result ≡ false }
     ensures no_thread_fault { IfErr result (λ fault. is_thread_fault fault ≡ false) }

@@ -3,7 +3,7 @@
 //! [`config_from`] and [`scripts_from`] read a text to its end through a device and judge it; [`judged_texts`] reads a
 //! configuration and a trace, and says with [`Judged`] whether the trace is the machine's own. None of them has a writer in hand.
 //! Why a run did not go to its end is a [`RunFault`], the line that tells it to a user a [`FaultLine`], and what the program ends
-//! with a [`Status`].
+//! with a [`Status`]. However a run ended, [`pass_on`] passes on what its sink holds back.
 //!
 //! What a text says, and that a fault is its first one, is stated in `specs/Texts` by grammars that know no reader; what a
 //! verdict says in `specs/Traces`.
@@ -11,10 +11,12 @@
 
 mod fault;
 mod judging;
+mod passing;
 mod status;
 mod texts;
 
 pub use fault::{FaultLine, RunFault};
 pub use judging::{Judged, judged_texts};
+pub use passing::pass_on;
 pub use status::Status;
 pub use texts::{config_from, scripts_from};

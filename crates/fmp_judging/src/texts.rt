@@ -1,7 +1,8 @@
 //! Reading the configuration and the scripts of a run, and judging them.
-ghost use Rattle.std.specs.Prelude.{◌≡◌, ◌+◌, ◌-◌, ◌≤◌, ◌^◌, ◌<◌, [], IsTrue, OnOk, IfOk, IfErr, false, if◌then◌else◌};
+ghost use Rattle.std.specs.Prelude.{◌≡◌, ◌+◌, ◌-◌, ◌≤◌, ◌^◌, ◌<◌, [], OnOk, IfOk, IfErr, false, if◌then◌else◌};
 ghost use Rattle.fmp_scripts.specs.ScriptGrammar.{SpellsScripts};
 ghost use Rattle.fmp_scripts.specs.Scripts.{AreInBits};
+ghost use Rattle.fmp_devices.specs.Devices.{IsKnown, bytes_of};
 ghost use Rattle.fmp_judging.specs.Faults.{failed_read, is_config, is_thread_fault, is_text, is_write};
 ghost use Rattle.fmp_judging.specs.Texts.{FirstConfigFault, IsFirstOfScripts, SaysConfig};
 
@@ -15,9 +16,9 @@ use std::alloc::Global;
 /// Reads a configuration to its end, and judges it.
 pub fn config_from<R: Source>(alloc: Global, source: &mut R) -> Result<Config, RunFault>
     requires { R.failures source.old < 2 ^ 64 - 1 }
-    ensures ok { IsTrue R.tells → IfOk result (λ config. SaysConfig (R.left source.old) config) }
-    ensures read { IsTrue R.tells → OnOk result (R.left source.new ≡ []) }
-    ensures fault { IsTrue R.tells → IfErr result (FirstConfigFault (R.left source.old)) }
+    ensures ok { IsKnown (R.left source.old) → IfOk result (λ config. SaysConfig (bytes_of (R.left source.old)) config) }
+    ensures read { IsKnown (R.left source.old) → OnOk result (bytes_of (R.left source.new) ≡ []) }
+    ensures fault { IsKnown (R.left source.old) → IfErr result (FirstConfigFault (bytes_of (R.left source.old))) }
     ensures kinds { IfErr result (λ fault. (is_text fault ≡ false) × (is_write fault ≡ false)) }
     ensures no_thread_fault { IfErr result (λ fault. is_thread_fault fault ≡ false) }
     ensures count { R.failures source.new ≡ R.failures source.old + (if failed_read result then 1 else 0) }
@@ -36,10 +37,10 @@ pub fn scripts_from<S: Source>(
     source: &mut S,
 ) -> Result<Scripts, RunFault>
     requires { S.failures source.old < 2 ^ 64 - 1 }
-    ensures ok { IsTrue S.tells → IfOk result (SpellsScripts names.now (S.left source.old)) }
+    ensures ok { IsKnown (S.left source.old) → IfOk result (SpellsScripts names.now (bytes_of (S.left source.old))) }
     ensures in_bits { IfOk result AreInBits }
-    ensures read { IsTrue S.tells → OnOk result (S.left source.new ≡ []) }
-    ensures fault { IsTrue S.tells → IfErr result (IsFirstOfScripts names.now (S.left source.old)) }
+    ensures read { IsKnown (S.left source.old) → OnOk result (bytes_of (S.left source.new) ≡ []) }
+    ensures fault { IsKnown (S.left source.old) → IfErr result (IsFirstOfScripts names.now (bytes_of (S.left source.old))) }
     ensures kinds { IfErr result (λ fault. (is_config fault ≡ false) × (is_write fault ≡ false)) }
     ensures no_thread_fault { IfErr result (λ fault. is_thread_fault fault ≡ false) }
     ensures count { S.failures source.new ≡ S.failures source.old + (if failed_read result then 1 else 0) }

@@ -1,5 +1,6 @@
 //! The kernel, which stands for a safe state of the model.
 ghost use Rattle.std.specs.Prelude.{◌≡◌, ◌≤◌, length, IfOk};
+ghost use Rattle.fmp_machine.specs.Boot as machine;
 ghost use Rattle.fmp_machine.specs.Boot.{booted};
 ghost use Rattle.fmp_setup.specs.Valid.{IsValid};
 ghost use Rattle.fmp_machine.specs.Arrivals.{State, numbered};
@@ -7,7 +8,7 @@ ghost use Rattle.fmp_machine.specs.Step.{step};
 ghost use Rattle.fmp_safety.specs.Safe.{Safe};
 ghost use Rattle.fmp_safety.specs.Runs.{processor_of};
 ghost use Rattle.fmp_safety.specs.Laws.{FindsNothing, TakesRequest, RunsTop};
-ghost use Rattle.fmp_queues.specs.Queues.{listed};
+ghost use Rattle.fmp_queues.specs.Queues.{listed, no_queues};
 ghost use Rattle.fmp_lists.specs.Stands.{Stands};
 ghost use Rattle.fmp_lists.specs.Laws.{ListsAreRight};
 
@@ -42,6 +43,11 @@ impl Kernel {
         ensures stands { IfOk result (λ k. Stands k (booted config.now)) }
         ensures processors { IfOk result (λ k. length k.processors ≡ config.now.processors) }
         ensures valid { IfOk result (λ k. IsValid config.now) }
+
+        // What the state at boot is, read on its own fields.
+        ensures same { IfOk result (λ k. k ≡ machine.boot listed (no_queues config.now) config.now) }
+        ensures safe { IfOk result (λ k. Safe listed k) }
+        ensures lists { IfOk result (λ k. ListsAreRight k) }
     {
         let mut machine = Machine::blank(config)?;
         boot(&mut machine, config);
@@ -56,6 +62,7 @@ impl Kernel {
         ensures processors { length self.new.processors ≡ length self.old.processors }
 
         // What the new state is, read on its own fields.
+        ensures same { (self.new, result) ≡ step listed self.old event }
         ensures safe { Safe listed self.new }
         ensures lists { ListsAreRight self.new }
 
@@ -77,6 +84,7 @@ impl Kernel {
         ensures processors { length self.new.processors ≡ length self.old.processors }
 
         // As of `step`.
+        ensures same { (self.new, told.new) ≡ step listed self.old event }
         ensures safe { Safe listed self.new }
         ensures lists { ListsAreRight self.new }
         ensures nothing { FindsNothing listed self.old event told.new self.new }

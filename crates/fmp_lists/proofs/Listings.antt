@@ -1,15 +1,16 @@
 -- Lists that have the tasks that qualify, in an order.
-use Rattle.std.proofs.Common.{◌≡◌, ℕ, zero, suc, ◌<◌, ◌≤◌, Bool, true, false, not, ◌&&◌, ◌||◌, List, [], ◌∷◌, ◌++◌, refl, sym, ap, ◌∙◌, subst, arith, ⊎_elim}
+use Rattle.std.proofs.Common.{◌≡◌, ℕ, zero, suc, ◌+◌, zero-add, ◌<◌, ◌≤◌, Bool, cond, true, false, not, ◌&&◌, ◌||◌, List, [], ◌∷◌, ◌++◌, refl, sym, ap, ◌∙◌, subst, arith, ⊎_elim}
 use Rattle.std.specs.Prelude.{nat_le}
 use Rattle.std.proofs.lemmas.Bool.{cases_eq, cases_lt, cases_Bool, cond_both, both_ways, or_cases, or_left, or_right, and_parts, and_from, and_right, eqb-true, eqb-false, eq-eqb, ne_eqb, false≢true, le-leb, lt-leb, leb-true}
 use Rattle.std.proofs.lemmas.Map.Views.{any-filter_same}
 use Rattle.std.proofs.lemmas.List.Folds.{list_any-append}
+use Rattle.std.proofs.lemmas.List.Sums.{sum_by-cons}
 use Rattle.fmp_codes.specs.Numbers.{as_task, within}
 use Rattle.fmp_machine.specs.Arrivals.{inserted, inserted_if, in_order}
 use Rattle.fmp_safety.specs.First.{IsStrict}
 use Rattle.fmp_codes.specs.declared.numbers.Task.{Task}
 use Rattle.fmp_links.specs.Tasks.{has_task, without}
-use Rattle.fmp_lists.specs.Listing.{is_task, all_but, AllAfter, IsInOrder, IsListOf, IsTotal}
+use Rattle.fmp_lists.specs.Listing.{is_task, times, StandsOnceIf, all_but, AllAfter, IsInOrder, IsListOf, IsTotal}
 use Rattle.fmp_safety.proofs.Items.{task_same}
 
 pub itself : (t : Task) → is_task t t ≡ true
@@ -40,6 +41,15 @@ order_agree : (before after : Task → Task → Bool) (us : List Task) →
 order_agree before after [] h a = tt
 order_agree before after (t ∷ us) h a =
     (after_agree before after t us (λ u i. h t u (head_in t us) (or_right _ _ i)) a.0, order_agree before after us (λ u v i j. h u v (or_right _ _ i) (or_right _ _ j)) a.1)
+
+swapped_true : (t u : Task) → is_task t u ≡ true → is_task u t ≡ true
+swapped_true t u e = eq-eqb u.number t.number (sym (eqb-true t.number u.number e))
+
+times_head_yes : (t u : Task) (us : List Task) → is_task t u ≡ true → times t (u ∷ us) ≡ 1 + times t us
+times_head_yes t u us e = sum_by-cons (λ v. cond (is_task t v) 1 0) u us ∙ ap (λ b. cond b 1 0 + times t us) e
+
+times_head_no : (t u : Task) (us : List Task) → is_task t u ≡ false → times t (u ∷ us) ≡ times t us
+times_head_no t u us e = sum_by-cons (λ v. cond (is_task t v) 1 0) u us ∙ ap (λ b. cond b 1 0 + times t us) e ∙ zero-add (times t us)
 
 pub listing_agree : {p q : Task → Bool} {before after : Task → Task → Bool} {us : List Task} → ((t : Task) → p t ≡ q t) →
     ((t u : Task) → q t ≡ true → q u ≡ true → before t u ≡ after t u) → IsListOf p before us → IsListOf q after us
@@ -265,3 +275,28 @@ pub listing_last : (u : Task) (q : Task → Bool) (before : Task → Task → Bo
     ((t : Task) → is_task t u ≡ false → q t ≡ true → before t u ≡ true) → IsListOf (all_but u q) before us → IsListOf q before (us ++ u ∷ [])
 listing_last u q before s us mine later l =
     subst (IsListOf q before) (inserted_last u us) (listing_in u q before s (λ t v. false) us mine (λ t d m g. absurd (false≢true g)) (λ t d m g. later t d m) l)
+
+-- A list in an order has each of its tasks once.
+
+-- what all others come after stands not among them
+not_after : {before : Task → Task → Bool} → IsStrict before → (t u : Task) (us : List Task) → is_task t u ≡ true → AllAfter before u us → times t us ≡ 0
+not_after s t u [] e a = refl
+not_after {before} s t u (v ∷ us) e a =
+    ⊎_elim
+    (λ (same : is_task t v ≡ true).
+    let itself_first : before u u ≡ true = at_same (λ x. before u x ≡ true) u v (at_same (λ x. is_task x v ≡ true) u t (swapped_true t u e) same) a.0 in
+    absurd (both_ways _ (s.irreflexive u) itself_first))
+    (λ (other : is_task t v ≡ false). times_head_no t v us other ∙ not_after s t u us e a.1)
+    (cases_Bool (is_task t v))
+
+once : {before : Task → Task → Bool} → IsStrict before → (t : Task) (us : List Task) → IsInOrder before us → StandsOnceIf (has_task t us) t us
+once s t [] a = refl
+once s t (u ∷ us) a =
+    ⊎_elim
+    (λ (same : is_task t u ≡ true).
+    times_head_yes t u us same ∙ ap (λ n. 1 + n) (not_after s t u us same a.0) ∙ ap (λ b. cond (b || has_task t us) 1 0) (sym same))
+    (λ (other : is_task t u ≡ false). times_head_no t u us other ∙ once s t us a.1 ∙ ap (λ b. cond (b || has_task t us) 1 0) (sym other))
+    (cases_Bool (is_task t u))
+
+pub listed_once : {q : Task → Bool} {before : Task → Task → Bool} {us : List Task} → IsStrict before → IsListOf q before us → (t : Task) → StandsOnceIf (q t) t us
+listed_once {q} {before} {us} s l t = subst (λ b. StandsOnceIf b t us) (l.members t) (once s t us l.ordered)

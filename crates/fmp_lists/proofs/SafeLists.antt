@@ -5,11 +5,13 @@ use Rattle.fmp_machine.specs.declared.machine.Wait.{Wait}
 use Rattle.fmp_machine.specs.declared.machine.Wait.TheVariants as wait
 use Rattle.fmp_machine.specs.World.{World}
 use Rattle.fmp_machine.specs.Ordering.{Ordering, top, order_in}
-use Rattle.fmp_machine.specs.Arrivals.{State, numbered}
+use Rattle.fmp_machine.specs.Arrivals.{State, numbered, priority_in, rank_in}
+use Rattle.fmp_safety.proofs.First.{comes_before_is_strict}
 use Rattle.fmp_safety.specs.Safe.{MayWait, Safe}
 use Rattle.fmp_queues.specs.Queues.{Queues, listed}
 use Rattle.fmp_lists.specs.Stands.{count_in, with_order, Stands}
 use Rattle.fmp_lists.specs.Laws.{TellsAlike, ListsAreRight}
+use Rattle.fmp_lists.proofs.Listings.{listed_once}
 use Rattle.fmp_lists.proofs.Tops.{same_top, same_ready, same_waiters, same_timed}
 
 module _ {Q R : Type 0} (k : Ordering Q) (l : Ordering R) (w : World Q) (x : R) where
@@ -65,7 +67,7 @@ module _ (k : World Queues) (m : State) (h : Stands k m) where
   pub lists_are_right : ListsAreRight k
   unfolding listed
   lists_are_right = subst ListsAreRight (sym h.same) (record {
-    ready = λ p n t. (h.order.ready.lists p n).members t;
-    waiters = λ x o t. (h.order.waits.lists x o).members t;
-    timed = λ t. h.order.waits.timed.members t;
+    ready = λ p n t. listed_once (comes_before_is_strict (priority_in m.tasks) m.order.ready) (h.order.ready.lists p n) t;
+    waiters = λ x o t. listed_once (comes_before_is_strict (rank_in (order_in m x o) m.tasks) m.order.begun) (h.order.waits.lists x o) t;
+    timed = λ t. listed_once (comes_before_is_strict (λ u. 0) m.order.begun) h.order.waits.timed t;
   })

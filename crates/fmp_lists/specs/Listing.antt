@@ -1,10 +1,18 @@
 -- Lists of tasks in which each of some tasks stands once, in an order.
-use Rattle.std.specs.Prelude.{◌≡◌, ◌==◌, not, ◌&&◌, Bool, true, false, List, [], ◌∷◌}
+use Rattle.std.specs.Prelude.{◌≡◌, ℕ, ◌==◌, not, ◌&&◌, Bool, true, false, List, [], ◌∷◌, if◌then◌else◌, count_by}
 use Rattle.fmp_codes.specs.declared.numbers.Task.{Task}
 use Rattle.fmp_links.specs.Tasks.{has_task}
 
 abbrev pub is_task : Task → Task → Bool
 is_task t u = t.number == u.number
+
+-- how often a task stands in a list
+abbrev pub times : Task → List Task → ℕ
+times t us = count_by (is_task t) us
+
+-- it stands there once where it is to stand there, and else not at all
+abbrev pub StandsOnceIf : Bool → Task → List Task → Type 0
+StandsOnceIf here t us = times t us ≡ (if here then 1 else 0)
 
 -- all that qualify but one
 abbrev pub all_but : Task → (Task → Bool) → Task → Bool

@@ -1,9 +1,11 @@
-//! Tests of the kernel's parts: the ready queues, timers and wait queues do what plain lists do, over many commands, and the
-//! objects for which tasks wait answer as the rules say.
+//! Tests of the kernel's parts: the ready queues, timers and wait queues do what plain lists do, over many commands, and tasks,
+//! spin locks, processors and the objects for which tasks wait answer each operation as the rules say.
 #![tactic(auto)]
 
 #[cfg(test)]
 mod data_queues;
+#[cfg(test)]
+mod dispatching;
 #[cfg(test)]
 mod eventflags;
 #[cfg(test)]
@@ -13,6 +15,10 @@ pub mod random;
 mod ready;
 #[cfg(test)]
 mod semaphores;
+#[cfg(test)]
+mod spin_locks;
+#[cfg(test)]
+mod tasks;
 #[cfg(test)]
 mod time;
 #[cfg(test)]

@@ -8,7 +8,7 @@ use std::test::Fail;
 fn ready_bits(rt: HostRuntime) -> Result<(), Fail> {
     let (p, low, high) = (Proc::new(1), Task::new(1), Task::new(2));
     let mut queues = ReadyQueues::new();
-    queues.put_last(p, Pri::new(16), low);
+    queues.insert(p, Pri::new(16), low);
     queues.put_last(p, Pri::new(1), high);
     assert!(rt; queues.word(p) == 0x8001 && queues.top(p) == Some(high));
     queues.remove(high);

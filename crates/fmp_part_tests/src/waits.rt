@@ -41,9 +41,10 @@ impl Plain {
     }
 }
 
-/// One command, to the queue and to the plain list, and whether they are the same afterwards.
+/// One command, to the queue of this order and to the plain list, and whether they are the same afterwards.
 fn agrees(
     random: &mut Random,
+    order: Order,
     queue: &mut WaitQueue,
     plain: &mut Plain,
 ) -> Result<bool, AllocError> {
@@ -54,7 +55,7 @@ fn agrees(
     }
     let priority = Pri::new(random.below(32) as u8 + 1);
     queue.place(task, priority);
-    let rank = match queue.order() {
+    let rank = match order {
         Order::First => 0,
         Order::Priority => priority.number,
     };
@@ -75,7 +76,7 @@ fn waits_same(rt: HostRuntime) -> Result<(), Fail> {
         let mut plain = Plain(Vec::new(rt.alloc()));
         for step in 0..COMMANDS {
             assert!(rt;
-                agrees(&mut random, &mut queue, &mut plain)?,
+                agrees(&mut random, order, &mut queue, &mut plain)?,
                 "seed {seed}, command {step}"
             );
         }

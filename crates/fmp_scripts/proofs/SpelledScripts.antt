@@ -29,13 +29,13 @@ use Rattle.fmp_scripts.proofs.SpelledLines.{LineSays, head_read, end_read, step_
 
 -- ---- the scripts so far and those that follow
 
-abbrev Apart : List (List ℕ) → Type 0
+abbrev pub Apart : List (List ℕ) → Type 0
 Apart lines = list_all (list_all (λ b. not (eqb b 10))) lines ≡ true
 
-abbrev reading : List Steps → Option Open → Reading
+abbrev pub reading : List Steps → Option Open → Reading
 reading done unclosed = record { scripts = done; unclosed = unclosed }
 
-abbrev opened : ℕ → ℕ → List Call → Open
+abbrev pub opened : ℕ → ℕ → List Call → Open
 opened line f steps = record { line = line; script = record { function = f; steps = steps } }
 
 abbrev steps_with : Open → List Call → Steps
@@ -80,7 +80,7 @@ module _ (names : NameLists) (n : ℕ) (line next : List ℕ) (lines : List (Lis
       ∙ ap (λ (o : Result Reading TextKind). after_line (n + 1) o (λ x. scripts_from names (n + 1) x [] (join_with_byte 10 (next ∷ lines)))) judged ∙ rest
 
 -- the end of a text
-last_line : (names : NameLists) (n : ℕ) (r : Reading) (last : List ℕ) → Apart (last ∷ []) → scripts_from names n r [] last ≡ cond (is_skipped last) (at_end r r.unclosed) (fault_at CutShort (n + 1))
+pub last_line : (names : NameLists) (n : ℕ) (r : Reading) (last : List ℕ) → Apart (last ∷ []) → scripts_from names n r [] last ≡ cond (is_skipped last) (at_end r r.unclosed) (fault_at CutShort (n + 1))
 unfolding scripts_from
 last_line names n r last apart = scripts_from-last names n r last (no_feed last (and_parts (list_all (λ b. not (eqb b 10)) last) true apart).0)
 
@@ -158,7 +158,7 @@ line_parts : (line : ℕ) (said : Result Reading TextKind) (rest : Reading → R
 line_parts line (Ok r) rest all e = (r, refl, e)
 line_parts line (Err kind) rest all e = absurd cc
 
-opening_parts : (taken : Bool) (new r : Reading) → cond taken (Err WrongArguments) (Ok new) ≡ Ok r → new ≡ r
+pub opening_parts : (taken : Bool) (new r : Reading) → cond taken (Err WrongArguments) (Ok new) ≡ Ok r → new ≡ r
 opening_parts true new r e = absurd cc
 opening_parts false new r e = cc
 

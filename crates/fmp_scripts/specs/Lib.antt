@@ -3,3 +3,4 @@ pub mod Lines  -- What a line of a script text says.
 pub mod Texts  -- Reading a script text, up to its first fault.
 pub mod ScriptGrammar  -- The grammar of script texts, apart from how they are read: which texts spell which scripts.
 pub mod Views  -- What contracts see of scripts and of a reader.
+pub mod FirstFaults  -- Where the first fault of a script text stands: how the lines before it can go on, and which texts have the same fault.

@@ -1,9 +1,11 @@
-//! Laws of the grammar of script texts: what is spelled is read, and what is read is spelled.
-ghost use Rattle.std.specs.Prelude.{◌≡◌, ℕ, List, Ok};
+//! Laws of the grammar of script texts: what is spelled is read, and what is read is spelled. And where the first fault stands.
+ghost use Rattle.std.specs.Prelude.{◌≡◌, ℕ, List, Ok, Err};
 ghost use Rattle.fmp_names.specs.Names.{NameLists, AreValid};
 ghost use Rattle.fmp_scripts.specs.Scripts.{Steps};
 ghost use Rattle.fmp_scripts.specs.Texts.{scripts_in};
 ghost use Rattle.fmp_scripts.specs.ScriptGrammar.{SpellsScripts};
+ghost use Rattle.fmp_text.specs.declared.fault.TextFault.{TextFault};
+ghost use Rattle.fmp_scripts.specs.FirstFaults.{FirstFault};
 
 /// What spells scripts, within the limits, is read as these scripts.
 pub fn spelled_scripts_are_read()
@@ -21,4 +23,12 @@ pub fn read_scripts_are_spelled()
 pub fn texts_spell_one_list_of_scripts()
     ensures { (names : NameLists) (text : List ℕ) (a b : List Steps) → AreValid names
         → SpellsScripts names text a → SpellsScripts names text b → a ≡ b }
+{}
+
+/// A fault stands in its line: the whole lines before it have none, and a text that is the same up to the end of that line has the same fault, whatever
+/// follows. Mend line n, and the next fault is in line n or behind, or the text is cut short. A text is cut short in its last line, or where a script is
+/// open at its end in the line in which that script begins.
+pub fn faults_stand_in_their_line()
+    ensures { (names : NameLists) (text : List ℕ) (fault : TextFault) → AreValid names
+        → scripts_in names text ≡ Err fault → FirstFault names text fault }
 {}

@@ -4,7 +4,8 @@
 //! script of a function is the first of the list with its number; a function without one asks nothing.
 //!
 //! `read_scripts` gives the scripts of a text, or its first fault. What a text spells is said twice: by how it is read
-//! (`scripts_in`), and by a grammar that does not know the reader (`SpellsScripts`); the laws say that the two agree.
+//! (`scripts_in`), and by a grammar that does not know the reader (`SpellsScripts`); the laws say that the two agree,
+//! and that the first fault stands in its line, before which there is none (`specs/FirstFaults`).
 //! No function has two scripts, and no script more than 256 steps. Only reading allocates.
 #![tactic(auto)]
 
@@ -16,7 +17,8 @@ mod script;
 
 pub use equality::is_same_call;
 pub use laws::{
-    read_scripts_are_spelled, spelled_scripts_are_read, texts_spell_one_list_of_scripts,
+    faults_stand_in_their_line, read_scripts_are_spelled, spelled_scripts_are_read,
+    texts_spell_one_list_of_scripts,
 };
 pub use reader::{MOST_STEPS, read_scripts};
 pub use script::{Script, Scripts};

@@ -4,8 +4,8 @@ use Rattle.fmp_codes.specs.declared.numbers.Task.{Task}
 use Rattle.fmp_machine.specs.declared.machine.Semaphore.{Semaphore}
 use Rattle.fmp_machine.specs.World.{first}
 use Rattle.fmp_waitq.specs.Queue.{Waiter, task_of, has_waiter, left_by}
-use Rattle.fmp_sem.specs.declared.Signal.{Signal}
-use Rattle.fmp_sem.specs.declared.Signal.TheVariants as signal
+use Rattle.fmp_sem.specs.declared.operations.Signal.{Signal}
+use Rattle.fmp_sem.specs.declared.operations.Signal.TheVariants as signal
 
 pub record SemaphoreState : Type 0 where
   pub semaphore : Semaphore

@@ -132,7 +132,7 @@ follows_at_first seed c scripts ticks turns = record {
   ordered = λ k r at. cc;
 }
 
-ticks_more : (h : List Record) (r : Record) → ticks_taken (h ++ r ∷ []) ≡ ticks_taken h + cond (is_taken_tick r) 1 0
+pub ticks_more : (h : List Record) (r : Record) → ticks_taken (h ++ r ∷ []) ≡ ticks_taken h + cond (is_taken_tick r) 1 0
 unfolding ticks_taken
 ticks_more h r = sum_by_push (λ x. cond (is_taken_tick x) 1 0) h r
 
@@ -176,7 +176,7 @@ length_more [] r = refl
 length_more (x ∷ h) r = ap suc (length_more h r)
 
 -- the processor of the next tick is one of the machine
-next_within : (timer : Timer) (n g : ℕ) → 1 ≤ n → n ≤ 8 → IsTimerOf n timer → (as_proc (first_ticked timer + g % ticked timer n)).number ≤ n
+pub next_within : (timer : Timer) (n g : ℕ) → 1 ≤ n → n ≤ 8 → IsTimerOf n timer → (as_proc (first_ticked timer + g % ticked timer n)).number ≤ n
 next_within Local n g least most so = let below = mod_below g n least in omega (arith, below)
 next_within (Global master) n g least most so = let below = mod_below g 1 (omega arith) in omega (arith, below, so, master.least)
 

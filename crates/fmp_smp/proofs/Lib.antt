@@ -4,3 +4,4 @@ pub mod Going  -- What the turn of a mover that can move gives.
 pub mod Shares  -- How many ticks each processor has of those that are given round by round.
 pub mod Following  -- What holds between two records of a seeded run.
 pub mod Wholes  -- A seeded run that has come to its end is whole.
+pub mod Turning  -- The ticks of a history are in turn.

@@ -61,25 +61,32 @@ turn_moves w r p s told w' s' takes is =
       rounds = sym (clock_rests w r told.event (choice_own w.config w.scripts w.records p told.event picks).1);
     }
 
-pub tick_moves : (w : History) (r : Rounds) (s : ClockSeat) (told : Receipt) (w' : History) (r' : Rounds) (s' : ClockSeat) → Gives r w s (Made told) r' w' s' → Moves w r Clock w' r'
-tick_moves w r s told w' r' s' gives =
+-- the clock goes on by the record of its tick
+pub tick_counts : (w : History) (r : Rounds) (s : ClockSeat) (told : Receipt) (w' : History) (r' : Rounds) (s' : ClockSeat) → Gives r w s (Made told) r' w' s'
+    → r' ≡ after_record r (told_after w (event.Tick (next_of r)))
+tick_counts w r s told w' r' s' gives =
     let e : Event = event.Tick (next_of r) in
     let made : Record = told_after w e in
     let ticks = gives.2 in
     let answered : told.answer ≡ made.answer = rw ticks.2.receipt refl in
     let counts : is_taken_tick made ≡ is_taken made.answer = rw (told_event w e) refl in
+    gives.3 ∙ ap (λ b. cond b (record r { given = r.given + 1 }) r) (ap is_taken answered ∙ sym counts)
+
+pub tick_moves : (w : History) (r : Rounds) (s : ClockSeat) (told : Receipt) (w' : History) (r' : Rounds) (s' : ClockSeat) → Gives r w s (Made told) r' w' s' → Moves w r Clock w' r'
+tick_moves w r s told w' r' s' gives =
+    let ticks = gives.2 in
     record {
-      event = e;
+      event = event.Tick (next_of r);
       does = refl;
       room = ticks.0.0;
       history = ticks.2.history;
-      rounds = gives.3 ∙ ap (λ b. cond b (record r { given = r.given + 1 }) r) (ap is_taken answered ∙ sym counts);
+      rounds = tick_counts w r s told w' r' s' gives;
     }
 
 -- ---- a history one record longer
 
 -- what stands in a list that is one longer stands in the list, or it is the new one
-below_or_last : (n : ℕ) (h : List Record) (r x : Record) → slice_get (h ++ r ∷ []) n ≡ Some x
+pub below_or_last : (n : ℕ) (h : List Record) (r x : Record) → slice_get (h ++ r ∷ []) n ≡ Some x
     → ((take n (h ++ r ∷ []) ≡ take n h) × (slice_get h n ≡ Some x)) ⊎ ((n ≡ length h) × (take n (h ++ r ∷ []) ≡ h) × (x ≡ r))
 below_or_last zero [] r x at = inr (refl, refl, cc)
 below_or_last (suc n) [] r x at = cc

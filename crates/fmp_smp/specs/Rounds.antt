@@ -1,9 +1,10 @@
 -- The order in which a clock gives its ticks: round by round one taken tick to each processor whose ticks count.
-use Rattle.std.specs.Prelude.{◌≡◌, ℕ, ◌+◌, ◌*◌, ◌%◌, ◌<◌, ◌≤◌, ◌⊎◌, Bool, true, false, ◌&&◌, List, nat_le, if◌then◌else◌}
+use Rattle.std.specs.Prelude.{◌≡◌, ℕ, ◌+◌, ◌*◌, ◌%◌, ◌<◌, ◌≤◌, ◌⊎◌, Bool, true, false, ◌&&◌, List, take, Some, slice_get, nat_le, if◌then◌else◌}
 use Rattle.std.specs.List.{count_by}
 use Rattle.fmp_codes.specs.Numbers.{as_proc}
 use Rattle.fmp_codes.specs.declared.numbers.Proc.{Proc}
 use Rattle.fmp_codes.specs.declared.records.Answer.{Answer}
+use Rattle.fmp_codes.specs.declared.records.Event.TheVariants.{Tick}
 use Rattle.fmp_codes.specs.declared.records.Record.{Record}
 use Rattle.fmp_setup.specs.declared.setup.Timer.{Timer}
 use Rattle.fmp_setup.specs.declared.setup.Timer.TheVariants.{Local, Global}
@@ -84,3 +85,23 @@ after_record r made = if is_taken_tick made then record r { given = r.given + 1 
 -- how many ticks of a history were taken
 unfoldable pub ticks_taken : List Record → ℕ
 ticks_taken h = count_by is_taken_tick h
+
+-- a tick of this processor is the next that a clock has to give
+abbrev pub IsDue : Rounds → Proc → Type 0
+IsDue r p = (is_over r ≡ false) × (p ≡ next_of r)
+
+-- each tick of a history is the one that was due behind the records before it: only ticks that were taken count, so a held one is
+-- due again before any other
+unfoldable pub TicksInTurn : Setup → ℕ → List Record → Type 0
+TicksInTurn c rounds h =
+    (k : ℕ) (r : Record) (p : Proc) → slice_get h k ≡ Some r → r.event ≡ Tick p → IsDue (rounds_of c rounds (ticks_taken (take k h))) p
+
+-- so many rounds go on behind the records of the world, whose ticks are in turn
+abbrev pub AreInTurn : ℕ → History → Rounds → Type 0
+AreInTurn rounds w r = (r ≡ rounds_of w.config rounds (ticks_taken w.records)) × TicksInTurn w.config rounds w.records
+
+-- a world, and the ticks that its clock has to give there in so many rounds
+pub record Clocked : Type 0 where
+  pub world : History
+  pub ticks : ℕ
+  pub rounds : Rounds

@@ -5,6 +5,7 @@
 //! a seed is always one; a run with threads may fail.
 #![tactic(auto)]
 
+mod clocked;
 mod fault;
 mod gate;
 mod rounds;

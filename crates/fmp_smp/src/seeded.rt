@@ -1,6 +1,6 @@
 //! All processors and the clock on one thread, in an order that a seed gives.
 ghost use Rattle.std.specs.Prelude.{◌≡◌, ◌≤◌, map, length, IfOk};
-ghost use Rattle.fmp_smp.specs.Rounds.{next_of};
+ghost use Rattle.fmp_smp.specs.Rounds.{TicksInTurn, next_of};
 ghost use Rattle.fmp_smp.specs.Seeds as spec;
 ghost use Rattle.fmp_smp.specs.Seeds.{AreSeated, IsInOrderOf};
 ghost use Rattle.fmp_world.specs.Ends.{IsSmpRun};
@@ -42,6 +42,7 @@ pub fn run_seeded<'a>(
     requires most { turns ≤ 1000000 }
     ensures run { IfOk result (λ r. IsSmpRun config.entry.now scripts.entry.now ticks turns r.history.records (map (λ v. v.items) r.receipts.items) r.ended) }
     ensures order { IfOk result (λ r. IsInOrderOf seed config.entry.now scripts.entry.now ticks r.history.records) }
+    ensures ticked { IfOk result (λ r. TicksInTurn config.entry.now ticks r.history.records) }
 {
     let (mut world, mut seats) = World::boot(alloc, config, scripts, turns)?;
     let mut rounds = Rounds::new(config, ticks);

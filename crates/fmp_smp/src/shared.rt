@@ -1,9 +1,9 @@
 //! What the threads of a run share.
+use crate::clocked::Clocked;
 use crate::gate::Gate;
-use crate::rounds::{Rounds, take_turn};
 use crossbeam_utils::sync::Unparker;
 use fmp_codes::{Proc, Record};
-use fmp_world::{Clock, Cpu, Turn, World};
+use fmp_world::{Clock, Cpu, Turn};
 use std::sync::atomic::{AtomicBool, Ordering};
 use std::sync::{Mutex, Wait};
 
@@ -18,10 +18,10 @@ fn requested(made: Option<&Record>) -> [bool; 8] {
     requested
 }
 
-/// The world under its lock, what wakes each processor, and whether the run is over.
+/// The world and the clock's ticks under one lock, what wakes each processor, and whether the run is over.
 #[derive(Drop)]
 pub struct Shared<'a, 'g, G> {
-    pub world: Mutex<World<'a>>,
+    pub world: Mutex<Clocked<'a>>,
     pub unparkers: Vec<Unparker>,
     pub over: AtomicBool,
     pub gate: &'g G,
@@ -67,23 +67,22 @@ impl<'a, 'g, G: Gate> Shared<'a, 'g, G> {
     /// One turn in one hold of the lock, and the places of the processors to which its record lists a request.
     pub fn turn<T: Wait>(&self, rt: &T, cpu: &mut Cpu) -> (Turn, [bool; 8]) {
         let mut guard = self.world.lock(rt);
-        let world = &mut *guard;
-        let turn = take_turn(world, cpu);
+        let clocked = &mut *guard;
+        let turn = clocked.turn(cpu);
         let requested = match turn {
-            Turn::Made(_) => requested(world.last()),
+            Turn::Made(_) => requested(clocked.world().last()),
             Turn::Nothing | Turn::Full => [false; 8],
         };
         (turn, requested)
     }
 
-    /// One tick in one hold of the lock.
-    pub fn tick<T: Wait>(&self, rt: &T, clock: &mut Clock, rounds: &mut Rounds) -> Turn {
-        let mut guard = self.world.lock(rt);
-        rounds.give(&mut *guard, clock)
+    /// The next tick in one hold of the lock.
+    pub fn tick<T: Wait>(&self, rt: &T, clock: &mut Clock) -> Turn {
+        self.world.lock(rt).tick(clock)
     }
 
     /// On no processor a handler is due, a task runs or a request is pending.
     pub fn is_quiet<T: Wait>(&self, rt: &T) -> bool {
-        self.world.lock(rt).quiet()
+        self.world.lock(rt).world().quiet()
     }
 }

@@ -1,10 +1,11 @@
 //! One thread for each processor, and one for the clock.
-ghost use Rattle.std.specs.Prelude.{◌≡◌, ◌≤◌, map, IfOk};
+ghost use Rattle.std.specs.Prelude.{◌≡◌, ◌≤◌, map, vec_len, IfOk};
+ghost use Rattle.fmp_smp.specs.Rounds.{TicksInTurn};
 ghost use Rattle.fmp_world.specs.Ends.{IsSmpRun};
 
+use crate::clocked::Clocked;
 use crate::fault::SmpFault;
 use crate::gate::Gate;
-use crate::rounds::Rounds;
 use crate::shared::Shared;
 use arrayvec::ArrayVec;
 use crossbeam_utils::sync::{Parker, Unparker};
@@ -19,7 +20,7 @@ use std::thread::{JoinHandle, Threads};
 
 /// Runs each processor in a thread of its own, and a clock in another, which gives each processor `ticks` taken ticks: round by
 /// round in the order of the processors, or under a global timer to the master alone. A held tick is recorded so, and given again
-/// in a later hold of the lock before any other. Each turn and each tick is one hold of the one lock.
+/// in a later hold of the lock before any other (`TicksInTurn`). Each turn and each tick is one hold of the one lock.
 ///
 /// The run ends when all ticks are taken and the world is quiet, or when the history has `turns` records. The memory of the world,
 /// its seats and its judge is taken before the first turn.
@@ -39,26 +40,29 @@ pub fn run_smp<'a, T: Threads + Wait + Sync, G: Gate + Sync>(
     requires least { 1 ≤ turns }
     requires most { turns ≤ 1000000 }
     ensures run { IfOk result (λ r. IsSmpRun config.entry.now scripts.entry.now ticks turns r.history.records (map (λ v. v.items) r.receipts.items) r.ended) }
+    ensures ticked { IfOk result (λ r. TicksInTurn config.entry.now ticks r.history.records) }
 {
     let (world, seats) = World::boot(alloc, config, scripts, turns)?;
     let (parkers, unparkers) = make_parkers(alloc, config.processors())?;
     let threads = Vec::with_capacity(alloc, 8)?;
     let shared = Shared {
-        world: Mutex::new(world),
+        world: Mutex::new(Clocked::new(world, config, ticks)),
         unparkers,
         over: AtomicBool::new(false),
         gate,
     };
-    let rounds = Rounds::new(config, ticks);
-    let seats = run_seats(rt, &shared, seats, parkers, threads, rounds).ok_or(SmpFault::Start)?;
-    let world = shared.world.into_inner();
-    world
+    let seats = run_seats(rt, &shared, seats, parkers, threads).ok_or(SmpFault::Start)?;
+    let clocked = shared.world.into_inner();
+    clocked
         .finish(seats, config, scripts, ticks, turns)
         .ok_or(SmpFault::Disagree)
 }
 
 // A parker for each processor, and what wakes it.
-fn make_parkers(alloc: Global, processors: u8) -> Result<(Vec<Parker>, Vec<Unparker>), AllocError> {
+fn make_parkers(alloc: Global, processors: u8) -> Result<(Vec<Parker>, Vec<Unparker>), AllocError>
+    ensures parkers { IfOk result (λ made. vec_len made.0 ≡ processors) }
+    ensures unparkers { IfOk result (λ made. vec_len made.1 ≡ processors) }
+{
     let mut parkers = Vec::with_capacity(alloc, 8)?;
     let mut unparkers = Vec::with_capacity(alloc, 8)?;
     for _ in 0..processors {
@@ -76,13 +80,12 @@ fn run_seats<T: Threads + Wait + Sync, G: Gate + Sync>(
     seats: Seats,
     parkers: Vec<Parker>,
     mut threads: Vec<JoinHandle<Cpu>>,
-    rounds: Rounds,
 ) -> Option<Seats> {
     let Seats { cpus, clock } = seats;
     let alloc = *cpus.allocator();
     thread::scope(thread::scope_env(), rt, move |scope| {
         let mut started = true;
-        let ticking = match scope.spawn(move || run_clock(rt, shared, clock, rounds)) {
+        let ticking = match scope.spawn(move || run_clock(rt, shared, clock)) {
             Ok(thread) => Some(thread),
             Err(refused) => {
                 drop(refused);
@@ -136,17 +139,12 @@ fn run_cpu<T: Wait, G: Gate>(
 
 // Gives the ticks, and then waits until the world is quiet. All processors are woken again and again, so that none sleeps on where
 // a wake-up was lost.
-fn run_clock<T: Wait, G: Gate>(
-    rt: &T,
-    shared: &Shared<'_, '_, G>,
-    mut clock: Clock,
-    mut rounds: Rounds,
-) -> Clock {
+fn run_clock<T: Wait, G: Gate>(rt: &T, shared: &Shared<'_, '_, G>, mut clock: Clock) -> Clock {
     for _ in rt.forever() {
         if shared.is_over() {
             break;
         }
-        match shared.tick(rt, &mut clock, &mut rounds) {
+        match shared.tick(rt, &mut clock) {
             Turn::Made(_) => shared.wake_all(),
             Turn::Nothing if shared.is_quiet(rt) => shared.end(),
             Turn::Nothing => shared.wake_all(),

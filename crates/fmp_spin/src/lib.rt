@@ -8,6 +8,7 @@
 #![tactic(auto)]
 
 mod holder;
+mod operations;
 mod spins;
 
 pub use spins::Spins;

@@ -5,9 +5,8 @@
 //! none allocates.
 #![tactic(auto)]
 
-mod changes;
+mod operations;
 mod resting;
-mod states;
 mod tasks;
 
 pub use tasks::Tasks;

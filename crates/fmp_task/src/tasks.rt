@@ -9,7 +9,7 @@ use fmp_machine::{TaskRecord, TaskSetup};
 use std::marker::Model;
 
 /// The records of the tasks, in the order of their numbers. There are at most 64.
-#[derive(Debug, Drop)]
+#[derive(Drop)]
 pub struct Tasks {
     records: ArrayVec<TaskRecord, 64>,
 }

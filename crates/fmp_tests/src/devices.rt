@@ -1,5 +1,5 @@
 //! Runs over devices that give or take one byte at a time, that fail at any of their calls, and that never end.
-ghost use Rattle.std.specs.Prelude.{◌≡◌, false, [], IfOk};
+ghost use Rattle.std.specs.Prelude.{◌≡◌, None, IfOk};
 
 use crate::run::{EVENTS, REMOTE, TRACE, trace_of};
 use fmpsim_run::{Failed, MemSink, MemSource, RunFault, Sink, Source, run_calls, run_check};
@@ -14,9 +14,7 @@ struct OneByte<D> {
 }
 
 impl<S: Source> Source for OneByte<S> {
-    ghost tells = { false };
-
-    ghost left = { λ _. [] };
+    ghost left = { λ _. None };
 
     ghost failures = { λ s. S.failures s.device };
 
@@ -31,9 +29,7 @@ impl<S: Source> Source for OneByte<S> {
 }
 
 impl<W: Sink> Sink for OneByte<W> {
-    ghost tells = { false };
-
-    ghost written = { λ _. [] };
+    ghost written = { λ _. None };
 
     ghost buffered = { λ s. W.buffered s.device };
 
@@ -205,14 +201,42 @@ fn failed_writes_of_one_byte(rt: HostRuntime) -> Result<(), Fail> {
     Ok(())
 }
 
+/// Asserts that a flush behind the first line fails, which is told in the place of how the run would end.
+fn flush_fails(
+    rt: &impl Abort,
+    alloc: Global,
+    events: &[u8],
+    reads: u64,
+) -> Result<(), AllocError> {
+    let line = trace_of(FIRST_EVENT);
+    let mut trace = sink(alloc, line.len() as u64)?;
+    let run = run_calls(
+        alloc,
+        &mut source(REMOTE, NEVER),
+        &mut source(events, reads),
+        &mut trace,
+    );
+    ends(rt, alloc, run, "write failed")?;
+    assert_eq!(rt; trace.device.bytes(), line);
+    Ok(())
+}
+
+const FIRST_EVENT: &[u8] = b"P1 act_tsk(T2)\n";
+
+/// The flush fails behind a text that has a fault, and behind a failed read.
+#[test]
+fn failed_flush_behind_a_fault(rt: HostRuntime) -> Result<(), Fail> {
+    flush_fails(&rt, rt.alloc(), b"P1 act_tsk(T2)\nP1 jump()\n", NEVER)?;
+    flush_fails(&rt, rt.alloc(), EVENTS, FIRST_EVENT.len() as u64)?;
+    Ok(())
+}
+
 /// Line feeds without an end.
 #[derive(Drop)]
 struct LineFeeds;
 
 impl Source for LineFeeds {
-    ghost tells = { false };
-
-    ghost left = { λ _. [] };
+    ghost left = { λ _. None };
 
     ghost failures = { λ _. 0 };
 

@@ -34,7 +34,7 @@ line-inside : (b : ℕ) → inside b ≡ true → is_of Line b ≡ true
 line-inside b h = elim (or_cases (is_of Blank b) (is_of Argument b) h) [ inl t ↦ line-blank b t | inr t ↦ line-argument b t ]
 
 -- a byte that is neither blank nor of an argument is not inside
-outside : (c : ℕ) → inside c ≡ false → (b : ℕ) → inside b ≡ true → not (eqb b c) ≡ true
+pub outside : (c : ℕ) → inside c ≡ false → (b : ℕ) → inside b ≡ true → not (eqb b c) ≡ true
 outside c out b h =
     let other : eqb b c ≡ false = ne_eqb b c (λ e. false≢true (sym out ∙ ap inside (sym e) ∙ h)) in
     rw other refl
@@ -51,7 +51,7 @@ not-blank b h = let none = not_argument-blank b h in rw none refl
 pub not-word : (b : ℕ) → is_of Blank b ≡ true → not (is_of Word b) ≡ true
 not-word b h = let none = not_word-blank b h in rw none refl
 
-token_bytes : (token : List ℕ) → is_argument token ≡ true → AreOfArgument token
+pub token_bytes : (token : List ℕ) → is_argument token ≡ true → AreOfArgument token
 unfolding is_argument
 token_bytes token h = elim (or_cases (is_identifier token) _ h) [ inl t ↦ identifier_bytes token t | inr t ↦ number_bytes token t ]
 
@@ -61,14 +61,14 @@ token_first [] rest bytes = absurd (omega (arith, bytes.0))
 token_first (b ∷ token) rest bytes = stops-cons (is_of Blank) b (token ++ rest) (not_blank-argument b (and_parts (is_of Argument b) (list_all (is_of Argument) token) bytes.1).0)
 
 -- a text with an argument is not blank
-not_all_blank : (before token rest : List ℕ) → AreOfArgument token → list_all (is_of Blank) (before ++ (token ++ rest)) ≡ true → ⊥
+pub not_all_blank : (before token rest : List ℕ) → AreOfArgument token → list_all (is_of Blank) (before ++ (token ++ rest)) ≡ true → ⊥
 not_all_blank before [] rest bytes all = absurd (omega (arith, bytes.0))
 not_all_blank before (b ∷ token) rest bytes all =
     let tail = (list_all-parts (is_of Blank) before (b ∷ token ++ rest) all).1 in
     let blank = (and_parts (is_of Blank b) (list_all (is_of Blank) (token ++ rest)) tail).0 in
     false≢true (sym (not_blank-argument b (and_parts (is_of Argument b) (list_all (is_of Argument) token) bytes.1).0) ∙ blank)
 
-padded_read : (token piece : List ℕ) → Padded token piece → is_argument token ≡ true → token_in piece ≡ Some token
+pub padded_read : (token piece : List ℕ) → Padded token piece → is_argument token ≡ true → token_in piece ≡ Some token
 unfolding token_in
 padded_read token piece padded form =
     let bytes = token_bytes token form in
@@ -81,13 +81,13 @@ padded_read token piece padded form =
     let blank = padded.behind_blank in
     rw (one, rest, form, blank) refl
 
-padded_inside : (token piece : List ℕ) → Padded token piece → is_argument token ≡ true → list_all inside piece ≡ true
+pub padded_inside : (token piece : List ℕ) → Padded token piece → is_argument token ≡ true → list_all inside piece ≡ true
 padded_inside token piece padded form =
     ap (list_all inside) padded.parts
     ∙ list_all-both inside padded.before (token ++ padded.behind) (list_all-weaker (is_of Blank) inside inside-blank padded.before padded.before_blank)
     (list_all-both inside token padded.behind (list_all-weaker (is_of Argument) inside inside-argument token (token_bytes token form).1) (list_all-weaker (is_of Blank) inside inside-blank padded.behind padded.behind_blank))
 
-token_is_padded : (piece token : List ℕ) → token_in piece ≡ Some token → Padded token piece × (is_argument token ≡ true)
+pub token_is_padded : (piece token : List ℕ) → token_in piece ≡ Some token → Padded token piece × (is_argument token ≡ true)
 unfolding token_in
 token_is_padded piece token e =
     let t = tested_some (is_argument (prefix Argument (after Blank piece)) && list_all (is_of Blank) (after Argument (after Blank piece))) (prefix Argument (after Blank piece)) token e in
@@ -129,7 +129,7 @@ pieces_read names (kind ∷ kinds) (value ∷ values) [] valid spelled = absurd 
 
 -- ---- the arguments
 
-list_all-all : (p q : List ℕ → Bool) → ((x : List ℕ) → p x ≡ true → q x ≡ true) → (xs : List (List ℕ)) → list_all p xs ≡ true → list_all q xs ≡ true
+pub list_all-all : (p q : List ℕ → Bool) → ((x : List ℕ) → p x ≡ true → q x ≡ true) → (xs : List (List ℕ)) → list_all p xs ≡ true → list_all q xs ≡ true
 list_all-all p q step [] all = refl
 list_all-all p q step (x ∷ xs) all =
     let parts = and_parts (p x) (list_all p xs) all in
@@ -198,7 +198,7 @@ inner_read names (kind ∷ kinds) values inner valid few spelled =
 
 -- ---- what is spelled is read
 
-enclosed_read : (between inner rest : List ℕ) → AreBlank between → list_all (λ b. not (eqb b 41)) inner ≡ true → AreBlank rest → enclosed_in (between ++ (40 ∷ (inner ++ (41 ∷ rest)))) ≡ Some inner
+pub enclosed_read : (between inner rest : List ℕ) → AreBlank between → list_all (λ b. not (eqb b 41)) inner ≡ true → AreBlank rest → enclosed_in (between ++ (40 ∷ (inner ++ (41 ∷ rest)))) ≡ Some inner
 unfolding enclosed_in before_close is_of
 enclosed_read between inner rest blank no_close ended =
     let start = prefix-append Blank between (40 ∷ (inner ++ (41 ∷ rest))) blank (stops-cons (is_of Blank) 40 (inner ++ (41 ∷ rest)) refl) in
@@ -307,7 +307,7 @@ call_in-spelled names text call valid s =
 
 -- ---- what is read is spelled
 
-tokens_parts : (piece : List ℕ) (pieces tokens : List (List ℕ)) → tokens_in (piece ∷ pieces) ≡ Some tokens → (token : List ℕ) × (others : List (List ℕ)) × (token_in piece ≡ Some token) × (tokens_in pieces ≡ Some others) × (tokens ≡ token ∷ others)
+pub tokens_parts : (piece : List ℕ) (pieces tokens : List (List ℕ)) → tokens_in (piece ∷ pieces) ≡ Some tokens → (token : List ℕ) × (others : List (List ℕ)) × (token_in piece ≡ Some token) × (tokens_in pieces ≡ Some others) × (tokens ≡ token ∷ others)
 tokens_parts piece pieces tokens e =
     let p = and_then_parts (token_in piece) (λ token. option_and_then (λ others. Some (token ∷ others)) (tokens_in pieces)) tokens e in
     let q = and_then_parts (tokens_in pieces) (λ others. Some (p.0 ∷ others)) tokens p.2 in
@@ -336,7 +336,7 @@ pieces_spelled names (kind ∷ kinds) (piece ∷ pieces) tokens values formed as
     rw values_are ((p.0, padded.0, value_is_spelled names kind p.0 v.0 v.2), rest)
 
 -- some pieces have some arguments
-no_pieces : (names : NameLists) (pieces tokens : List (List ℕ)) (values : List Value) → tokens_in pieces ≡ Some tokens → length tokens ≡ 0 → 0 < length pieces → ⊥
+pub no_pieces : (names : NameLists) (pieces tokens : List (List ℕ)) (values : List Value) → tokens_in pieces ≡ Some tokens → length tokens ≡ 0 → 0 < length pieces → ⊥
 no_pieces names [] tokens values formed none some = omega (arith, some)
 no_pieces names (piece ∷ pieces) tokens values formed none some = let p = tokens_parts piece pieces tokens formed in omega (arith, ap length p.4, none)
 
@@ -368,7 +368,7 @@ pub record Enclosed (text inner : List ℕ) : Type 0 where
   pub behind_blank : AreBlank behind
   pub parts : text ≡ between ++ (40 ∷ (inner ++ (41 ∷ behind)))
 
-enclosed_spelled : (text inner : List ℕ) → enclosed_in text ≡ Some inner → Enclosed text inner
+pub enclosed_spelled : (text inner : List ℕ) → enclosed_in text ≡ Some inner → Enclosed text inner
 unfolding enclosed_in before_close
 enclosed_spelled text inner e =
     let p = and_then_parts (behind 40 (after Blank text)) before_close inner e in

@@ -53,7 +53,7 @@ word_bytes n lt =
     let numeral = decimal_is_IsNumeral n lt in
     and_from (is_of Word 80) (list_all (is_of Word) (decimal n)) refl (list_all-weaker (λ b. is_digit b 10) (is_of Word) (λ b h. word-digit 10 b (omega arith) h) (decimal n) (list_all-digits 10 (decimal n) numeral.0.1))
 
-processor_read : (names : NameLists) (n : ℕ) → 1 ≤ n → n ≤ names.processors → names.processors ≤ 8 → processor_in names (80 ∷ decimal n) ≡ Ok (as_proc n)
+pub processor_read : (names : NameLists) (n : ℕ) → 1 ≤ n → n ≤ names.processors → names.processors ≤ 8 → processor_in names (80 ∷ decimal n) ≡ Ok (as_proc n)
 unfolding processor_in digits_of processor_numbered in_processors
 processor_read names n least most few =
     let lt : n < 2 ^ 64 = omega (arith, most, few) in
@@ -64,7 +64,7 @@ processor_read names n least most few =
     let low = le-leb 1 n least in let high = le-leb n names.processors most in
     rw (behind-same 80 (decimal n), digits, led, size, low, high) refl
 
-digits_parts : (word digits : List ℕ) (found : Option (List ℕ)) → behind 80 word ≡ found → option_map_or (λ ds. cond (are_digits 10 ds) (Some ds) None) found None ≡ Some digits → (word ≡ 80 ∷ digits) × (are_digits 10 digits ≡ true)
+pub digits_parts : (word digits : List ℕ) (found : Option (List ℕ)) → behind 80 word ≡ found → option_map_or (λ ds. cond (are_digits 10 ds) (Some ds) None) found None ≡ Some digits → (word ≡ 80 ∷ digits) × (are_digits 10 digits ≡ true)
 digits_parts word digits None h e = absurd cc
 digits_parts word digits (Some ds) h e =
     elim (cases_Bool (are_digits 10 ds)) [
@@ -84,7 +84,7 @@ zero_led_parts : (led : Bool) (read : Result Proc TextKind) (processor : Proc) �
 zero_led_parts true read processor e = absurd cc
 zero_led_parts false read processor e = (refl, e)
 
-processor_spelled : (names : NameLists) (word : List ℕ) (processor : Proc) → processor_in names word ≡ Ok processor → IsProcessorWord names word processor
+pub processor_spelled : (names : NameLists) (word : List ℕ) (processor : Proc) → processor_in names word ≡ Ok processor → IsProcessorWord names word processor
 unfolding processor_in digits_of processor_numbered
 processor_spelled names word processor e =
     let p = bind_parts (ok_or (digits_of word) BadWord) _ processor e in

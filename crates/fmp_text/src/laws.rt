@@ -1,5 +1,5 @@
-//! Laws of the grammar: what is spelled is read, and what is read is spelled. And laws of reading on.
-ghost use Rattle.std.specs.Prelude.{◌≡◌, ℕ, ◌+◌, Bool, true, List, [], ◌∷◌, ◌++◌, Ok, Some};
+//! Laws of the grammar: what is spelled is read, and what is read is spelled. And laws of reading on, and of the first fault.
+ghost use Rattle.std.specs.Prelude.{◌≡◌, ℕ, ◌+◌, Bool, true, List, [], ◌∷◌, ◌++◌, Ok, Err, Some};
 ghost use Rattle.fmp_codes.specs.declared.calls.Call.{Call};
 ghost use Rattle.fmp_codes.specs.declared.records.Event.{Event};
 ghost use Rattle.fmp_calls.specs.declared.kinds.ArgumentKind.{ArgumentKind};
@@ -11,6 +11,10 @@ ghost use Rattle.fmp_text.specs.Lines.{line_event};
 ghost use Rattle.fmp_text.specs.Events.{HasNoFeed, after_line, reading_of, reading_from, faultless};
 ghost use Rattle.fmp_text.specs.Grammar.{SpellsValue, SpellsCall};
 ghost use Rattle.fmp_text.specs.TextGrammar.{SpellsText};
+ghost use Rattle.fmp_text.specs.declared.fault.TextFault.{TextFault};
+ghost use Rattle.fmp_text.specs.FirstFaults.{FirstFault};
+ghost use Rattle.fmp_text.specs.declared.fault.TextKind.{TextKind};
+ghost use Rattle.fmp_text.specs.EventFaults.{EventFault};
 
 /// A word is a constant exactly where it is one of some kind.
 pub fn constants_have_a_kind()
@@ -69,4 +73,19 @@ pub fn texts_are_read_line_by_line()
         (reading_from names cut (lines + 1) count [] rest) (reading_from names cut (lines + 1) (count + 1) [] rest) }
     ensures begun { (names : NameLists) (cut : Bool) (lines count : ℕ) (begun bytes more : List ℕ) → HasNoFeed bytes
         → reading_from names cut lines count begun (bytes ++ more) ≡ reading_from names cut lines count (begun ++ bytes) more }
+{}
+
+/// A fault stands in its line: the whole lines before it spell the events that were given, and a text that is the same up to the end of that line has the
+/// same fault, whatever follows. Mend line n, and the next fault is in line n or behind. A text that is cut short is so in its last line.
+pub fn faults_stand_in_their_line()
+    ensures { (names : NameLists) (text : List ℕ) (fault : TextFault) → AreValid names
+        → (reading_of names text).fault ≡ Some fault → FirstFault names text (reading_of names text).events fault }
+{}
+
+/// A line of an event text has a fault exactly where the table of faults has one for it, and then that: the first row that fits.
+pub fn faults_are_those_of_the_table()
+    ensures read { (names : NameLists) (line : List ℕ) (fault : TextKind) → AreValid names
+        → line_event names line ≡ Err fault → EventFault names line fault }
+    ensures told { (names : NameLists) (line : List ℕ) (fault : TextKind) → AreValid names
+        → EventFault names line fault → line_event names line ≡ Err fault }
 {}

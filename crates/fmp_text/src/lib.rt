@@ -5,7 +5,9 @@
 //! keep no text.
 //!
 //! What a text spells is said a second time without a reader: `specs/Grammar` for calls and `specs/TextGrammar` for texts. The
-//! laws say that what is spelled is read, what is read is spelled, and a text spells at most one list of events.
+//! laws say that what is spelled is read, what is read is spelled, and a text spells at most one list of events; and that the first
+//! fault stands in its line, before which the text spells events (`specs/FirstFaults`). What is wrong with a line a table says,
+//! which knows no reader either (`specs/EventFaults`).
 //! docs/FORMATS.md has the forms and the faults.
 #![tactic(auto)]
 
@@ -26,7 +28,8 @@ pub use fmp_names::{
     MOST_NAME_BYTES, Names, is_constant, is_name, is_reserved, names_and_numbers_agree,
 };
 pub use laws::{
-    constants_have_a_kind, read_calls_are_spelled, read_texts_are_spelled, read_values_are_spelled,
+    constants_have_a_kind, faults_are_those_of_the_table, faults_stand_in_their_line,
+    read_calls_are_spelled, read_texts_are_spelled, read_values_are_spelled,
     spelled_calls_are_read, spelled_texts_are_read, spelled_values_are_read,
     texts_are_read_line_by_line, texts_spell_one_list,
 };

@@ -1,11 +1,12 @@
 //! What a word is guessed to name. A wrong guess costs time and no more, so no contract speaks of it, and these tests do.
-use crate::text::add;
+use crate::text::{add, with_machine};
 use fmp_calls::{
     BUFFER_CALLS, NameKind, ObjectKind, SPIN_CALLS, SYNC_CALLS, SYSTEM_CALLS, TASK_CALLS,
     TIME_CALLS, form,
 };
 use fmp_codes::Call;
 use fmp_names::{Names, word_key};
+use fmp_text::{line_event, quick_event};
 use std::test::Fail;
 
 macro_rules! are_guessed {
@@ -57,4 +58,50 @@ fn each_of_64_tasks_by_its_name(rt: HostRuntime) -> Result<(), Fail> {
         assert!(rt; likelier == number || other == number);
     }
     Ok(())
+}
+
+/// Lines of the common form, with arguments of all kinds.
+const COMMON: [&[u8]; 18] = [
+    b"P1 tick\n",
+    b"P2 ipi\n",
+    b"P1 ret_hdr\n",
+    b"P1 get_tid()\n",
+    b"P1 act_tsk(T2)\n",
+    b"P2 act_tsk(TSK_SELF)\n",
+    b"P1 mact_tsk(T1, 2)\n",
+    b"P1 mig_tsk(T1,TPRC_INI)\n",
+    b"P1 chg_pri(T1, 16)\n",
+    b"P1 chg_pri(T2, TPRI_INI)\n",
+    b"P1 twai_sem(S, TMO_FEVR)\n",
+    b"P1 set_flg(F, 255)\n",
+    b"P1 twai_flg(F, 1, TWF_ANDW, 10)\n",
+    b"P1 snd_dtq(D1, -7)\n",
+    b"P2 rel_mpf(M, 0)\n",
+    b"P1 msta_alm(A, 100, 2)\n",
+    b"P1 sta_cyc(C)\n",
+    b"P1 loc_spn(L)\n",
+];
+
+/// Whether the short way finds what the line says, up to its line feed.
+fn is_short(names: &Names, line: &[u8]) -> bool {
+    let Some((_, whole)) = line.split_last() else {
+        return false;
+    };
+    match quick_event(names, line) {
+        Some(found) => {
+            found.1 == b"\n".as_slice() && line_event(names, whole) == Ok(Some(found.0))
+        }
+        None => false,
+    }
+}
+
+/// The short way may always say that it finds nothing, and then each line is read in full.
+#[test]
+fn common_lines_are_read_the_short_way(rt: HostRuntime) -> Result<(), Fail> {
+    with_machine(rt.alloc(), |names| {
+        for line in &COMMON {
+            assert!(rt; is_short(names, *line));
+        }
+        Ok(())
+    })
 }

@@ -1,4 +1,5 @@
-//! The timers.
+//! The timers. The kernel does not call `tick`, which is this part's own surface, tested by `fmp_part_tests`: the rule of a tick
+//! stands in `fmp_machine/specs`.
 ghost use Rattle.std.specs.Prelude.{◌≡◌, None, [], false, true, filter, is_some};
 ghost use Rattle.std.specs.Option.{option_map};
 ghost use Rattle.fmp_time.specs.declared.item.Item.{Item as AnyItem};

@@ -125,7 +125,7 @@ value_spelled names kinds.Mode (values.Pattern bits) fits = absurd fits
 value_spelled names kinds.Mode (values.Data z) fits = absurd fits
 
 -- an argument by its form is made of the bytes of arguments
-argument_bytes : (token : List ℕ) → is_argument token ≡ true → AreOfArgument token
+pub argument_bytes : (token : List ℕ) → is_argument token ≡ true → AreOfArgument token
 unfolding is_argument
 argument_bytes token h = elim (or_cases (is_identifier token) _ h) [ inl t ↦ identifier_bytes token t | inr t ↦ number_bytes token t ]
 
@@ -249,7 +249,7 @@ call_word names call rest =
     let word = prefix-append Word (table.text_of call) (behind_name names call ++ 32 ∷ rest) (identifier_words (table.text_of call) (is_identifier-text_of call)) (name_ends names call rest) in
     (ap (prefix Word) whole ∙ word.0, ap (after Word) whole ∙ word.1)
 
-is_bare_name-text_of : (call : Call) → is_bare_name (table.text_of call) ≡ table.is_bare call
+pub is_bare_name-text_of : (call : Call) → is_bare_name (table.text_of call) ≡ table.is_bare call
 unfolding is_bare_name
 is_bare_name-text_of call = ap (λ (found : Option Call). option_map_or table.is_bare found false) (named-text_of call) ∙ is_bare-name_of call
 

@@ -1,26 +1,24 @@
 //! The event that a line tells, read without what stands behind it.
-ghost use Rattle.std.specs.Prelude.{◌≡◌};
-ghost use Rattle.fmp_text.specs.Reading.{call_in};
-ghost use Rattle.fmp_trace.specs.Guess.{read};
+ghost use Rattle.std.specs.Prelude.{◌≡◌, IfSome, Some};
 ghost use Rattle.fmp_trace.specs.Heads as spec;
 
 use crate::guess::cut_call;
 use fmp_bytes::{Class, behind, cut, split_prefix};
+use fmp_calls::form;
 use fmp_codes::{Call, Event, Proc};
 use fmp_text::{Names, processor_numbered, quick_call, read_call};
 
-/// The call that a text spells: first the short way, and where that finds none in full.
-#[tactic(auto, unfolding(crate::specs::Guess::read))]
-fn call_of(names: &Names, text: &[u8]) -> Option<Call>
-    ensures { result ≡ read (call_in names.now text.now) }
+/// The event of a text that begins with a call in parentheses, where the call is found the short way. `None` says nothing.
+#[inline(always)]
+fn front_event(names: &Names, p: Proc, text: &[u8]) -> Option<Event>
+    ensures { IfSome result (λ event. spec.event_at names.now p text.now ≡ Some event) }
 {
     names.validity();
-    if let Some((call, rest)) = quick_call(names, text) {
-        if rest.is_empty() {
-            return Some(call);
-        }
+    let (call, _) = quick_call(names, text)?;
+    if form(call).bare {
+        return None;
     }
-    read_call(text, names).ok()
+    Some(Event::Call(p, call))
 }
 
 #[tactic(auto, unfolding(crate::specs::Heads::called_event))]
@@ -28,14 +26,15 @@ fn called_event(names: &Names, p: Proc, text: &[u8]) -> Option<Event>
     ensures { result ≡ spec.called_event names.now p text.now }
 {
     let (text, _) = cut_call(text)?;
-    let call = call_of(names, text)?;
+    let call = read_call(text, names).ok()?;
     Some(Event::Call(p, call))
 }
 
 #[tactic(auto, unfolding(crate::specs::Heads::event_at))]
-fn event_at(names: &Names, p: Proc, text: &[u8]) -> Option<Event>
+fn worded_event(names: &Names, p: Proc, text: &[u8]) -> Option<Event>
     ensures { result ≡ spec.event_at names.now p text.now }
 {
+    names.validity();
     let (word, _) = split_prefix(Class::Word, text);
     if word == b"tick".as_slice() {
         return Some(Event::Tick(p));
@@ -43,7 +42,19 @@ fn event_at(names: &Names, p: Proc, text: &[u8]) -> Option<Event>
     if word == b"ipi".as_slice() {
         return Some(Event::Ipi(p));
     }
+    if word == b"ret_hdr".as_slice() {
+        return Some(Event::Call(p, Call::RetHdr));
+    }
     called_event(names, p, text)
+}
+
+fn event_at(names: &Names, p: Proc, text: &[u8]) -> Option<Event>
+    ensures { result ≡ spec.event_at names.now p text.now }
+{
+    match front_event(names, p, text) {
+        Some(event) => Some(event),
+        None => worded_event(names, p, text),
+    }
 }
 
 #[tactic(auto, unfolding(crate::specs::Heads::event_on))]

@@ -4,8 +4,8 @@
 //! none, is `specs/Prints`. Begin at [`trace_line`] and [`read_trace`].
 //!
 //! A line is read by a guess that is printed again and compared with it (`specs/Guess`), so a wrong guess does no harm, and the
-//! form of a trace is written down once. [`validate`] tells the first fault of a text and keeps no record. docs/FORMATS.md has
-//! the form.
+//! form of a trace is written down once. [`validate_from`] tells the first fault of a text, from a line on, and keeps no record.
+//! [`event_of`] reads the event of a line alone. docs/FORMATS.md has the form.
 #![tactic(auto)]
 
 mod guess;
@@ -18,5 +18,5 @@ mod values;
 pub use heads::event_of;
 pub use laws::texts_print_one_list;
 pub use lines::{put_core, put_line, put_runner, put_running, put_task, trace_line, trace_text};
-pub use reading::{guessed, is_line, next_line, read_trace, validate, validate_from};
+pub use reading::{next_line, read_trace, validate_from};
 pub use values::{put_named, put_number};

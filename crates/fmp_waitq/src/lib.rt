@@ -1,4 +1,6 @@
-//! Wait queues: the tasks that wait for an object, in the order in which it serves them.
+//! Wait queues: the tasks that wait for an object, in the order in which it serves them. The kernel calls all operations but
+//! `reorder`, which serves those of the objects and is tested with them by `fmp_part_tests`: a call's rule stands in
+//! `fmp_machine/specs`.
 //!
 //! Contracts see a queue as its order and a list of waiters, each a task with its rank: its priority in a queue by priority,
 //! and 0 in one by arrival. A lower rank comes first, and of equal ranks the one that joined earlier. No task waits twice in
@@ -51,13 +53,6 @@ impl WaitQueue {
             tasks: TaskList::new(),
             ranks: [0; 64],
         }
-    }
-
-    /// The order of the queue.
-    pub fn order(&self) -> Order
-        ensures { result ≡ self.now.order }
-    {
-        self.order
     }
 
     /// A task of this priority that is not there joins: in a queue by arrival as the last, in one by priority as the last of

@@ -1,5 +1,6 @@
 -- Going over the lines of two texts together, as the loop does.
 use Rattle.std.proofs.Common.{◌≡◌, ℕ, List, [], ◌∷◌, ◌++◌, Option, Some, None, refl, ap}
+use Rattle.std.proofs.lemmas.Slice.Eq.{bytes_eq-Decides}
 use Rattle.fmp_bytes.specs.Bytes.{cut_at, pieces_of}
 use Rattle.fmp_bytes.proofs.Cutting.{pieces_of-cut}
 use Rattle.fmp_trace.proofs.Numbered.{first_piece, only_piece}
@@ -32,3 +33,13 @@ old_ends old new none = rw (only_piece old none) (changed-old_last old (pieces_o
 
 pub new_ends : (old new : List ℕ) → (cut_at 10 new).1 ≡ None → changed_text old new ≡ []
 new_ends old new none = rw (only_piece new none, pieces_of-cut 10 old) (changed-new_last _ _ new)
+
+-- no line of a text differs from itself
+none_changed : (lines : List (List ℕ)) → changed_lines lines lines ≡ []
+unfolding changed_lines
+none_changed [] = refl
+none_changed (last ∷ []) = refl
+none_changed (line ∷ next ∷ lines) = let same = (bytes_eq-Decides line line).1 refl in rw same (none_changed (next ∷ lines))
+
+pub none_of_same : (old new : List ℕ) → old ≡ new → changed_text old new ≡ []
+none_of_same old new same = rw same (none_changed (pieces_of 10 new))

@@ -66,10 +66,13 @@ fn put_if_changed(out: &mut Vec<u8>, old: &[u8], new: &[u8]) -> Result<(), Alloc
     Ok(())
 }
 
-/// Adds those lines of the new text that are not the old one's at their place.
+/// Adds those lines of the new text that are not the old one's at their place. After most events there are none.
 pub(crate) fn put_changed(out: &mut Vec<u8>, old: &[u8], new: &[u8]) -> Result<(), AllocError>
     ensures { OnOk result (out.new.items ≡ out.old.items ++ spec.changed_text old.now new.now) }
 {
+    if old == new {
+        return Ok(());
+    }
     let mut old = old;
     let mut new = new;
     while let Some(lines) = next_lines(old, new) {

@@ -1,11 +1,11 @@
 //! The run that draws a trace.
-ghost use Rattle.std.specs.Prelude.{◌≡◌, ℕ, ◌+◌, ◌-◌, ◌^◌, ◌<◌, ◌≤◌, List, ◌++◌, [], length, map, IsTrue, OnOk, OnErr, IfOk, IfErr, Ok, Err, false, if◌then◌else◌};
+ghost use Rattle.std.specs.Prelude.{◌≡◌, ◌≢◌, ℕ, ◌+◌, ◌-◌, ◌^◌, ◌<◌, ◌≤◌, List, ◌++◌, [], length, map, OnOk, OnErr, IfOk, IfErr, Ok, Err, false, if◌then◌else◌};
 ghost use Rattle.fmp_codes.specs.declared.records.Record.{Record as AnyRecord};
 ghost use Rattle.fmp_text.specs.Limits.{most_bytes as MOST_BYTES};
 ghost use Rattle.fmp_check.specs.Checking.{Judges};
 ghost use Rattle.fmp_trace.specs.Prints.{PrintsWithin};
 ghost use Rattle.fmp_judging.specs.Traces.{FirstTraceFault, IsOwn, IsYes};
-ghost use Rattle.fmp_devices.specs.Devices.{BeginsWith};
+ghost use Rattle.fmp_devices.specs.Devices.{BeginsWith, IsKnown, bytes_of};
 ghost use Rattle.fmp_judging.specs.Faults.{failed_write, is_thread_fault};
 ghost use Rattle.fmp_judging.specs.Texts.{Answered, CountsReads, FirstConfigFault};
 ghost use Rattle.fmp_wave.specs.Runs.{Drawn, IsDrawnBy, IsLate, LeavesBy, LeavesDrawn};
@@ -14,7 +14,7 @@ ghost use Rattle.fmp_wave.specs.Waves.{wave_of};
 use crate::drawing::Drawing;
 use fmp_check::Verdict;
 use fmp_devices::{Sink, Source, write_all};
-use fmp_judging::{Judged, RunFault, judged_texts};
+use fmp_judging::{Judged, RunFault, judged_texts, pass_on};
 use fmp_machine::Config;
 use fmp_text::{TextFault, TextKind};
 use fmp_trace::{event_of, next_line};
@@ -24,10 +24,11 @@ use std::alloc::Global;
 fn draw<W: Sink>(alloc: Global, config: &Config, text: &[u8], wave: &mut W) -> Result<(), RunFault>
     requires calls { W.failures wave.old < 2 ^ 64 - 1 }
     requires short { length text.now ≤ MOST_BYTES }
-    ensures drawn { IsTrue W.tells → (records : List AnyRecord) → PrintsWithin config.now.names text.now records
-        → OnOk result (W.written wave.new ≡ W.written wave.old ++ wave_of config.now (map (λ r. r.event) records)) }
-    ensures begun { IsTrue W.tells → (records : List AnyRecord) → PrintsWithin config.now.names text.now records
-        → OnErr result (BeginsWith (W.written wave.old) (wave_of config.now (map (λ r. r.event) records)) (W.written wave.new)) }
+    ensures known { IsKnown (W.written wave.old) → IsKnown (W.written wave.new) }
+    ensures drawn { IsKnown (W.written wave.old) → (records : List AnyRecord) → PrintsWithin config.now.names text.now records
+        → OnOk result (bytes_of (W.written wave.new) ≡ bytes_of (W.written wave.old) ++ wave_of config.now (map (λ r. r.event) records)) }
+    ensures begun { IsKnown (W.written wave.old) → (records : List AnyRecord) → PrintsWithin config.now.names text.now records
+        → OnErr result (BeginsWith (bytes_of (W.written wave.old)) (wave_of config.now (map (λ r. r.event) records)) (bytes_of (W.written wave.new))) }
     ensures kinds { (records : List AnyRecord) → PrintsWithin config.now.names text.now records → IfErr result IsLate }
     ensures no_thread_fault { IfErr result (λ fault. is_thread_fault fault ≡ false) }
     ensures writes { W.failures wave.new ≡ W.failures wave.old + (if failed_write result then 1 else 0) }
@@ -57,9 +58,11 @@ fn draw<W: Sink>(alloc: Global, config: &Config, text: &[u8], wave: &mut W) -> R
 fn draw_judged<W: Sink>(alloc: Global, judged: &Judged, wave: &mut W) -> Result<(), RunFault>
     requires calls { W.failures wave.old < 2 ^ 64 - 1 }
     requires judged { Judges judged.now.config judged.now.text.items judged.now.verdict }
-    ensures drawn { IsTrue W.tells → OnOk result (IsDrawnBy judged.now.config judged.now.text.items (W.written wave.old) (W.written wave.new) judged.now.verdict) }
+    ensures known { IsKnown (W.written wave.old) → IsKnown (W.written wave.new) }
+    ensures drawn { IsKnown (W.written wave.old) → OnOk result (IsDrawnBy judged.now.config judged.now.text.items (bytes_of (W.written wave.old)) (bytes_of (W.written wave.new)) judged.now.verdict) }
     ensures passed { OnOk result (judged.now.verdict ≡ Verdict.Yes → W.buffered wave.new ≡ []) }
-    ensures leaves { IsTrue W.tells → IfErr result (LeavesBy judged.now.config judged.now.text.items (W.written wave.old) (W.written wave.new)) }
+    ensures none_held { W.buffered wave.old ≡ [] → result ≢ Err RunFault.Write → W.buffered wave.new ≡ [] }
+    ensures leaves { IsKnown (W.written wave.old) → IfErr result (LeavesBy judged.now.config judged.now.text.items (bytes_of (W.written wave.old)) (bytes_of (W.written wave.new))) }
     ensures kinds { IfErr result IsLate }
     ensures no_thread_fault { IfErr result (λ fault. is_thread_fault fault ≡ false) }
     ensures writes { W.failures wave.new ≡ W.failures wave.old + (if failed_write result then 1 else 0) }
@@ -67,8 +70,8 @@ fn draw_judged<W: Sink>(alloc: Global, judged: &Judged, wave: &mut W) -> Result<
     match judged.verdict {
         Verdict::No(_) => Ok(()),
         Verdict::Yes => {
-            draw(alloc, &judged.config, judged.text.as_slice(), wave)?;
-            Ok(wave.flush()?)
+            let drawn = draw(alloc, &judged.config, judged.text.as_slice(), wave);
+            pass_on(drawn, wave)
         }
     }
 }
@@ -88,27 +91,31 @@ pub fn run_wave<R: Source, S: Source, W: Sink>(
     requires wave_calls { W.failures wave.old < 2 ^ 64 - 1 }
 
     // Both texts were read to their ends, the verdict is right, and the waveform was written, all of it. None of it is held back.
-    ensures drawn { IsTrue R.tells → IsTrue S.tells → IsTrue W.tells
-        → IfOk result (Drawn (R.left config.old) (S.left trace.old) (W.written wave.old) (W.written wave.new)) }
+    ensures known { IsKnown (W.written wave.old) → IsKnown (W.written wave.new) }
+    ensures drawn { IsKnown (R.left config.old) → IsKnown (S.left trace.old) → IsKnown (W.written wave.old)
+        → IfOk result (Drawn (bytes_of (R.left config.old)) (bytes_of (S.left trace.old)) (bytes_of (W.written wave.old)) (bytes_of (W.written wave.new))) }
     ensures passed { IfOk result (λ verdict. verdict ≡ Verdict.Yes → W.buffered wave.new ≡ []) }
-    ensures config_read { IsTrue R.tells → OnOk result (R.left config.new ≡ []) }
-    ensures trace_read { IsTrue S.tells → OnOk result (S.left trace.new ≡ []) }
+    ensures config_read { IsKnown (R.left config.old) → OnOk result (bytes_of (R.left config.new) ≡ []) }
+    ensures trace_read { IsKnown (S.left trace.old) → OnOk result (bytes_of (S.left trace.new) ≡ []) }
 
     // A trace that answers some events, as `run_calls` writes it, is drawn.
-    ensures answers { IsTrue R.tells → IsTrue S.tells → (event_text : List ℕ) → Answered (R.left config.old) event_text (S.left trace.old)
-        → length (S.left trace.old) ≤ MOST_BYTES → IsYes result }
+    ensures answers { IsKnown (R.left config.old) → IsKnown (S.left trace.old) → (event_text : List ℕ) → Answered (bytes_of (R.left config.old)) event_text (bytes_of (S.left trace.old))
+        → length (bytes_of (S.left trace.old)) ≤ MOST_BYTES → IsYes result }
 
     // So is any that is the machine's own, as those of processors that follow scripts.
-    ensures own { IsTrue R.tells → IsTrue S.tells → IsOwn (R.left config.old) (S.left trace.old) → IsYes result }
+    ensures own { IsKnown (R.left config.old) → IsKnown (S.left trace.old) → IsOwn (bytes_of (R.left config.old)) (bytes_of (S.left trace.old)) → IsYes result }
 
     // A fault of a text is its first one.
-    ensures config_fault { IsTrue R.tells → IfErr result (FirstConfigFault (R.left config.old)) }
-    ensures text_fault { IsTrue R.tells → IsTrue S.tells → IfErr result (FirstTraceFault (R.left config.old) (S.left trace.old)) }
+    ensures config_fault { IsKnown (R.left config.old) → IfErr result (FirstConfigFault (bytes_of (R.left config.old))) }
+    ensures text_fault { IsKnown (R.left config.old) → IsKnown (S.left trace.old) → IfErr result (FirstTraceFault (bytes_of (R.left config.old)) (bytes_of (S.left trace.old))) }
 
     // After a failed write or flush a beginning of the waveform is out, after want of memory such a beginning or nothing, and
     // after any other fault nothing is.
-    ensures leaves { IsTrue R.tells → IsTrue S.tells → IsTrue W.tells
-        → IfErr result (LeavesDrawn (R.left config.old) (S.left trace.old) (W.written wave.old) (W.written wave.new)) }
+    ensures leaves { IsKnown (R.left config.old) → IsKnown (S.left trace.old) → IsKnown (W.written wave.old)
+        → IfErr result (LeavesDrawn (bytes_of (R.left config.old)) (bytes_of (S.left trace.old)) (bytes_of (W.written wave.old)) (bytes_of (W.written wave.new))) }
+
+    // However the run ends, nothing is held back, unless a write failed.
+    ensures none_held { W.buffered wave.old ≡ [] → result ≢ Err RunFault.Write → W.buffered wave.new ≡ [] }
 
     // No thread was started.
     ensures no_thread_fault { IfErr result (λ fault. is_thread_fault fault ≡ false) }

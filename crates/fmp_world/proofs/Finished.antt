@@ -15,8 +15,8 @@ use Rattle.fmp_setup.specs.Valid.{IsValid}
 use Rattle.fmp_machine.specs.Boot.{booted}
 use Rattle.fmp_safety.specs.Runs.{IsSafeThroughout}
 use Rattle.fmp_safety.proofs.Booted.{runs_safe}
-use Rattle.fmp_balance.specs.Balance.{IsBalancedThroughout}
-use Rattle.fmp_balance.proofs.Booted.{balanced_throughout}
+use Rattle.fmp_headline.specs.Headline.{HeadlineThroughout}
+use Rattle.fmp_headline.proofs.Along.{headline_throughout}
 use Rattle.fmp_world.specs.Histories.{events_of, IsRunOf}
 use Rattle.fmp_world.specs.Scripted.{Scripted}
 use Rattle.fmp_world.proofs.Bits.{events_fit}
@@ -55,7 +55,7 @@ run_of w cpus clock c s ticks turns receipts ended known valid whole quiet told 
     record {
       run = run;
       safe = safe;
-      balanced = subst (IsBalancedThroughout c (events_of w.records)) (sym run.answers) (balanced_throughout c (events_of w.records) valid.few safe);
+      headline = subst (HeadlineThroughout c (events_of w.records)) (sym run.answers) (headline_throughout c (events_of w.records) valid run.on);
       scripted = scripted;
       in_bits = λ fit. events_fit c s fit w.records scripted;
       told = rw told (receipts_are c.processors cpus clock w.records whole.seats);

@@ -11,7 +11,7 @@ use Rattle.fmp_setup.specs.declared.setup.Timer.{Timer}
 use Rattle.fmp_setup.specs.Setup.{Setup, has_time}
 use Rattle.fmp_machine.specs.Boot.{booted}
 use Rattle.fmp_safety.specs.Runs.{IsSafeThroughout}
-use Rattle.fmp_balance.specs.Balance.{IsBalancedThroughout}
+use Rattle.fmp_headline.specs.Headline.{HeadlineThroughout}
 use Rattle.fmp_world.specs.declared.seats.Receipt.{Receipt}
 use Rattle.fmp_world.specs.declared.finishing.Ended.{Ended}
 use Rattle.fmp_world.specs.declared.finishing.Ended.TheVariants.{Quiet, Limit}
@@ -95,7 +95,7 @@ pub record IsWhole (w : History) (cpus : List Seat) (clock : ClockSeat) (c : Set
 pub record IsSmpRun (c : Setup) (scripts : List Steps) (ticks turns : ℕ) (h : List Record) (receipts : List (List Receipt)) (ended : Ended) : Type 0 where
   pub run : IsRunOf c h
   pub safe : IsSafeThroughout (booted c) (events_of h)
-  pub balanced : IsBalancedThroughout c (events_of h) h
+  pub headline : HeadlineThroughout c (events_of h) h
   pub scripted : Scripted c scripts h
   -- where the arguments of all steps are within the bits of their kinds, those of all events are
   pub in_bits : AreInBits scripts → All EventInBits (events_of h)

@@ -9,14 +9,10 @@ mod beside;
 use clap::error::ErrorKind;
 use fmp_check::Verdict;
 use fmp_context::TextForm;
-use fmp_smp::Open;
-use fmp_smp_command::{Limits, SmpRequest};
-use fmp_wave::run_wave;
+use fmp_smp_command::SmpRequest;
 use fmpsim_cli::{Asked, Paths, Request, Told};
-use fmpsim_run::{
-    FaultLine, ReadSource, RunFault, Status, WriteSink, run_calls, run_check, run_report,
-    run_seeded, run_states, run_threads, status_of_end,
-};
+use fmpsim_commands::{answer, judge, play};
+use fmpsim_run::{FaultLine, ReadSource, RunFault, Status, WriteSink};
 use std::io::{Input, Read, Write};
 use std::process::ExitCode;
 use std::rt::{Env, Files};
@@ -45,11 +41,7 @@ where
     let mut config = ReadSource::new(config);
     let mut events = ReadSource::new(events);
     let mut sink = WriteSink::new(alloc, io::writer(rt))?;
-    match told {
-        Told::Line => run_calls(alloc, &mut config, &mut events, &mut sink)?,
-        Told::State => run_states(alloc, &mut config, &mut events, &mut sink)?,
-    }
-    Ok(Status::Done)
+    answer(alloc, &mut config, &mut events, &mut sink, told)
 }
 
 fn opened<R: Files>(rt: &R, path: &str) -> Result<R::File, RunFault> {
@@ -87,11 +79,7 @@ fn judged<R: Files + Print + AllocGlobal>(
     let mut config = ReadSource::new(config);
     let mut trace = ReadSource::new(trace);
     let mut sink = WriteSink::new(alloc, io::writer(rt))?;
-    match asked {
-        Asked::Verdict => run_check(alloc, &mut config, &mut trace, &mut sink),
-        Asked::Differences(shown) => run_report(alloc, &mut config, &mut trace, &mut sink, shown),
-        Asked::Waveform => run_wave(alloc, &mut config, &mut trace, &mut sink),
-    }
+    judge(alloc, &mut config, &mut trace, &mut sink, asked)
 }
 
 /// Writes what is asked of a trace. Of one that is not the machine's there is no waveform, and that is told.
@@ -124,29 +112,7 @@ where
     let mut config = ReadSource::new(config);
     let mut scripts = ReadSource::new(scripts);
     let mut trace = WriteSink::new(alloc, io::writer(rt))?;
-    let Limits { ticks, turns } = request.limits;
-    let ended = match request.seed {
-        Some(seed) => run_seeded(
-            alloc,
-            &mut config,
-            &mut scripts,
-            &mut trace,
-            ticks,
-            turns,
-            seed,
-        )?,
-        None => run_threads(
-            rt,
-            alloc,
-            &mut config,
-            &mut scripts,
-            &mut trace,
-            ticks,
-            turns,
-            &Open,
-        )?,
-    };
-    Ok(status_of_end(ended))
+    play(rt, alloc, &mut config, &mut scripts, &mut trace, request)
 }
 
 /// Opens both files, or takes the scripts from standard input.

@@ -48,3 +48,16 @@ whole names text events false is e =
 pub whole_by_line : (names : NameLists) (text : List ℕ) (events : List Event) → reading_by_line names text ≡ faultless events → reading_of names text ≡ faultless events
 unfolding reading_by_line
 whole_by_line names text events e = whole names text events (ltb most_bytes (length text)) refl e
+
+-- and the other way about
+by_line : (names : NameLists) (text : List ℕ) (events : List Event) (long : Bool) → ltb most_bytes (length text) ≡ long
+    → reading_of names text ≡ faultless events → reading_from names long 0 0 [] (take most_bytes text) ≡ faultless events
+unfolding reading_of
+by_line names text events true is e = let told = ap (λ (r : Reading). r.fault) (rw is at e) in absurd cc
+by_line names text events false is e =
+    let all = take_all most_bytes text (ltb-false most_bytes (length text) is) in
+    rw all (rw is at e)
+
+pub line_by_line : (names : NameLists) (text : List ℕ) (events : List Event) → reading_of names text ≡ faultless events → reading_by_line names text ≡ faultless events
+unfolding reading_by_line
+line_by_line names text events e = by_line names text events (ltb most_bytes (length text)) refl e

@@ -1,22 +1,27 @@
 -- How a run over a configuration and events ends.
-use Rattle.std.proofs.Common.{◌≡◌, ℕ, false, List, Result, Ok, Err, IfErr, OnOk, sym, refl, inl, inr}
+use Rattle.std.proofs.Common.{◌≡◌, ℕ, false, List, Result, Ok, Err, IfErr, OnOk, ap, sym, refl, inl, inr}
 use Rattle.std.proofs.lemmas.Bool.{false≢true}
-use Rattle.fmp_balance.proofs.Booted.{balanced_throughout}
+use Rattle.fmp_headline.proofs.Along.{headline_throughout}
 use Rattle.fmp_codes.specs.Records.{AreOn}
 use Rattle.fmp_setup.specs.Setup.{Setup}
 use Rattle.fmp_setup.specs.Valid.{IsValid}
 use Rattle.fmp_safety.proofs.Booted.{runs_safe}
 use Rattle.fmp_text.proofs.Limited.{reading_on}
-use Rattle.fmp_text.proofs.SpelledTexts.{text_is_spelled}
-use Rattle.fmp_text.specs.Events.{reading_by_line}
-use Rattle.fmpsim_run.proofs.ByLine.{whole_by_line}
+use Rattle.fmp_codes.specs.declared.records.Event.{Event}
+use Rattle.fmp_names.specs.Names.{AreValid, NameLists}
+use Rattle.fmp_text.proofs.SpelledTexts.{reading_of-spelled, text_is_spelled}
+use Rattle.fmp_text.specs.TextGrammar.{SpellsText}
+use Rattle.fmp_text.specs.declared.fault.TextFault.{TextFault}
+use Rattle.fmp_text.specs.Events.{IsFirst, IsMemory, reading_by_line}
+use Rattle.fmp_judging.proofs.Grammars.{one_config, only_memory}
+use Rattle.fmpsim_run.proofs.ByLine.{line_by_line, whole_by_line}
 use Rattle.fmp_judging.specs.declared.fault.RunFault.{RunFault}
 use Rattle.fmpsim_run.specs.declared.stream.Detail.{Detail}
 use Rattle.fmpsim_run.specs.declared.stream.Detail.TheVariants as detail
 use Rattle.fmp_judging.specs.declared.fault.RunFault.TheVariants as run
 use Rattle.fmp_judging.specs.Faults.{is_config, is_text, is_write}
-use Rattle.fmp_judging.specs.Texts.{SaysConfig}
-use Rattle.fmpsim_run.specs.Runs.{FirstEventFault, FirstTextFault, IsAnswered, LeavesWritten, Writing, trace_of}
+use Rattle.fmp_judging.specs.Texts.{FirstConfigFault, SaysConfig}
+use Rattle.fmpsim_run.specs.Runs.{FirstEventFault, FirstTextFault, IsAnswered, IsNoFaultOfText, LeavesWritten, Writing, trace_of}
 use Rattle.fmpsim_run.specs.Details.{AreStatesTold, detail_of, states_of}
 use Rattle.fmpsim_run.specs.Streams.{IsAllOut, Leaves}
 
@@ -36,7 +41,7 @@ answered config_text event_text old new c says valid all =
         lists = text_is_spelled c.names event_text all.given is;
         prints = refl;
         safe = safe;
-        balanced = balanced_throughout c all.given valid.few safe;
+        headline = headline_throughout c all.given valid on;
       },
       all.text,
     )
@@ -57,7 +62,7 @@ states_told config_text event_text old new c says valid all =
         lists = text_is_spelled c.names event_text all.given is;
         prints = refl;
         safe = safe;
-        balanced = balanced_throughout c all.given valid.few safe;
+        headline = headline_throughout c all.given valid on;
       },
       all.text,
     )
@@ -122,3 +127,36 @@ module _ (config_text event_text old : List ℕ) where
         → OnOk r (IsAllOut detail.State c (reading_by_line c.names event_text) old new) → OnOk r (AreStatesTold config_text event_text old new)
     states_result new (Ok done) valid all = states_told config_text event_text old new c says valid all
     states_result new (Err fault) valid all = tt
+
+-- Texts that are right in all have no fault.
+module _ (config_text event_text : List ℕ) (c : Setup) (events : List Event) (says : SaysConfig config_text c) (spells : SpellsText c.names event_text events) where
+  pub config_right : (fault : RunFault) → is_text fault ≡ false → FirstConfigFault config_text fault → IsNoFaultOfText fault
+  config_right (run.Config fault) text first = only_memory config_text c (run.Config fault) says first text
+  config_right (run.Text fault) text first = absurd (false≢true (sym text))
+  config_right run.Read text first = tt
+  config_right run.Write text first = tt
+  config_right run.Memory text first = tt
+  config_right run.Start text first = tt
+  config_right run.Disagree text first = tt
+
+  text_right : (names : NameLists) → names ≡ c.names → AreValid names → (fault : TextFault) → IsFirst (reading_by_line names event_text) fault → IsMemory fault
+  text_right names same valid fault (inl first) =
+      let spelled = rw (← same) at spells in
+      let read = line_by_line names event_text events (reading_of-spelled names event_text events valid spelled) in
+      absurd (let told = rw read at first in cc)
+  text_right names same valid fault (inr memory) = memory
+
+  events_right : (names : NameLists) → names ≡ c.names → AreValid names → (fault : RunFault) → is_config fault ≡ false → FirstEventFault (reading_by_line names event_text) fault
+      → IsNoFaultOfText fault
+  events_right names same valid (run.Config fault) config first = absurd (false≢true (sym config))
+  events_right names same valid (run.Text fault) config first = text_right names same valid fault first
+  events_right names same valid run.Read config first = tt
+  events_right names same valid run.Write config first = tt
+  events_right names same valid run.Memory config first = tt
+  events_right names same valid run.Start config first = tt
+  events_right names same valid run.Disagree config first = tt
+
+  pub right_result : {T : Type 0} (config : Setup) → SaysConfig config_text config → AreValid config.names → (r : Result T RunFault) → IfErr r (λ fault. is_config fault ≡ false)
+      → IfErr r (FirstEventFault (reading_by_line config.names event_text)) → IfErr r IsNoFaultOfText
+  right_result config is valid (Ok done) kinds first = tt
+  right_result config is valid (Err fault) kinds first = events_right config.names (ap (λ (s : Setup). s.names) (one_config config_text config c is says)) valid fault kinds first

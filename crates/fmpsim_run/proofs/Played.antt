@@ -8,6 +8,7 @@ use Rattle.fmp_scripts.specs.Scripts.{Steps, AreInBits}
 use Rattle.fmp_names.specs.Names.{NameLists}
 use Rattle.fmp_text.specs.Limits.{most_bytes}
 use Rattle.fmp_trace.specs.Lines.{lines_from}
+use Rattle.fmp_smp.specs.Rounds.{TicksInTurn}
 use Rattle.fmp_smp.specs.Seeds.{IsInOrderOf}
 use Rattle.fmp_world.specs.declared.finishing.Ended.{Ended}
 use Rattle.fmp_world.specs.declared.seats.Receipt.{Receipt}
@@ -23,8 +24,8 @@ use Rattle.fmpsim_run.specs.Scripted.{IsPlayBegun, IsPlayed, IsPlayedInOrder, Pl
 -- the trace of a run of at most 1,000,000 turns
 abbrev pub played : (config_text script_text : List ℕ) (ticks turns : ℕ) (c : Setup) (scripts : List Steps) (h : List Record) (receipts : List (List Receipt)) (ended : Ended)
     → SaysConfig config_text c → SpellsScripts c.names script_text scripts → AreInBits scripts → turns ≤ 1000000
-    → IsSmpRun c scripts ticks turns h receipts ended → Played config_text script_text ticks turns (lines_from c.names 1 h) ended
-played config_text script_text ticks turns c scripts h receipts ended says spells fit few is = record {
+    → IsSmpRun c scripts ticks turns h receipts ended → TicksInTurn c ticks h → Played config_text script_text ticks turns (lines_from c.names 1 h) ended
+played config_text script_text ticks turns c scripts h receipts ended says spells fit few is ticked = record {
   config = c;
   scripts = scripts;
   records = h;
@@ -32,6 +33,7 @@ played config_text script_text ticks turns c scripts h receipts ended says spell
   says = says;
   spells = spells;
   run = is;
+  ticked = ticked;
   prints = refl;
   answers = λ short. record {
     on = is.run.on;

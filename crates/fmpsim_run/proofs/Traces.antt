@@ -1,7 +1,7 @@
 -- The trace of one event more, and beginnings of traces.
-use Rattle.std.proofs.Common.{◌≡◌, ◌∙◌, ℕ, ◌+◌, ◌≤◌, List, [], ◌∷◌, ◌++◌, length, take, min, refl, ap, sym, arith, append_assoc}
-use Rattle.std.proofs.lemmas.List.{append-nil, take_min, take-append-le}
-use Rattle.std.proofs.Math.Seq.{take-append-add, take-length}
+use Rattle.std.proofs.Common.{◌≡◌, ◌∙◌, ℕ, ◌+◌, ◌≤◌, List, [], ◌∷◌, ◌++◌, length, take, drop, min, refl, ap, sym, arith, append_assoc}
+use Rattle.std.proofs.lemmas.List.{append-nil, take_min, take-append-drop, take-append-le}
+use Rattle.std.proofs.Math.Seq.{take-append-add, take-append_seam, take-length}
 use Rattle.fmp_codes.specs.declared.records.Event.{Event}
 use Rattle.fmp_machine.specs.Boot.{booted}
 use Rattle.fmp_machine.specs.Ordering.{Ordering}
@@ -109,3 +109,11 @@ begun d c given more event old written new text begins =
 pub all_begun : (d : Detail) (c : Setup) (events : List Event) (old new : List ℕ) → new ≡ old ++ detail_of d c events → BeginsWith old (detail_of d c events) new
 all_begun d c events old new text =
     (length (detail_of d c events), text ∙ ap (λ xs. old ++ xs) (sym (take-length (detail_of d c events))))
+
+-- what is written of a prefix of the events is a beginning of what is written of all
+pub prefix_begun : (d : Detail) (c : Setup) (events : List Event) (n : ℕ) (old new : List ℕ) → new ≡ old ++ detail_of d c (take n events) → BeginsWith old (detail_of d c events) new
+prefix_begun d c events n old new text =
+    let first = detail_of d c (take n events) in
+    let behind = rest_of d c (take n events) (drop n events) in
+    let parts : detail_of d c events ≡ first ++ behind = ap (detail_of d c) (sym (take-append-drop n events)) ∙ detail_append d c (take n events) (drop n events) in
+    (length first, text ∙ ap (λ xs. old ++ xs) (sym (ap (take (length first)) parts ∙ take-append_seam first behind)))

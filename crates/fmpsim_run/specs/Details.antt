@@ -9,7 +9,7 @@ use Rattle.fmp_machine.specs.Boot.{booted}
 use Rattle.fmp_machine.specs.Arrivals.{State, numbered}
 use Rattle.fmp_machine.specs.Step.{answers, step}
 use Rattle.fmp_safety.specs.Runs.{IsSafeThroughout}
-use Rattle.fmp_balance.specs.Balance.{IsBalancedThroughout}
+use Rattle.fmp_headline.specs.Headline.{HeadlineThroughout}
 use Rattle.fmp_trace.specs.Lines.{line_text}
 use Rattle.fmp_states.specs.States.{state_text}
 use Rattle.fmpsim_run.specs.declared.stream.Detail.{Detail}
@@ -42,7 +42,7 @@ detail_of detail.Line = trace_of
 detail_of detail.State = states_of
 
 -- The output is the trace of the one text's machine over the other's events, with the state after each. Every prefix of these
--- leads to a safe state, in which what the records so far say came in and went out agrees with what is there.
+-- leads to a safe state, and the headline holds there.
 pub record ToldStates (config_text event_text output : List ℕ) : Type 0 where
   pub config : Setup
   pub events : List Event
@@ -50,7 +50,7 @@ pub record ToldStates (config_text event_text output : List ℕ) : Type 0 where
   pub lists : SpellsText config.names event_text events
   pub prints : output ≡ states_from config.names 1 (booted config) events
   pub safe : IsSafeThroughout (booted config) events
-  pub balanced : IsBalancedThroughout config events (answers numbered (booted config) events)
+  pub headline : HeadlineThroughout config events (answers numbered (booted config) events)
 
 -- the output was written after old, all of it
 abbrev pub AreStatesTold : List ℕ → List ℕ → List ℕ → List ℕ → Type 0

@@ -8,6 +8,7 @@ use Rattle.fmp_machine.specs.Boot.{booted}
 use Rattle.fmp_machine.specs.Arrivals.{numbered}
 use Rattle.fmp_machine.specs.Step.{answers}
 use Rattle.fmp_trace.specs.Lines.{lines_from}
+use Rattle.fmp_statements.specs.declared.fault.ConfigKind.TheVariants as config_kind
 use Rattle.fmp_judging.specs.declared.fault.RunFault.{RunFault}
 use Rattle.fmp_judging.specs.declared.fault.RunFault.TheVariants as run
 use Rattle.fmp_devices.specs.Devices.{BeginsWith}
@@ -76,3 +77,9 @@ abbrev pub FirstTextFault : List ℕ → List ℕ → RunFault → Type 0
 FirstTextFault config_text event_text (run.Text fault) =
     (config : Setup) × SaysConfig config_text config × FirstEventFault (reading_by_line config.names event_text) (run.Text fault)
 FirstTextFault config_text event_text other = Unit {0}
+
+-- neither text has this fault: memory ran out, or a device failed
+abbrev pub IsNoFaultOfText : RunFault → Type 0
+IsNoFaultOfText (run.Config fault) = fault.kind ≡ config_kind.Memory
+IsNoFaultOfText (run.Text fault) = IsMemory fault
+IsNoFaultOfText other = Unit {0}

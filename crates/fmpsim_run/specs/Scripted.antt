@@ -6,6 +6,7 @@ use Rattle.fmp_scripts.specs.ScriptGrammar.{SpellsScripts}
 use Rattle.fmp_scripts.specs.Scripts.{Steps}
 use Rattle.fmp_smp.specs.declared.fault.SmpFault.{SmpFault}
 use Rattle.fmp_smp.specs.declared.fault.SmpFault.TheVariants as smp
+use Rattle.fmp_smp.specs.Rounds.{TicksInTurn}
 use Rattle.fmp_smp.specs.Seeds.{IsInOrderOf}
 use Rattle.fmp_text.specs.Limits.{most_bytes}
 use Rattle.fmp_check.specs.Checking.{PrintsAnswers}
@@ -31,6 +32,8 @@ pub record Played (config_text script_text : List ℕ) (ticks turns : ℕ) (outp
   pub says : SaysConfig config_text config
   pub spells : SpellsScripts config.names script_text scripts
   pub run : IsSmpRun config scripts ticks turns records receipts ended
+  -- each tick is the one that was due
+  pub ticked : TicksInTurn config ticks records
   pub prints : output ≡ lines_from config.names 1 records
   -- within the limit of bytes it is a trace of this machine's answers
   pub answers : length output ≤ most_bytes → PrintsAnswers config output (events_of records)

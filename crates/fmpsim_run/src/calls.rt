@@ -1,17 +1,21 @@
 //! The run that answers a list of events, each as it comes.
-ghost use Rattle.std.specs.Prelude.{◌≡◌, ◌+◌, ◌-◌, ◌^◌, ◌<◌, ◌≤◌, [], ℕ, List, true, false, None, length, IsTrue, OnOk, IfErr, if◌then◌else◌};
+ghost use Rattle.std.specs.Prelude.{◌≡◌, ◌≢◌, ◌+◌, ◌-◌, ◌^◌, ◌<◌, ◌≤◌, [], ℕ, List, true, false, None, length, OnOk, IfErr, Err, if◌then◌else◌};
 ghost use Rattle.fmp_setup.specs.Valid.{IsValid};
+ghost use Rattle.fmp_codes.specs.declared.records.Event.{Event as AnyEvent};
+ghost use Rattle.fmp_setup.specs.Setup.{Setup};
 ghost use Rattle.fmp_text.specs.Events.{Reading, reading_by_line};
+ghost use Rattle.fmp_text.specs.TextGrammar.{SpellsText};
 ghost use Rattle.fmp_text.specs.Limits.{most_bytes, most_events};
 ghost use Rattle.fmpsim_run.specs.Details.{AreStatesTold, LeavesStates};
+ghost use Rattle.fmp_devices.specs.Devices.{IsKnown, bytes_of};
 ghost use Rattle.fmp_judging.specs.Faults.{failed_read, failed_write, is_config, is_thread_fault};
-ghost use Rattle.fmp_judging.specs.Texts.{CountsReads, FirstConfigFault};
-ghost use Rattle.fmpsim_run.specs.Runs.{FirstEventFault, FirstTextFault, IsAnswered, LeavesOut};
+ghost use Rattle.fmp_judging.specs.Texts.{CountsReads, FailsOnce, FirstConfigFault, SaysConfig};
+ghost use Rattle.fmpsim_run.specs.Runs.{FirstEventFault, FirstTextFault, IsAnswered, IsNoFaultOfText, LeavesOut};
 ghost use Rattle.fmpsim_run.specs.Streams.{IsAllOut, Leaves, Streams};
 
 use crate::stream::{Answering, Detail};
 use fmp_devices::{Sink, Source, new_piece};
-use fmp_judging::{RunFault, config_from};
+use fmp_judging::{RunFault, config_from, pass_on};
 use fmp_machine::Config;
 use std::alloc::Global;
 
@@ -32,16 +36,17 @@ fn answer_all<S: Source, W: Sink>(
     requires unended { run.old.feed.ended ≡ false }
     requires processors { length run.old.kernel.processors ≡ config.now.processors }
     requires room { 0 < length piece.old }
-    ensures answered { IsTrue S.tells → IsTrue W.tells → (d : Detail) (whole : Reading) (old : List ℕ)
-        → Streams d W.tells config.now whole old run.old (W.written trace.old) (S.left events.old)
-        → OnOk result (IsAllOut d config.now whole old (W.written trace.new)) }
-    ensures first { IsTrue S.tells → (d : Detail) (whole : Reading) (old : List ℕ)
-        → Streams d W.tells config.now whole old run.old (W.written trace.old) (S.left events.old)
+    ensures known { IsKnown (W.written trace.old) → IsKnown (W.written trace.new) }
+    ensures answered { IsKnown (S.left events.old) → IsKnown (W.written trace.old) → (d : Detail) (whole : Reading) (old : List ℕ)
+        → Streams d true config.now whole old run.old (bytes_of (W.written trace.old)) (bytes_of (S.left events.old))
+        → OnOk result (IsAllOut d config.now whole old (bytes_of (W.written trace.new))) }
+    ensures first { IsKnown (S.left events.old) → (d : Detail) (whole : Reading) (old : List ℕ)
+        → Streams d false config.now whole old run.old (bytes_of (W.written trace.old)) (bytes_of (S.left events.old))
         → IfErr result (FirstEventFault whole) }
-    ensures leaves { IsTrue S.tells → IsTrue W.tells → (d : Detail) (whole : Reading) (old : List ℕ)
-        → Streams d W.tells config.now whole old run.old (W.written trace.old) (S.left events.old)
-        → IfErr result (Leaves d config.now whole old (W.written trace.new)) }
-    ensures events_read { IsTrue S.tells → OnOk result (S.left events.new ≡ []) }
+    ensures leaves { IsKnown (S.left events.old) → IsKnown (W.written trace.old) → (d : Detail) (whole : Reading) (old : List ℕ)
+        → Streams d true config.now whole old run.old (bytes_of (W.written trace.old)) (bytes_of (S.left events.old))
+        → IfErr result (Leaves d config.now whole old (bytes_of (W.written trace.new))) }
+    ensures events_read { IsKnown (S.left events.old) → OnOk result (bytes_of (S.left events.new) ≡ []) }
     ensures kinds { IfErr result (λ fault. is_config fault ≡ false) }
     ensures no_thread_fault { IfErr result (λ fault. is_thread_fault fault ≡ false) }
     ensures reads { S.failures events.new ≡ S.failures events.old + (if failed_read result then 1 else 0) }
@@ -54,7 +59,35 @@ fn answer_all<S: Source, W: Sink>(
     Ok(())
 }
 
-/// Answers the events of a text from boot on, and passes on what the sink holds back.
+/// Answers the events of a text from boot on.
+fn answer_from_boot<S: Source, W: Sink>(
+    alloc: Global,
+    detail: Detail,
+    config: &Config,
+    events: &mut S,
+    trace: &mut W,
+) -> Result<(), RunFault>
+    requires event_calls { S.failures events.old < 2 ^ 64 - 1 }
+    requires trace_calls { W.failures trace.old < 2 ^ 64 - 1 }
+    ensures known { IsKnown (W.written trace.old) → IsKnown (W.written trace.new) }
+    ensures answered { IsKnown (S.left events.old) → IsKnown (W.written trace.old)
+        → OnOk result (IsAllOut detail config.now (reading_by_line config.now.names (bytes_of (S.left events.old))) (bytes_of (W.written trace.old)) (bytes_of (W.written trace.new))) }
+    ensures valid { OnOk result (IsValid config.now) }
+    ensures first { IsKnown (S.left events.old) → IfErr result (FirstEventFault (reading_by_line config.now.names (bytes_of (S.left events.old)))) }
+    ensures leaves { IsKnown (S.left events.old) → IsKnown (W.written trace.old)
+        → IfErr result (Leaves detail config.now (reading_by_line config.now.names (bytes_of (S.left events.old))) (bytes_of (W.written trace.old)) (bytes_of (W.written trace.new))) }
+    ensures events_read { IsKnown (S.left events.old) → OnOk result (bytes_of (S.left events.new) ≡ []) }
+    ensures kinds { IfErr result (λ fault. is_config fault ≡ false) }
+    ensures no_thread_fault { IfErr result (λ fault. is_thread_fault fault ≡ false) }
+    ensures reads { S.failures events.new ≡ S.failures events.old + (if failed_read result then 1 else 0) }
+    ensures writes { W.failures trace.new ≡ W.failures trace.old + (if failed_write result then 1 else 0) }
+{
+    let mut piece = new_piece(alloc)?;
+    let mut run = Answering::new(alloc, detail, config)?;
+    answer_all(&mut run, config, events, trace, piece.as_mut_slice())
+}
+
+/// Answers the events of a text from boot on, and passes on what the sink holds back, also where the text has a fault.
 fn answer_text<S: Source, W: Sink>(
     alloc: Global,
     detail: Detail,
@@ -64,23 +97,23 @@ fn answer_text<S: Source, W: Sink>(
 ) -> Result<(), RunFault>
     requires event_calls { S.failures events.old < 2 ^ 64 - 1 }
     requires trace_calls { W.failures trace.old < 2 ^ 64 - 1 }
-    ensures answered { IsTrue S.tells → IsTrue W.tells
-        → OnOk result (IsAllOut detail config.now (reading_by_line config.now.names (S.left events.old)) (W.written trace.old) (W.written trace.new)) }
+    ensures known { IsKnown (W.written trace.old) → IsKnown (W.written trace.new) }
+    ensures answered { IsKnown (S.left events.old) → IsKnown (W.written trace.old)
+        → OnOk result (IsAllOut detail config.now (reading_by_line config.now.names (bytes_of (S.left events.old))) (bytes_of (W.written trace.old)) (bytes_of (W.written trace.new))) }
     ensures valid { OnOk result (IsValid config.now) }
-    ensures passed { OnOk result (W.buffered trace.new ≡ []) }
-    ensures first { IsTrue S.tells → IfErr result (FirstEventFault (reading_by_line config.now.names (S.left events.old))) }
-    ensures leaves { IsTrue S.tells → IsTrue W.tells
-        → IfErr result (Leaves detail config.now (reading_by_line config.now.names (S.left events.old)) (W.written trace.old) (W.written trace.new)) }
-    ensures events_read { IsTrue S.tells → OnOk result (S.left events.new ≡ []) }
+    ensures passed { result ≢ Err RunFault.Write → W.buffered trace.new ≡ [] }
+    ensures first { IsKnown (S.left events.old) → IfErr result (FirstEventFault (reading_by_line config.now.names (bytes_of (S.left events.old)))) }
+    ensures leaves { IsKnown (S.left events.old) → IsKnown (W.written trace.old)
+        → IfErr result (Leaves detail config.now (reading_by_line config.now.names (bytes_of (S.left events.old))) (bytes_of (W.written trace.old)) (bytes_of (W.written trace.new))) }
+    ensures events_read { IsKnown (S.left events.old) → OnOk result (bytes_of (S.left events.new) ≡ []) }
     ensures kinds { IfErr result (λ fault. is_config fault ≡ false) }
     ensures no_thread_fault { IfErr result (λ fault. is_thread_fault fault ≡ false) }
-    ensures reads { S.failures events.new ≡ S.failures events.old + (if failed_read result then 1 else 0) }
+    ensures reads { result ≢ Err RunFault.Write → S.failures events.new ≡ S.failures events.old + (if failed_read result then 1 else 0) }
+    ensures most { (S.failures events.old ≤ S.failures events.new) × (S.failures events.new ≤ S.failures events.old + 1) }
     ensures writes { W.failures trace.new ≡ W.failures trace.old + (if failed_write result then 1 else 0) }
 {
-    let mut piece = new_piece(alloc)?;
-    let mut run = Answering::new(alloc, detail, config)?;
-    answer_all(&mut run, config, events, trace, piece.as_mut_slice())?;
-    Ok(trace.flush()?)
+    let ended = answer_from_boot(alloc, detail, config, events, trace);
+    pass_on(ended, trace)
 }
 
 /// Reads a configuration and events, and writes the trace of the machine's answers, each line as its event comes.
@@ -96,31 +129,40 @@ pub fn run_calls<R: Source, S: Source, W: Sink>(
     requires event_calls { S.failures events.old < 2 ^ 64 - 1 }
     requires trace_calls { W.failures trace.old < 2 ^ 64 - 1 }
 
-    // Both texts were read to their ends, and what is written is the trace of the answers to the events. None of it is held
-    // back.
-    ensures answered { IsTrue R.tells → IsTrue S.tells → IsTrue W.tells → OnOk result (IsAnswered (R.left config.old) (S.left events.old) (W.written trace.old) (W.written trace.new)) }
-    ensures passed { OnOk result (W.buffered trace.new ≡ []) }
-    ensures config_read { IsTrue R.tells → OnOk result (R.left config.new ≡ []) }
-    ensures events_read { IsTrue S.tells → OnOk result (S.left events.new ≡ []) }
+    // Both texts were read to their ends, and what is written is the trace of the answers to the events.
+    ensures answered { IsKnown (R.left config.old) → IsKnown (S.left events.old) → IsKnown (W.written trace.old) → OnOk result (IsAnswered (bytes_of (R.left config.old)) (bytes_of (S.left events.old)) (bytes_of (W.written trace.old)) (bytes_of (W.written trace.new))) }
+    ensures known { IsKnown (W.written trace.old) → IsKnown (W.written trace.new) }
+    ensures config_read { IsKnown (R.left config.old) → OnOk result (bytes_of (R.left config.new) ≡ []) }
+    ensures events_read { IsKnown (S.left events.old) → OnOk result (bytes_of (S.left events.new) ≡ []) }
+
+    // Texts that are right in all are answered, but for want of memory or a device that fails.
+    ensures right { IsKnown (R.left config.old) → IsKnown (S.left events.old) → (c : Setup) (es : List AnyEvent) → SaysConfig (bytes_of (R.left config.old)) c
+        → SpellsText c.names (bytes_of (S.left events.old)) es → IfErr result IsNoFaultOfText }
 
     // A fault of a text is its first one.
-    ensures config_fault { IsTrue R.tells → IfErr result (FirstConfigFault (R.left config.old)) }
-    ensures text_fault { IsTrue R.tells → IsTrue S.tells → IfErr result (FirstTextFault (R.left config.old) (S.left events.old)) }
+    ensures config_fault { IsKnown (R.left config.old) → IfErr result (FirstConfigFault (bytes_of (R.left config.old))) }
+    ensures text_fault { IsKnown (R.left config.old) → IsKnown (S.left events.old) → IfErr result (FirstTextFault (bytes_of (R.left config.old)) (bytes_of (S.left events.old))) }
 
     // After a fault of the configuration nothing is written. After one of the events the trace of those before it is out, after
     // a failed read or want of memory the trace of some prefix of them, and after a failed write or flush a beginning of the
     // trace.
-    ensures unwritten { IsTrue W.tells → IfErr result (λ fault. is_config fault ≡ true → W.written trace.new ≡ W.written trace.old) }
-    ensures leaves { IsTrue R.tells → IsTrue S.tells → IsTrue W.tells → IfErr result (LeavesOut (R.left config.old) (S.left events.old) (W.written trace.old) (W.written trace.new)) }
+    ensures unwritten { IsKnown (W.written trace.old) → IfErr result (λ fault. is_config fault ≡ true → bytes_of (W.written trace.new) ≡ bytes_of (W.written trace.old)) }
+    ensures leaves { IsKnown (R.left config.old) → IsKnown (S.left events.old) → IsKnown (W.written trace.old) → IfErr result (LeavesOut (bytes_of (R.left config.old)) (bytes_of (S.left events.old)) (bytes_of (W.written trace.old)) (bytes_of (W.written trace.new))) }
+
+    // However the run ends, nothing is held back, unless a write failed.
+    ensures passed { OnOk result (W.buffered trace.new ≡ []) }
+    ensures none_held { W.buffered trace.old ≡ [] → result ≢ Err RunFault.Write → W.buffered trace.new ≡ [] }
 
     // No thread was started.
     ensures no_thread_fault { IfErr result (λ fault. is_thread_fault fault ≡ false) }
 
-    // Which calls of the devices failed.
-    ensures reads { CountsReads result (R.failures config.old) (R.failures config.new) (S.failures events.old) (S.failures events.new) }
+    // Which calls of the devices failed. The flush behind a failed read may fail too, and is told then.
+    ensures reads { result ≢ Err RunFault.Write → CountsReads result (R.failures config.old) (R.failures config.new) (S.failures events.old) (S.failures events.new) }
+    ensures most { FailsOnce (R.failures config.old) (R.failures config.new) (S.failures events.old) (S.failures events.new) }
     ensures writes { W.failures trace.new ≡ W.failures trace.old + (if failed_write result then 1 else 0) }
 {
     let configuration = config_from(alloc, config)?;
+    configuration.names().validity();
     answer_text(alloc, Detail::Line, &configuration, events, trace)
 }
 
@@ -139,29 +181,39 @@ pub fn run_states<R: Source, S: Source, W: Sink>(
     requires trace_calls { W.failures trace.old < 2 ^ 64 - 1 }
 
     // Both texts were read to their ends, and what is written is the trace of the answers to the events with the state after
-    // each. None of it is held back.
-    ensures answered { IsTrue R.tells → IsTrue S.tells → IsTrue W.tells → OnOk result (AreStatesTold (R.left config.old) (S.left events.old) (W.written trace.old) (W.written trace.new)) }
-    ensures passed { OnOk result (W.buffered trace.new ≡ []) }
-    ensures config_read { IsTrue R.tells → OnOk result (R.left config.new ≡ []) }
-    ensures events_read { IsTrue S.tells → OnOk result (S.left events.new ≡ []) }
+    // each.
+    ensures answered { IsKnown (R.left config.old) → IsKnown (S.left events.old) → IsKnown (W.written trace.old) → OnOk result (AreStatesTold (bytes_of (R.left config.old)) (bytes_of (S.left events.old)) (bytes_of (W.written trace.old)) (bytes_of (W.written trace.new))) }
+    ensures known { IsKnown (W.written trace.old) → IsKnown (W.written trace.new) }
+    ensures config_read { IsKnown (R.left config.old) → OnOk result (bytes_of (R.left config.new) ≡ []) }
+    ensures events_read { IsKnown (S.left events.old) → OnOk result (bytes_of (S.left events.new) ≡ []) }
+
+    // Texts that are right in all are answered, but for want of memory or a device that fails.
+    ensures right { IsKnown (R.left config.old) → IsKnown (S.left events.old) → (c : Setup) (es : List AnyEvent) → SaysConfig (bytes_of (R.left config.old)) c
+        → SpellsText c.names (bytes_of (S.left events.old)) es → IfErr result IsNoFaultOfText }
 
     // A fault of a text is its first one.
-    ensures config_fault { IsTrue R.tells → IfErr result (FirstConfigFault (R.left config.old)) }
-    ensures text_fault { IsTrue R.tells → IsTrue S.tells → IfErr result (FirstTextFault (R.left config.old) (S.left events.old)) }
+    ensures config_fault { IsKnown (R.left config.old) → IfErr result (FirstConfigFault (bytes_of (R.left config.old))) }
+    ensures text_fault { IsKnown (R.left config.old) → IsKnown (S.left events.old) → IfErr result (FirstTextFault (bytes_of (R.left config.old)) (bytes_of (S.left events.old))) }
 
     // After a fault of the configuration nothing is written. After one of the events what is told of those before it is out,
     // after a failed read or want of memory what is told of some prefix of them, and after a failed write or flush a beginning
     // of all.
-    ensures unwritten { IsTrue W.tells → IfErr result (λ fault. is_config fault ≡ true → W.written trace.new ≡ W.written trace.old) }
-    ensures leaves { IsTrue R.tells → IsTrue S.tells → IsTrue W.tells → IfErr result (LeavesStates (R.left config.old) (S.left events.old) (W.written trace.old) (W.written trace.new)) }
+    ensures unwritten { IsKnown (W.written trace.old) → IfErr result (λ fault. is_config fault ≡ true → bytes_of (W.written trace.new) ≡ bytes_of (W.written trace.old)) }
+    ensures leaves { IsKnown (R.left config.old) → IsKnown (S.left events.old) → IsKnown (W.written trace.old) → IfErr result (LeavesStates (bytes_of (R.left config.old)) (bytes_of (S.left events.old)) (bytes_of (W.written trace.old)) (bytes_of (W.written trace.new))) }
+
+    // However the run ends, nothing is held back, unless a write failed.
+    ensures passed { OnOk result (W.buffered trace.new ≡ []) }
+    ensures none_held { W.buffered trace.old ≡ [] → result ≢ Err RunFault.Write → W.buffered trace.new ≡ [] }
 
     // No thread was started.
     ensures no_thread_fault { IfErr result (λ fault. is_thread_fault fault ≡ false) }
 
-    // Which calls of the devices failed.
-    ensures reads { CountsReads result (R.failures config.old) (R.failures config.new) (S.failures events.old) (S.failures events.new) }
+    // Which calls of the devices failed. The flush behind a failed read may fail too, and is told then.
+    ensures reads { result ≢ Err RunFault.Write → CountsReads result (R.failures config.old) (R.failures config.new) (S.failures events.old) (S.failures events.new) }
+    ensures most { FailsOnce (R.failures config.old) (R.failures config.new) (S.failures events.old) (S.failures events.new) }
     ensures writes { W.failures trace.new ≡ W.failures trace.old + (if failed_write result then 1 else 0) }
 {
     let machine = config_from(alloc, config)?;
+    machine.names().validity();
     answer_text(alloc, Detail::State, &machine, events, trace)
 }

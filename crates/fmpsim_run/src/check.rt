@@ -1,6 +1,7 @@
 //! The run that checks a trace.
-ghost use Rattle.std.specs.Prelude.{◌≡◌, ◌≢◌, ℕ, ◌+◌, ◌-◌, ◌^◌, ◌<◌, ◌≤◌, List, ◌++◌, [], length, IsTrue, OnOk, IfOk, IfErr, Err, false, if◌then◌else◌};
+ghost use Rattle.std.specs.Prelude.{◌≡◌, ◌≢◌, ℕ, ◌+◌, ◌-◌, ◌^◌, ◌<◌, ◌≤◌, List, ◌++◌, [], length, OnOk, IfOk, IfErr, Err, false, if◌then◌else◌};
 ghost use Rattle.fmp_text.specs.Limits.{most_bytes as MOST_BYTES};
+ghost use Rattle.fmp_devices.specs.Devices.{IsKnown, bytes_of};
 ghost use Rattle.fmp_judging.specs.Faults.{failed_write, is_thread_fault};
 ghost use Rattle.fmp_judging.specs.Texts.{Answered, CountsReads, FirstConfigFault};
 ghost use Rattle.fmp_world.specs.declared.finishing.Ended.{Ended};
@@ -47,28 +48,29 @@ pub fn run_check<R: Source, S: Source, W: Sink>(
     requires answer_calls { W.failures answer.old < 2 ^ 64 - 1 }
 
     // Both texts were read to their ends, the verdict is right, and what is written is the verdict. None of it is held back.
-    ensures checked { IsTrue R.tells → IsTrue S.tells → IfOk result (Checked (R.left config.old) (S.left trace.old)) }
-    ensures written { IsTrue W.tells → IfOk result (λ verdict. W.written answer.new ≡ W.written answer.old ++ verdict_text verdict) }
+    ensures checked { IsKnown (R.left config.old) → IsKnown (S.left trace.old) → IfOk result (Checked (bytes_of (R.left config.old)) (bytes_of (S.left trace.old))) }
+    ensures written { IsKnown (W.written answer.old) → IfOk result (λ verdict. bytes_of (W.written answer.new) ≡ bytes_of (W.written answer.old) ++ verdict_text verdict) }
+    ensures known { IsKnown (W.written answer.old) → IsKnown (W.written answer.new) }
     ensures passed { OnOk result (W.buffered answer.new ≡ []) }
-    ensures config_read { IsTrue R.tells → OnOk result (R.left config.new ≡ []) }
-    ensures trace_read { IsTrue S.tells → OnOk result (S.left trace.new ≡ []) }
+    ensures config_read { IsKnown (R.left config.old) → OnOk result (bytes_of (R.left config.new) ≡ []) }
+    ensures trace_read { IsKnown (S.left trace.old) → OnOk result (bytes_of (S.left trace.new) ≡ []) }
 
     // A trace that answers some events, as `run_calls` writes it, is checked with yes.
-    ensures answers { IsTrue R.tells → IsTrue S.tells → (event_text : List ℕ) → Answered (R.left config.old) event_text (S.left trace.old)
-        → length (S.left trace.old) ≤ MOST_BYTES → IsYes result }
+    ensures answers { IsKnown (R.left config.old) → IsKnown (S.left trace.old) → (event_text : List ℕ) → Answered (bytes_of (R.left config.old)) event_text (bytes_of (S.left trace.old))
+        → length (bytes_of (S.left trace.old)) ≤ MOST_BYTES → IsYes result }
 
     // So is one of processors that follow scripts, as `run_threads` and `run_seeded` write it.
-    ensures plays { IsTrue R.tells → IsTrue S.tells → (script_text : List ℕ) (ticks turns : ℕ) (ended : Ended)
-        → Played (R.left config.old) script_text ticks turns (S.left trace.old) ended → length (S.left trace.old) ≤ MOST_BYTES → IsYes result }
+    ensures plays { IsKnown (R.left config.old) → IsKnown (S.left trace.old) → (script_text : List ℕ) (ticks turns : ℕ) (ended : Ended)
+        → Played (bytes_of (R.left config.old)) script_text ticks turns (bytes_of (S.left trace.old)) ended → length (bytes_of (S.left trace.old)) ≤ MOST_BYTES → IsYes result }
 
     // A fault of a text is its first one.
-    ensures config_fault { IsTrue R.tells → IfErr result (FirstConfigFault (R.left config.old)) }
-    ensures text_fault { IsTrue R.tells → IsTrue S.tells → IfErr result (FirstTraceFault (R.left config.old) (S.left trace.old)) }
+    ensures config_fault { IsKnown (R.left config.old) → IfErr result (FirstConfigFault (bytes_of (R.left config.old))) }
+    ensures text_fault { IsKnown (R.left config.old) → IsKnown (S.left trace.old) → IfErr result (FirstTraceFault (bytes_of (R.left config.old)) (bytes_of (S.left trace.old))) }
 
     // After a failed write or flush a beginning of the verdict is out, and after any other fault nothing is.
-    ensures write { IsTrue R.tells → IsTrue S.tells → IsTrue W.tells → (result ≡ Err RunFault.Write)
-        → IsCheckBegun (R.left config.old) (S.left trace.old) (W.written answer.old) (W.written answer.new) }
-    ensures unwritten { IsTrue W.tells → IfErr result (λ fault. fault ≢ RunFault.Write → W.written answer.new ≡ W.written answer.old) }
+    ensures write { IsKnown (R.left config.old) → IsKnown (S.left trace.old) → IsKnown (W.written answer.old) → (result ≡ Err RunFault.Write)
+        → IsCheckBegun (bytes_of (R.left config.old)) (bytes_of (S.left trace.old)) (bytes_of (W.written answer.old)) (bytes_of (W.written answer.new)) }
+    ensures unwritten { IsKnown (W.written answer.old) → IfErr result (λ fault. fault ≢ RunFault.Write → bytes_of (W.written answer.new) ≡ bytes_of (W.written answer.old)) }
 
     // No thread was started.
     ensures no_thread_fault { IfErr result (λ fault. is_thread_fault fault ≡ false) }

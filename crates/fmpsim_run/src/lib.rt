@@ -1,7 +1,6 @@
 //! The runs of the program: texts in, a text out, through devices that can fail.
 //!
-//! A run reads a [`Source`] to its end and writes to a [`Sink`]. Those over memory tell their bytes, and contracts speak of
-//! them; those over readers and writers of std tell none. [`run_calls`] and [`run_states`] answer each event as its line comes,
+//! A run reads a [`Source`] to its end and writes to a [`Sink`]; contracts speak of their bytes where these are known. [`run_calls`] and [`run_states`] answer each event as its line comes,
 //! on the kernel; [`run_check`] and [`run_report`] judge a trace by the plain machine; [`run_threads`] and [`run_seeded`] have
 //! processors follow scripts. Devices are in `fmp_devices`; how texts are read and judged, and what a run's faults are, in
 //! `fmp_judging`.

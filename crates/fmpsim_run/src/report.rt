@@ -1,12 +1,12 @@
 //! The run that shows where a trace differs.
-ghost use Rattle.std.specs.Prelude.{◌≡◌, ◌≢◌, ℕ, ◌+◌, ◌-◌, ◌^◌, ◌<◌, ◌≤◌, List, ◌++◌, [], length, IsTrue, OnOk, OnErr, IfOk, IfErr, Err, false, is_err, if◌then◌else◌};
+ghost use Rattle.std.specs.Prelude.{◌≡◌, ◌≢◌, ℕ, ◌+◌, ◌-◌, ◌^◌, ◌<◌, ◌≤◌, List, ◌++◌, [], length, OnOk, OnErr, IfOk, IfErr, Err, false, is_err, if◌then◌else◌};
 ghost use Rattle.fmp_codes.specs.declared.records.Event.{Event as AnyEvent};
 ghost use Rattle.fmp_text.specs.Limits.{most_bytes as MOST_BYTES};
 ghost use Rattle.fmp_check.specs.Checking.{Judges, PrintsAnswers};
 ghost use Rattle.fmp_check.specs.Differences.{Contrasts};
 ghost use Rattle.fmp_world.specs.declared.finishing.Ended.{Ended};
 ghost use Rattle.fmp_judging.specs.Traces.{IsFirstOfTrace, IsYes, FirstTraceFault};
-ghost use Rattle.fmp_devices.specs.Devices.{BeginsWith};
+ghost use Rattle.fmp_devices.specs.Devices.{BeginsWith, IsKnown, bytes_of};
 ghost use Rattle.fmp_judging.specs.Faults.{failed_read, failed_write, is_config, is_write, is_thread_fault};
 ghost use Rattle.fmpsim_run.specs.Reports.{Compared, IsReported, IsReportBegun, head_text, verdict_in};
 ghost use Rattle.fmp_judging.specs.Texts.{Answered, CountsReads, FirstConfigFault};
@@ -30,11 +30,11 @@ fn comparison_from<S: Source>(
     shown: Shown,
 ) -> Result<Comparison, RunFault>
     requires { S.failures source.old < 2 ^ 64 - 1 }
-    ensures lines { IsTrue S.tells → IfOk result (λ found. Contrasts shown config.now (S.left source.old) found.verdict found.lines.items) }
-    ensures verdict { IsTrue S.tells → IfOk result (λ found. Judges config.now (S.left source.old) found.verdict) }
-    ensures answers { IsTrue S.tells → (events : List AnyEvent) → PrintsAnswers config.now (S.left source.old) events → IsYes (verdict_in result) }
-    ensures read { IsTrue S.tells → OnOk result (S.left source.new ≡ []) }
-    ensures fault { IsTrue S.tells → IfErr result (IsFirstOfTrace config.now.names (S.left source.old)) }
+    ensures lines { IsKnown (S.left source.old) → IfOk result (λ found. Contrasts shown config.now (bytes_of (S.left source.old)) found.verdict found.lines.items) }
+    ensures verdict { IsKnown (S.left source.old) → IfOk result (λ found. Judges config.now (bytes_of (S.left source.old)) found.verdict) }
+    ensures answers { IsKnown (S.left source.old) → (events : List AnyEvent) → PrintsAnswers config.now (bytes_of (S.left source.old)) events → IsYes (verdict_in result) }
+    ensures read { IsKnown (S.left source.old) → OnOk result (bytes_of (S.left source.new) ≡ []) }
+    ensures fault { IsKnown (S.left source.old) → IfErr result (IsFirstOfTrace config.now.names (bytes_of (S.left source.old))) }
     ensures kinds { IfErr result (λ fault. (is_config fault ≡ false) × (is_write fault ≡ false)) }
     ensures no_thread_fault { IfErr result (λ fault. is_thread_fault fault ≡ false) }
     ensures count { S.failures source.new ≡ S.failures source.old + (if failed_read result then 1 else 0) }
@@ -56,16 +56,16 @@ fn compared<R: Source, S: Source>(
     requires config_calls { R.failures config.old < 2 ^ 64 - 1 }
     requires trace_calls { S.failures trace.old < 2 ^ 64 - 1 }
 
-    ensures compared { IsTrue R.tells → IsTrue S.tells → IfOk result (λ found. Compared shown (R.left config.old) (S.left trace.old) found.verdict found.lines.items) }
-    ensures answers { IsTrue R.tells → IsTrue S.tells → (event_text : List ℕ) → Answered (R.left config.old) event_text (S.left trace.old)
-        → length (S.left trace.old) ≤ MOST_BYTES → IsYes (verdict_in result) }
-    ensures plays { IsTrue R.tells → IsTrue S.tells → (script_text : List ℕ) (ticks turns : ℕ) (ended : Ended)
-        → Played (R.left config.old) script_text ticks turns (S.left trace.old) ended → length (S.left trace.old) ≤ MOST_BYTES → IsYes (verdict_in result) }
-    ensures config_read { IsTrue R.tells → OnOk result (R.left config.new ≡ []) }
-    ensures trace_read { IsTrue S.tells → OnOk result (S.left trace.new ≡ []) }
+    ensures compared { IsKnown (R.left config.old) → IsKnown (S.left trace.old) → IfOk result (λ found. Compared shown (bytes_of (R.left config.old)) (bytes_of (S.left trace.old)) found.verdict found.lines.items) }
+    ensures answers { IsKnown (R.left config.old) → IsKnown (S.left trace.old) → (event_text : List ℕ) → Answered (bytes_of (R.left config.old)) event_text (bytes_of (S.left trace.old))
+        → length (bytes_of (S.left trace.old)) ≤ MOST_BYTES → IsYes (verdict_in result) }
+    ensures plays { IsKnown (R.left config.old) → IsKnown (S.left trace.old) → (script_text : List ℕ) (ticks turns : ℕ) (ended : Ended)
+        → Played (bytes_of (R.left config.old)) script_text ticks turns (bytes_of (S.left trace.old)) ended → length (bytes_of (S.left trace.old)) ≤ MOST_BYTES → IsYes (verdict_in result) }
+    ensures config_read { IsKnown (R.left config.old) → OnOk result (bytes_of (R.left config.new) ≡ []) }
+    ensures trace_read { IsKnown (S.left trace.old) → OnOk result (bytes_of (S.left trace.new) ≡ []) }
 
-    ensures config_fault { IsTrue R.tells → IfErr result (FirstConfigFault (R.left config.old)) }
-    ensures text_fault { IsTrue R.tells → IsTrue S.tells → IfErr result (FirstTraceFault (R.left config.old) (S.left trace.old)) }
+    ensures config_fault { IsKnown (R.left config.old) → IfErr result (FirstConfigFault (bytes_of (R.left config.old))) }
+    ensures text_fault { IsKnown (R.left config.old) → IsKnown (S.left trace.old) → IfErr result (FirstTraceFault (bytes_of (R.left config.old)) (bytes_of (S.left trace.old))) }
     ensures reads { CountsReads result (R.failures config.old) (R.failures config.new) (S.failures trace.old) (S.failures trace.new) }
     ensures no_write { failed_write result ≡ false }
     ensures no_thread_fault { IfErr result (λ fault. is_thread_fault fault ≡ false) }
@@ -79,8 +79,9 @@ fn compared<R: Source, S: Source>(
 fn write_head<W: Sink>(sink: &mut W, shown: Shown, verdict: Verdict) -> Result<(), Failed>
     requires { W.failures sink.old < 2 ^ 64 - 1 }
     ensures count { W.failures sink.new ≡ W.failures sink.old + (if is_err result then 1 else 0) }
-    ensures ok { IsTrue W.tells → OnOk result (W.written sink.new ≡ W.written sink.old ++ head_text shown verdict) }
-    ensures err { IsTrue W.tells → OnErr result (BeginsWith (W.written sink.old) (head_text shown verdict) (W.written sink.new)) }
+    ensures known { IsKnown (W.written sink.old) → IsKnown (W.written sink.new) }
+    ensures ok { IsKnown (W.written sink.old) → OnOk result (bytes_of (W.written sink.new) ≡ bytes_of (W.written sink.old) ++ head_text shown verdict) }
+    ensures err { IsKnown (W.written sink.old) → OnErr result (BeginsWith (bytes_of (W.written sink.old)) (head_text shown verdict) (bytes_of (W.written sink.new))) }
 {
     match (shown, verdict) {
         (Shown::First, verdict) => write_all(sink, text_of(verdict).as_str().as_bytes()),
@@ -98,9 +99,10 @@ fn write_report<W: Sink>(
 ) -> Result<(), Failed>
     requires { W.failures sink.old < 2 ^ 64 - 1 }
     ensures count { W.failures sink.new ≡ W.failures sink.old + (if is_err result then 1 else 0) }
+    ensures known { IsKnown (W.written sink.old) → IsKnown (W.written sink.new) }
     ensures passed { OnOk result (W.buffered sink.new ≡ []) }
-    ensures ok { IsTrue W.tells → OnOk result (W.written sink.new ≡ W.written sink.old ++ (head_text shown verdict ++ lines.now)) }
-    ensures err { IsTrue W.tells → OnErr result (BeginsWith (W.written sink.old) (head_text shown verdict ++ lines.now) (W.written sink.new)) }
+    ensures ok { IsKnown (W.written sink.old) → OnOk result (bytes_of (W.written sink.new) ≡ bytes_of (W.written sink.old) ++ (head_text shown verdict ++ lines.now)) }
+    ensures err { IsKnown (W.written sink.old) → OnErr result (BeginsWith (bytes_of (W.written sink.old)) (head_text shown verdict ++ lines.now) (bytes_of (W.written sink.new))) }
 {
     write_head(sink, shown, verdict)?;
     write_out(sink, lines)
@@ -123,32 +125,33 @@ pub fn run_report<R: Source, S: Source, W: Sink>(
     requires report_calls { W.failures report.old < 2 ^ 64 - 1 }
 
     // Both texts were read to their ends, and the report of what differs was written, all of it. None of it is held back.
-    ensures reported { IsTrue R.tells → IsTrue S.tells → IsTrue W.tells
-        → IfOk result (IsReported shown (R.left config.old) (S.left trace.old) (W.written report.old) (W.written report.new)) }
+    ensures reported { IsKnown (R.left config.old) → IsKnown (S.left trace.old) → IsKnown (W.written report.old)
+        → IfOk result (IsReported shown (bytes_of (R.left config.old)) (bytes_of (S.left trace.old)) (bytes_of (W.written report.old)) (bytes_of (W.written report.new))) }
+    ensures known { IsKnown (W.written report.old) → IsKnown (W.written report.new) }
     ensures passed { OnOk result (W.buffered report.new ≡ []) }
-    ensures config_read { IsTrue R.tells → OnOk result (R.left config.new ≡ []) }
-    ensures trace_read { IsTrue S.tells → OnOk result (S.left trace.new ≡ []) }
+    ensures config_read { IsKnown (R.left config.old) → OnOk result (bytes_of (R.left config.new) ≡ []) }
+    ensures trace_read { IsKnown (S.left trace.old) → OnOk result (bytes_of (S.left trace.new) ≡ []) }
 
     // No line is shown of a trace that is the machine's.
-    ensures same { IsTrue R.tells → IsTrue S.tells → IsTrue W.tells
-        → IfOk result (λ verdict. verdict ≡ Verdict.Yes → W.written report.new ≡ W.written report.old ++ head_text shown Verdict.Yes) }
+    ensures same { IsKnown (R.left config.old) → IsKnown (S.left trace.old) → IsKnown (W.written report.old)
+        → IfOk result (λ verdict. verdict ≡ Verdict.Yes → bytes_of (W.written report.new) ≡ bytes_of (W.written report.old) ++ head_text shown Verdict.Yes) }
 
     // Such are those that answer some events, as `run_calls` writes them.
-    ensures answers { IsTrue R.tells → IsTrue S.tells → (event_text : List ℕ) → Answered (R.left config.old) event_text (S.left trace.old)
-        → length (S.left trace.old) ≤ MOST_BYTES → IsYes result }
+    ensures answers { IsKnown (R.left config.old) → IsKnown (S.left trace.old) → (event_text : List ℕ) → Answered (bytes_of (R.left config.old)) event_text (bytes_of (S.left trace.old))
+        → length (bytes_of (S.left trace.old)) ≤ MOST_BYTES → IsYes result }
 
     // So are those of processors that follow scripts, as `run_threads` and `run_seeded` write them.
-    ensures plays { IsTrue R.tells → IsTrue S.tells → (script_text : List ℕ) (ticks turns : ℕ) (ended : Ended)
-        → Played (R.left config.old) script_text ticks turns (S.left trace.old) ended → length (S.left trace.old) ≤ MOST_BYTES → IsYes result }
+    ensures plays { IsKnown (R.left config.old) → IsKnown (S.left trace.old) → (script_text : List ℕ) (ticks turns : ℕ) (ended : Ended)
+        → Played (bytes_of (R.left config.old)) script_text ticks turns (bytes_of (S.left trace.old)) ended → length (bytes_of (S.left trace.old)) ≤ MOST_BYTES → IsYes result }
 
     // A fault of a text is its first one.
-    ensures config_fault { IsTrue R.tells → IfErr result (FirstConfigFault (R.left config.old)) }
-    ensures text_fault { IsTrue R.tells → IsTrue S.tells → IfErr result (FirstTraceFault (R.left config.old) (S.left trace.old)) }
+    ensures config_fault { IsKnown (R.left config.old) → IfErr result (FirstConfigFault (bytes_of (R.left config.old))) }
+    ensures text_fault { IsKnown (R.left config.old) → IsKnown (S.left trace.old) → IfErr result (FirstTraceFault (bytes_of (R.left config.old)) (bytes_of (S.left trace.old))) }
 
     // After a failed write or flush a beginning of the report is out, and after any other fault nothing is.
-    ensures write { IsTrue R.tells → IsTrue S.tells → IsTrue W.tells → (result ≡ Err RunFault.Write)
-        → IsReportBegun shown (R.left config.old) (S.left trace.old) (W.written report.old) (W.written report.new) }
-    ensures unwritten { IsTrue W.tells → IfErr result (λ fault. fault ≢ RunFault.Write → W.written report.new ≡ W.written report.old) }
+    ensures write { IsKnown (R.left config.old) → IsKnown (S.left trace.old) → IsKnown (W.written report.old) → (result ≡ Err RunFault.Write)
+        → IsReportBegun shown (bytes_of (R.left config.old)) (bytes_of (S.left trace.old)) (bytes_of (W.written report.old)) (bytes_of (W.written report.new)) }
+    ensures unwritten { IsKnown (W.written report.old) → IfErr result (λ fault. fault ≢ RunFault.Write → bytes_of (W.written report.new) ≡ bytes_of (W.written report.old)) }
 
     // No thread was started.
     ensures no_thread_fault { IfErr result (λ fault. is_thread_fault fault ≡ false) }

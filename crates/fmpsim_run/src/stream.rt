@@ -11,7 +11,7 @@ ghost use Rattle.fmp_setup.specs.Valid.{IsValid};
 ghost use Rattle.fmp_text.specs.Events.{Reading};
 ghost use Rattle.fmp_text.specs.Limits.{most_bytes, most_events};
 ghost use Rattle.fmpsim_run.specs.Details.{behind_line, entry_text};
-ghost use Rattle.fmp_devices.specs.Devices.{BeginsWith};
+ghost use Rattle.fmp_devices.specs.Devices.{BeginsWith, IsKnown, bytes_of};
 ghost use Rattle.fmp_judging.specs.Faults.{failed_read, failed_write, is_config, is_read, is_write, is_thread_fault};
 ghost use Rattle.fmpsim_run.specs.Runs.{FirstEventFault};
 ghost use Rattle.fmpsim_run.specs.Streams.{Leaves, Streams};
@@ -108,11 +108,12 @@ impl Answering {
         ensures stands { (m : State) → Stands self.old.kernel m → Stands self.new.kernel (step_of numbered m event).0 }
         ensures processors { length self.new.kernel.processors ≡ length self.old.kernel.processors }
         ensures count { self.new.count ≡ self.old.count + 1 }
-        ensures ok { IsTrue W.tells → (m : State) → Stands self.old.kernel m
-            → OnOk result (W.written trace.new ≡ W.written trace.old ++ entry_text self.old.detail names.now (self.old.count + 1) (step_of numbered m event)) }
-        ensures memory { IsTrue W.tells → result ≡ Err RunFault.Memory → W.written trace.new ≡ W.written trace.old }
-        ensures write { IsTrue W.tells → (m : State) → Stands self.old.kernel m → result ≡ Err RunFault.Write
-            → BeginsWith (W.written trace.old) (entry_text self.old.detail names.now (self.old.count + 1) (step_of numbered m event)) (W.written trace.new) }
+        ensures known { IsKnown (W.written trace.old) → IsKnown (W.written trace.new) }
+        ensures ok { IsKnown (W.written trace.old) → (m : State) → Stands self.old.kernel m
+            → OnOk result (bytes_of (W.written trace.new) ≡ bytes_of (W.written trace.old) ++ entry_text self.old.detail names.now (self.old.count + 1) (step_of numbered m event)) }
+        ensures memory { IsKnown (W.written trace.old) → result ≡ Err RunFault.Memory → bytes_of (W.written trace.new) ≡ bytes_of (W.written trace.old) }
+        ensures write { IsKnown (W.written trace.old) → (m : State) → Stands self.old.kernel m → result ≡ Err RunFault.Write
+            → BeginsWith (bytes_of (W.written trace.old)) (entry_text self.old.detail names.now (self.old.count + 1) (step_of numbered m event)) (bytes_of (W.written trace.new)) }
         ensures kinds { IfErr result (λ fault. (fault ≡ RunFault.Memory) ⊎ (fault ≡ RunFault.Write)) }
         ensures no_thread_fault { IfErr result (λ fault. is_thread_fault fault ≡ false) }
         ensures writes { W.failures trace.new ≡ W.failures trace.old + (if failed_write result then 1 else 0) }
@@ -130,15 +131,17 @@ impl Answering {
         requires counted { self.old.count ≡ self.old.feed.events }
         requires few { self.old.feed.events ≤ most_events }
         requires processors { length self.old.kernel.processors ≡ config.now.processors }
-        ensures streams { (d : Detail) (whole : Reading) (old remaining : List ℕ)
-            → Streams d W.tells config.now whole old self.old (W.written trace.old) remaining
-            → OnOk result (Streams d W.tells config.now whole old self.new (W.written trace.new) remaining) }
+        ensures known { IsKnown (W.written trace.old) → IsKnown (W.written trace.new) }
+        ensures streams { (d : Detail) (tells : Bool) (whole : Reading) (old remaining : List ℕ)
+            → (IsTrue tells → IsKnown (W.written trace.old))
+            → Streams d tells config.now whole old self.old (bytes_of (W.written trace.old)) remaining
+            → OnOk result (Streams d tells config.now whole old self.new (bytes_of (W.written trace.new)) remaining) }
         ensures first { (d : Detail) (whole : Reading) (old remaining : List ℕ)
-            → Streams d W.tells config.now whole old self.old (W.written trace.old) remaining
+            → Streams d false config.now whole old self.old (bytes_of (W.written trace.old)) remaining
             → IfErr result (FirstEventFault whole) }
-        ensures leaves { IsTrue W.tells → (d : Detail) (whole : Reading) (old remaining : List ℕ)
-            → Streams d W.tells config.now whole old self.old (W.written trace.old) remaining
-            → IfErr result (Leaves d config.now whole old (W.written trace.new)) }
+        ensures leaves { IsKnown (W.written trace.old) → (d : Detail) (whole : Reading) (old remaining : List ℕ)
+            → Streams d true config.now whole old self.old (bytes_of (W.written trace.old)) remaining
+            → IfErr result (Leaves d config.now whole old (bytes_of (W.written trace.new))) }
         ensures counted { OnOk result (self.new.count ≡ self.new.feed.events) }
         ensures moves { IfOk result (λ more. self.new.feed.events ≡ self.old.feed.events + (if more then 1 else 0)) }
         ensures few { OnOk result (self.new.feed.events ≤ most_events) }
@@ -170,15 +173,17 @@ impl Answering {
         requires counted { self.old.count ≡ self.old.feed.events }
         requires few { self.old.feed.events ≤ most_events }
         requires processors { length self.old.kernel.processors ≡ config.now.processors }
-        ensures streams { (d : Detail) (whole : Reading) (old remaining : List ℕ)
-            → Streams d W.tells config.now whole old self.old (W.written trace.old) remaining
-            → OnOk result (Streams d W.tells config.now whole old self.new (W.written trace.new) remaining) }
+        ensures known { IsKnown (W.written trace.old) → IsKnown (W.written trace.new) }
+        ensures streams { (d : Detail) (tells : Bool) (whole : Reading) (old remaining : List ℕ)
+            → (IsTrue tells → IsKnown (W.written trace.old))
+            → Streams d tells config.now whole old self.old (bytes_of (W.written trace.old)) remaining
+            → OnOk result (Streams d tells config.now whole old self.new (bytes_of (W.written trace.new)) remaining) }
         ensures first { (d : Detail) (whole : Reading) (old remaining : List ℕ)
-            → Streams d W.tells config.now whole old self.old (W.written trace.old) remaining
+            → Streams d false config.now whole old self.old (bytes_of (W.written trace.old)) remaining
             → IfErr result (FirstEventFault whole) }
-        ensures leaves { IsTrue W.tells → (d : Detail) (whole : Reading) (old remaining : List ℕ)
-            → Streams d W.tells config.now whole old self.old (W.written trace.old) remaining
-            → IfErr result (Leaves d config.now whole old (W.written trace.new)) }
+        ensures leaves { IsKnown (W.written trace.old) → (d : Detail) (whole : Reading) (old remaining : List ℕ)
+            → Streams d true config.now whole old self.old (bytes_of (W.written trace.old)) remaining
+            → IfErr result (Leaves d config.now whole old (bytes_of (W.written trace.new))) }
         ensures counted { OnOk result (self.new.count ≡ self.new.feed.events) }
         ensures few { OnOk result (self.new.feed.events ≤ most_events) }
         ensures processors { length self.new.kernel.processors ≡ length self.old.kernel.processors }
@@ -205,14 +210,15 @@ impl Answering {
         requires fits { self.old.feed.taken ≤ most_bytes }
         requires room { 0 < length piece.old }
         ensures feed_fault { OnOk result (self.new.feed.fault ≡ None) }
-        ensures streams { IsTrue S.tells → (d : Detail) (tells : Bool) (c : Setup) (whole : Reading) (old written : List ℕ)
-            → Streams d tells c whole old self.old written (S.left events.old)
-            → OnOk result (Streams d tells c whole old self.new written (S.left events.new)) }
-        ensures leaves { IsTrue S.tells → (d : Detail) (c : Setup) (whole : Reading) (old written : List ℕ)
-            → Streams d true c whole old self.old written (S.left events.old)
+        ensures known { IsKnown (S.left events.old) → IsKnown (S.left events.new) }
+        ensures streams { IsKnown (S.left events.old) → (d : Detail) (tells : Bool) (c : Setup) (whole : Reading) (old written : List ℕ)
+            → Streams d tells c whole old self.old written (bytes_of (S.left events.old))
+            → OnOk result (Streams d tells c whole old self.new written (bytes_of (S.left events.new))) }
+        ensures leaves { IsKnown (S.left events.old) → (d : Detail) (c : Setup) (whole : Reading) (old written : List ℕ)
+            → Streams d true c whole old self.old written (bytes_of (S.left events.old))
             → IfErr result (Leaves d c whole old written) }
         ensures first { (whole : Reading) → IfErr result (FirstEventFault whole) }
-        ensures end { IsTrue S.tells → OnOk result (self.new.feed.ended ≡ true → S.left events.new ≡ []) }
+        ensures end { IsKnown (S.left events.old) → OnOk result (self.new.feed.ended ≡ true → bytes_of (S.left events.new) ≡ []) }
         ensures counts { (self.new.count ≡ self.old.count) × (self.new.feed.events ≡ self.old.feed.events) × (self.new.kernel ≡ self.old.kernel) × (self.new.detail ≡ self.old.detail) }
         ensures fits { OnOk result (self.new.feed.taken ≤ most_bytes) }
         ensures moves { OnOk result (self.new.feed.ended ≡ false → self.new.feed.dropped ≡ false → (self.old.feed.taken < self.new.feed.taken) × (self.new.feed.taken ≤ most_bytes)) }

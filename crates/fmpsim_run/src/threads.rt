@@ -1,9 +1,10 @@
 //! The runs of processors that follow scripts, each in a thread of its own or in an order that a seed determines.
-ghost use Rattle.std.specs.Prelude.{◌≡◌, ◌≢◌, ◌+◌, ◌-◌, ◌≤◌, ◌^◌, ◌<◌, ◌++◌, [], length, map, IsTrue, OnOk, IfOk, IfErr, Err, false, if◌then◌else◌};
+ghost use Rattle.std.specs.Prelude.{◌≡◌, ◌≢◌, ◌+◌, ◌-◌, ◌≤◌, ◌^◌, ◌<◌, ◌++◌, [], length, map, OnOk, IfOk, IfErr, Err, false, if◌then◌else◌};
 ghost use Rattle.fmp_scripts.specs.ScriptGrammar.{SpellsScripts};
 ghost use Rattle.fmp_scripts.specs.Scripts.{AreInBits};
 ghost use Rattle.fmp_trace.specs.Lines.{lines_from};
-ghost use Rattle.fmp_devices.specs.Devices.{BeginsWith};
+ghost use Rattle.fmp_devices.specs.Devices.{BeginsWith, IsKnown, bytes_of};
+ghost use Rattle.fmp_smp.specs.Rounds.{TicksInTurn};
 ghost use Rattle.fmp_world.specs.Ends.{IsSmpRun};
 ghost use Rattle.fmp_judging.specs.Faults.{failed_read, failed_write, is_config, is_read, is_thread_fault, is_text, is_write};
 ghost use Rattle.fmp_judging.specs.Texts.{CountsReads, FirstConfigFault, FirstScriptFault, SaysConfig};
@@ -41,13 +42,13 @@ fn texts_from<R: Source, S: Source>(
 ) -> Result<(Config, Scripts), RunFault>
     requires config_calls { R.failures config.old < 2 ^ 64 - 1 }
     requires script_calls { S.failures scripts.old < 2 ^ 64 - 1 }
-    ensures says { IsTrue R.tells → IfOk result (λ r. SaysConfig (R.left config.old) r.0) }
-    ensures spells { IsTrue S.tells → IfOk result (λ r. SpellsScripts r.0.names (S.left scripts.old) r.1) }
+    ensures says { IsKnown (R.left config.old) → IfOk result (λ r. SaysConfig (bytes_of (R.left config.old)) r.0) }
+    ensures spells { IsKnown (S.left scripts.old) → IfOk result (λ r. SpellsScripts r.0.names (bytes_of (S.left scripts.old)) r.1) }
     ensures in_bits { IfOk result (λ r. AreInBits r.1) }
-    ensures config_read { IsTrue R.tells → OnOk result (R.left config.new ≡ []) }
-    ensures scripts_read { IsTrue S.tells → OnOk result (S.left scripts.new ≡ []) }
-    ensures config_fault { IsTrue R.tells → IfErr result (FirstConfigFault (R.left config.old)) }
-    ensures text_fault { IsTrue R.tells → IsTrue S.tells → IfErr result (FirstScriptFault (R.left config.old) (S.left scripts.old)) }
+    ensures config_read { IsKnown (R.left config.old) → OnOk result (bytes_of (R.left config.new) ≡ []) }
+    ensures scripts_read { IsKnown (S.left scripts.old) → OnOk result (bytes_of (S.left scripts.new) ≡ []) }
+    ensures config_fault { IsKnown (R.left config.old) → IfErr result (FirstConfigFault (bytes_of (R.left config.old))) }
+    ensures text_fault { IsKnown (R.left config.old) → IsKnown (S.left scripts.old) → IfErr result (FirstScriptFault (bytes_of (R.left config.old)) (bytes_of (S.left scripts.old))) }
     ensures reads { CountsReads result (R.failures config.old) (R.failures config.new) (S.failures scripts.old) (S.failures scripts.new) }
     ensures no_write { failed_write result ≡ false }
     ensures no_thread_fault { IfErr result (λ fault. is_thread_fault fault ≡ false) }
@@ -82,11 +83,12 @@ fn write_history<W: Sink>(
 ) -> Result<(), RunFault>
     requires calls { W.failures trace.old < 2 ^ 64 - 1 }
     requires few { length history.now.records < 2 ^ 32 }
-    ensures written { IsTrue W.tells → OnOk result (W.written trace.new ≡ W.written trace.old ++ lines_from names.now 1 history.now.records) }
+    ensures written { IsKnown (W.written trace.old) → OnOk result (bytes_of (W.written trace.new) ≡ bytes_of (W.written trace.old) ++ lines_from names.now 1 history.now.records) }
+    ensures known { IsKnown (W.written trace.old) → IsKnown (W.written trace.new) }
     ensures passed { OnOk result (W.buffered trace.new ≡ []) }
-    ensures write { IsTrue W.tells → (result ≡ Err RunFault.Write)
-        → BeginsWith (W.written trace.old) (lines_from names.now 1 history.now.records) (W.written trace.new) }
-    ensures unwritten { IsTrue W.tells → IfErr result (λ fault. fault ≢ RunFault.Write → W.written trace.new ≡ W.written trace.old) }
+    ensures write { IsKnown (W.written trace.old) → (result ≡ Err RunFault.Write)
+        → BeginsWith (bytes_of (W.written trace.old)) (lines_from names.now 1 history.now.records) (bytes_of (W.written trace.new)) }
+    ensures unwritten { IsKnown (W.written trace.old) → IfErr result (λ fault. fault ≢ RunFault.Write → bytes_of (W.written trace.new) ≡ bytes_of (W.written trace.old)) }
     ensures kinds { IfErr result (λ fault. (is_config fault ≡ false) × (is_text fault ≡ false) × (is_read fault ≡ false)) }
     ensures no_thread_fault { IfErr result (λ fault. is_thread_fault fault ≡ false) }
     ensures writes { W.failures trace.new ≡ W.failures trace.old + (if failed_write result then 1 else 0) }
@@ -120,6 +122,7 @@ fn threads_run<'a, T: Threads + Wait + Sync, G: Gate + Sync>(
     requires least { 1 ≤ turns }
     requires most { turns ≤ 1000000 }
     ensures run { IfOk result (λ r. IsSmpRun config.entry.now scripts.entry.now ticks turns r.history.records (map (λ v. v.items) r.receipts.items) r.ended) }
+    ensures ticked { IfOk result (λ r. TicksInTurn config.entry.now ticks r.history.records) }
     ensures kinds { IfErr result (λ fault. (is_config fault ≡ false) × (is_text fault ≡ false) × (is_read fault ≡ false) × (is_write fault ≡ false)) }
 {
     match run_smp(rt, alloc, config, scripts, ticks, turns, gate) {
@@ -151,20 +154,21 @@ pub fn run_threads<T: Threads + Wait + Sync, R: Source, S: Source, W: Sink, G: G
 
     // Both texts were read to their ends, and what is written is the trace of a run of the one text's machine by the other's
     // scripts. None of it is held back.
-    ensures answered { IsTrue R.tells → IsTrue S.tells → IsTrue W.tells
-        → IfOk result (IsPlayed (R.left config.old) (S.left scripts.old) ticks turns (W.written trace.old) (W.written trace.new)) }
+    ensures answered { IsKnown (R.left config.old) → IsKnown (S.left scripts.old) → IsKnown (W.written trace.old)
+        → IfOk result (IsPlayed (bytes_of (R.left config.old)) (bytes_of (S.left scripts.old)) ticks turns (bytes_of (W.written trace.old)) (bytes_of (W.written trace.new))) }
+    ensures known { IsKnown (W.written trace.old) → IsKnown (W.written trace.new) }
     ensures passed { OnOk result (W.buffered trace.new ≡ []) }
-    ensures config_read { IsTrue R.tells → OnOk result (R.left config.new ≡ []) }
-    ensures scripts_read { IsTrue S.tells → OnOk result (S.left scripts.new ≡ []) }
+    ensures config_read { IsKnown (R.left config.old) → OnOk result (bytes_of (R.left config.new) ≡ []) }
+    ensures scripts_read { IsKnown (S.left scripts.old) → OnOk result (bytes_of (S.left scripts.new) ≡ []) }
 
     // A fault of a text is its first one.
-    ensures config_fault { IsTrue R.tells → IfErr result (FirstConfigFault (R.left config.old)) }
-    ensures text_fault { IsTrue R.tells → IsTrue S.tells → IfErr result (FirstScriptFault (R.left config.old) (S.left scripts.old)) }
+    ensures config_fault { IsKnown (R.left config.old) → IfErr result (FirstConfigFault (bytes_of (R.left config.old))) }
+    ensures text_fault { IsKnown (R.left config.old) → IsKnown (S.left scripts.old) → IfErr result (FirstScriptFault (bytes_of (R.left config.old)) (bytes_of (S.left scripts.old))) }
 
     // After a failed write or flush a beginning of the trace is out, and after any other fault nothing is.
-    ensures write { IsTrue R.tells → IsTrue S.tells → IsTrue W.tells → (result ≡ Err RunFault.Write)
-        → IsPlayBegun (R.left config.old) (S.left scripts.old) ticks turns (W.written trace.old) (W.written trace.new) }
-    ensures unwritten { IsTrue W.tells → IfErr result (λ fault. fault ≢ RunFault.Write → W.written trace.new ≡ W.written trace.old) }
+    ensures write { IsKnown (R.left config.old) → IsKnown (S.left scripts.old) → IsKnown (W.written trace.old) → (result ≡ Err RunFault.Write)
+        → IsPlayBegun (bytes_of (R.left config.old)) (bytes_of (S.left scripts.old)) ticks turns (bytes_of (W.written trace.old)) (bytes_of (W.written trace.new)) }
+    ensures unwritten { IsKnown (W.written trace.old) → IfErr result (λ fault. fault ≢ RunFault.Write → bytes_of (W.written trace.new) ≡ bytes_of (W.written trace.old)) }
 
     // Which calls of the devices failed.
     ensures reads { CountsReads result (R.failures config.old) (R.failures config.new) (S.failures scripts.old) (S.failures scripts.new) }
@@ -196,20 +200,21 @@ pub fn run_seeded<R: Source, S: Source, W: Sink>(
 
     // Both texts were read to their ends, and what is written is the trace of a run of the one text's machine by the other's
     // scripts, in the order that the seed determines. None of it is held back.
-    ensures answered { IsTrue R.tells → IsTrue S.tells → IsTrue W.tells
-        → IfOk result (IsPlayedInOrder seed (R.left config.old) (S.left scripts.old) ticks turns (W.written trace.old) (W.written trace.new)) }
+    ensures answered { IsKnown (R.left config.old) → IsKnown (S.left scripts.old) → IsKnown (W.written trace.old)
+        → IfOk result (IsPlayedInOrder seed (bytes_of (R.left config.old)) (bytes_of (S.left scripts.old)) ticks turns (bytes_of (W.written trace.old)) (bytes_of (W.written trace.new))) }
+    ensures known { IsKnown (W.written trace.old) → IsKnown (W.written trace.new) }
     ensures passed { OnOk result (W.buffered trace.new ≡ []) }
-    ensures config_read { IsTrue R.tells → OnOk result (R.left config.new ≡ []) }
-    ensures scripts_read { IsTrue S.tells → OnOk result (S.left scripts.new ≡ []) }
+    ensures config_read { IsKnown (R.left config.old) → OnOk result (bytes_of (R.left config.new) ≡ []) }
+    ensures scripts_read { IsKnown (S.left scripts.old) → OnOk result (bytes_of (S.left scripts.new) ≡ []) }
 
     // A fault of a text is its first one.
-    ensures config_fault { IsTrue R.tells → IfErr result (FirstConfigFault (R.left config.old)) }
-    ensures text_fault { IsTrue R.tells → IsTrue S.tells → IfErr result (FirstScriptFault (R.left config.old) (S.left scripts.old)) }
+    ensures config_fault { IsKnown (R.left config.old) → IfErr result (FirstConfigFault (bytes_of (R.left config.old))) }
+    ensures text_fault { IsKnown (R.left config.old) → IsKnown (S.left scripts.old) → IfErr result (FirstScriptFault (bytes_of (R.left config.old)) (bytes_of (S.left scripts.old))) }
 
     // After a failed write or flush a beginning of the trace is out, and after any other fault nothing is.
-    ensures write { IsTrue R.tells → IsTrue S.tells → IsTrue W.tells → (result ≡ Err RunFault.Write)
-        → IsPlayBegun (R.left config.old) (S.left scripts.old) ticks turns (W.written trace.old) (W.written trace.new) }
-    ensures unwritten { IsTrue W.tells → IfErr result (λ fault. fault ≢ RunFault.Write → W.written trace.new ≡ W.written trace.old) }
+    ensures write { IsKnown (R.left config.old) → IsKnown (S.left scripts.old) → IsKnown (W.written trace.old) → (result ≡ Err RunFault.Write)
+        → IsPlayBegun (bytes_of (R.left config.old)) (bytes_of (S.left scripts.old)) ticks turns (bytes_of (W.written trace.old)) (bytes_of (W.written trace.new)) }
+    ensures unwritten { IsKnown (W.written trace.old) → IfErr result (λ fault. fault ≢ RunFault.Write → bytes_of (W.written trace.new) ≡ bytes_of (W.written trace.old)) }
 
     // No thread was started.
     ensures no_thread_fault { IfErr result (λ fault. is_thread_fault fault ≡ false) }

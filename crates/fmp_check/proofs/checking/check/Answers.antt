@@ -7,9 +7,9 @@ pub returns : goal.returns
 returns c =
     let valid = subst AreValid c.names.ensures.value c.validity.ensures in
     record {
-      verdict = is_judged c.args.config.now c.args.text.now valid c.check_within.result c.check_within.ensures;
-      complete = has_one c.args.config.now c.args.text.now valid c.check_within.result c.check_within.ensures;
-      own = is_own c.args.config.now c.args.text.now valid c.check_within.result c.check_within.ensures;
-      answers = is_answered c.args.config.now c.args.text.now valid c.check_within.result c.check_within.ensures c.names.ensures.valid;
-      fault = is_reading_fault c.args.config.now c.args.text.now valid c.check_within.result c.check_within.ensures;
+      verdict = is_judged c.args.config.now c.args.text.now valid c.verdict_on.result c.verdict_on.ensures;
+      complete = has_one c.args.config.now c.args.text.now valid c.verdict_on.result c.verdict_on.ensures;
+      own = is_own c.args.config.now c.args.text.now valid c.verdict_on.result c.verdict_on.ensures;
+      answers = is_answered c.args.config.now c.args.text.now valid c.verdict_on.result c.verdict_on.ensures c.names.ensures.valid;
+      fault = is_reading_fault c.args.config.now c.args.text.now valid c.verdict_on.result c.verdict_on.ensures;
     }

@@ -7,9 +7,9 @@ pub returns : goal.returns
 returns c =
     let valid = subst AreValid c.names.ensures.value c.validity.ensures in
     record {
-      lines = contrasts c.args.shown c.args.config.now c.args.text.now valid c.compare_within.result c.compare_within.ensures;
-      verdict = judges c.args.shown c.args.config.now c.args.text.now valid c.compare_within.result c.compare_within.ensures;
-      complete = is_complete c.args.shown c.args.config.now c.args.text.now valid c.compare_within.result c.compare_within.ensures;
-      answers = is_answers c.args.shown c.args.config.now c.args.text.now valid c.compare_within.result c.compare_within.ensures c.names.ensures.valid;
-      fault = is_first_fault c.args.shown c.args.config.now c.args.text.now valid c.compare_within.result c.compare_within.ensures;
+      lines = contrasts c.args.shown c.args.config.now c.args.text.now valid c.comparison_of.result c.comparison_of.ensures;
+      verdict = judges c.args.shown c.args.config.now c.args.text.now valid c.comparison_of.result c.comparison_of.ensures;
+      complete = is_complete c.args.shown c.args.config.now c.args.text.now valid c.comparison_of.result c.comparison_of.ensures;
+      answers = is_answers c.args.shown c.args.config.now c.args.text.now valid c.comparison_of.result c.comparison_of.ensures c.names.ensures.valid;
+      fault = is_first_fault c.args.shown c.args.config.now c.args.text.now valid c.comparison_of.result c.comparison_of.ensures;
     }

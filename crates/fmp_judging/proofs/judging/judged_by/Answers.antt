@@ -2,14 +2,15 @@ use Rattle.std.proofs.Common.{◌⊎◌, ℕ, List, ◌∙◌, sym, subst, arith
 use Rattle.fmp_check.specs.Checking.{PrintsAnswers}
 use Rattle.fmp_text.specs.Events.{IsMemory}
 use Rattle.fmp_trace.specs.Prints.{FirstFault}
+use Rattle.fmp_devices.specs.Devices.{bytes_of}
 use Rattle.fmp_judging.proofs.JudgedTexts.{first_or_memory, has_failed, read_length, read_whole}
 use Rattle.fmp_judging.proofs.judging.judged_by.Goals as goal
 
 pub returns-in-Err-clause-answers : goal.returns-in-Err-clause-answers
 returns-in-Err-clause-answers g c = λ tells events prints.
-    let all = g.S.Source.left c.args.trace.now in
+    let all = bytes_of (g.S.Source.left c.args.trace.now) in
     let text = c.in_ok-text.text.items in
-    let rest = g.S.Source.left c.read_up_to.new.source in
+    let rest = bytes_of (g.S.Source.left c.read_up_to.new.source) in
     let read = c.in_ok-text.ensures.ok tells in
     let fits = read_length all text rest read in
     let short = prints.short in

@@ -3,6 +3,7 @@ use Rattle.fmp_setup.specs.Valid.{IsValid}
 use Rattle.fmp_smp.specs.Seeds.{IsInOrderOf}
 use Rattle.fmp_smp.proofs.Following.{Carries, carries, follows_at_first}
 use Rattle.fmp_smp.proofs.Seating.{seated_at_first}
+use Rattle.fmp_smp.proofs.Turning.{ordered_in_turn}
 use Rattle.fmp_smp.proofs.Wholes.{judged_history, whole_at_end}
 use Rattle.fmp_smp.proofs.seeded.run_seeded.Goals as goal
 
@@ -48,3 +49,8 @@ returns-clause-order c =
     let is : c.finish-run.result ≡ Some c.unwrap.result = search rules in
     let same = ap (λ w. w.records) (judged_history c.finish-run.result c.unwrap.result _ c.finish-run.ensures.history is) in
     subst (IsInOrderOf c.args.seed c.args.config.now c.args.scripts.now c.args.ticks) (sym same) end.1
+
+pub returns-clause-ticked : goal.returns-clause-ticked
+returns-clause-ticked c =
+    let valid : IsValid c.args.config.now = search rules in
+    ordered_in_turn c.args.seed c.args.config.now c.args.scripts.now c.args.ticks _ valid (returns-clause-order c)

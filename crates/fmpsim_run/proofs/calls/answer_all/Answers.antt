@@ -1,4 +1,5 @@
-use Rattle.std.proofs.Common.{◌≡◌, ◌∙◌, arith, rules, sym, false}
+use Rattle.std.proofs.Common.{◌≡◌, ◌∙◌, arith, rules, refl, sym, false, true}
+use Rattle.std.proofs.lemmas.Bool.{false≢true}
 use Rattle.std.proofs.lemmas.Grind.{common_steps}
 use Rattle.std.proofs.lemmas.Result.{err_from_is_err_and}
 use Rattle.fmp_text.specs.Limits.{most_bytes}
@@ -25,26 +26,31 @@ loop-run-preserved g c =
       processors = search rules;
       room = search rules;
       done = c.in_ok-drain.ensures.done;
-      end = λ tells ended. c.in_ok-take_piece.ensures.end tells (sym same.0 ∙ ended);
-      streams = λ reads d whole old before.
-          c.in_ok-drain.ensures.streams d whole old _ (c.in_ok-take_piece.ensures.streams reads d _ _ whole old _ (c.loop-run.invariant.streams reads d whole old before));
+      read_known = λ known. c.in_ok-take_piece.ensures.known (c.loop-run.invariant.read_known known);
+      write_known = λ known. c.drain.ensures.known (c.loop-run.invariant.write_known known);
+      end = λ known ended. c.in_ok-take_piece.ensures.end (c.loop-run.invariant.read_known known) (sym same.0 ∙ ended);
+      streams = λ reads d tells whole old writes before.
+          c.in_ok-drain.ensures.streams d tells whole old _ (λ told. c.loop-run.invariant.write_known (writes told))
+          (c.in_ok-take_piece.ensures.streams (c.loop-run.invariant.read_known reads) d tells _ whole old _ (c.loop-run.invariant.streams reads d tells whole old writes before));
     }
 
 pub returns-in_err-drain-clause-first : goal.returns-in_err-drain-clause-first
 returns-in_err-drain-clause-first g c = λ reads d whole old before.
-    let middle = c.in_ok-take_piece.ensures.streams reads d _ _ whole old _ (c.loop-run.invariant.streams reads d whole old before) in
+    let so_far = c.loop-run.invariant.streams reads d false whole old (λ e. absurd (false≢true e)) before in
+    let middle = c.in_ok-take_piece.ensures.streams (c.loop-run.invariant.read_known reads) d false _ whole old _ so_far in
     let p = err_from_is_err_and c.from_residual-in_err-drain.result c.from_residual-in_err-drain.ensures.1 in
     rw (p.1, p.2) (c.in_err-drain.ensures.first d whole old _ middle)
 
 pub returns-in_err-drain-clause-leaves : goal.returns-in_err-drain-clause-leaves
 returns-in_err-drain-clause-leaves g c = λ reads writes d whole old before.
-    let middle = c.in_ok-take_piece.ensures.streams reads d _ _ whole old _ (c.loop-run.invariant.streams reads d whole old before) in
+    let so_far = c.loop-run.invariant.streams reads d true whole old (λ e. writes) before in
+    let middle = c.in_ok-take_piece.ensures.streams (c.loop-run.invariant.read_known reads) d true _ whole old _ so_far in
     let p = err_from_is_err_and c.from_residual-in_err-drain.result c.from_residual-in_err-drain.ensures.1 in
-    rw (p.1, p.2) (c.in_err-drain.ensures.leaves writes d whole old _ middle)
+    rw (p.1, p.2) (c.in_err-drain.ensures.leaves (c.loop-run.invariant.write_known writes) d whole old _ middle)
 
 pub returns-clause-answered : goal.returns-clause-answered
 returns-clause-answered g c = λ reads writes d whole old before.
-    stream_done d _ _ whole old c.loop-run.run _ _ writes (c.loop-run.invariant.streams reads d whole old before) (c.loop-run.invariant.done (search rules))
+    stream_done d true _ whole old c.loop-run.run _ _ refl (c.loop-run.invariant.streams reads d true whole old (λ e. writes) before) (c.loop-run.invariant.done (search rules))
 
 pub returns-in_err-take_piece-clause-first : goal.returns-in_err-take_piece-clause-first
 returns-in_err-take_piece-clause-first g c = λ reads d whole old before.

@@ -1,5 +1,6 @@
-use Rattle.std.proofs.Common.{◌≡◌, ◌+◌, ◌-◌, ◌≤◌, ◌<◌, ℕ, List, [], IsTrue, true, cond, length}
+use Rattle.std.proofs.Common.{◌≡◌, ◌+◌, ◌-◌, ◌≤◌, ◌<◌, ℕ, List, [], Bool, IsTrue, true, cond, length}
 use Rattle.std.specs.Prelude.{None}
+use Rattle.fmp_devices.specs.Devices.{IsKnown, bytes_of}
 use Rattle.fmp_feed.specs.Feed.{IsDone}
 use Rattle.fmp_text.specs.Events.{Reading}
 use Rattle.fmp_text.specs.Limits.{most_bytes, most_events}
@@ -18,10 +19,13 @@ invariant-loop-run g l = record {
   processors : length l.run.kernel.processors ≡ l.config.processors;
   room : 0 < length l.piece;
   done : l.run.feed.ended ≡ true → IsDone l.config.names l.run.feed;
-  end : IsTrue g.S.Source.tells → l.run.feed.ended ≡ true → g.S.Source.left l.events ≡ [];
-  streams : IsTrue g.S.Source.tells → (d : Detail) (whole : Reading) (old : List ℕ)
-      → Streams d g.W.Sink.tells l.config whole old l.fn.run (g.W.Sink.written l.fn.trace) (g.S.Source.left l.fn.events)
-      → Streams d g.W.Sink.tells l.config whole old l.run (g.W.Sink.written l.trace) (g.S.Source.left l.events);
+  read_known : IsKnown (g.S.Source.left l.fn.events) → IsKnown (g.S.Source.left l.events);
+  write_known : IsKnown (g.W.Sink.written l.fn.trace) → IsKnown (g.W.Sink.written l.trace);
+  end : IsKnown (g.S.Source.left l.fn.events) → l.run.feed.ended ≡ true → bytes_of (g.S.Source.left l.events) ≡ [];
+  streams : IsKnown (g.S.Source.left l.fn.events) → (d : Detail) (tells : Bool) (whole : Reading) (old : List ℕ)
+      → (IsTrue tells → IsKnown (g.W.Sink.written l.fn.trace))
+      → Streams d tells l.config whole old l.fn.run (bytes_of (g.W.Sink.written l.fn.trace)) (bytes_of (g.S.Source.left l.fn.events))
+      → Streams d tells l.config whole old l.run (bytes_of (g.W.Sink.written l.trace)) (bytes_of (g.S.Source.left l.events));
 }
 
 abbrev pub decreases-loop-run : goal.decreases-loop-run

@@ -1,7 +1,8 @@
-use Rattle.std.proofs.Common.{[]}
+use Rattle.std.proofs.Common.{[], subst}
+use Rattle.fmp_names.specs.Names.{AreValid}
 use Rattle.std.proofs.lemmas.Result.{err_from_is_err_and}
 use Rattle.fmpsim_run.specs.declared.stream.Detail.TheVariants as detail
-use Rattle.fmpsim_run.proofs.Ended.{answered_result, first_result, leaves_result, no_text, nothing_out}
+use Rattle.fmpsim_run.proofs.Ended.{answered_result, config_right, first_result, leaves_result, no_text, nothing_out, right_result}
 use Rattle.fmpsim_run.proofs.calls.run_calls.Goals as goal
 
 pub returns-in_err-configuration-clause-text_fault : goal.returns-in_err-configuration-clause-text_fault
@@ -27,3 +28,14 @@ pub returns-clause-leaves : goal.returns-clause-leaves
 returns-clause-leaves g c = λ configs reads writes.
     leaves_result _ _ _ c.in_ok-configuration.configuration (c.in_ok-configuration.ensures.ok configs) detail.Line _ c.answer_text.result c.answer_text.ensures.kinds
     (c.answer_text.ensures.leaves reads writes)
+
+pub returns-in_err-configuration-clause-right : goal.returns-in_err-configuration-clause-right
+returns-in_err-configuration-clause-right g c = λ configs reads setup events says spells.
+    let p = err_from_is_err_and c.from_residual.result c.from_residual.ensures.1 in
+    let failed = c.in_err-configuration.ensures in
+    rw (p.1, p.2) (config_right _ _ setup events says spells c.in_err-configuration.field-0.0 failed.kinds.0 (failed.fault configs))
+
+pub returns-clause-right : goal.returns-clause-right
+returns-clause-right g c = λ configs reads setup events says spells.
+    let valid = subst AreValid c.names.ensures.value c.validity.ensures in
+    right_result _ _ setup events says spells c.in_ok-configuration.configuration (c.in_ok-configuration.ensures.ok configs) valid c.answer_text.result c.answer_text.ensures.kinds (c.answer_text.ensures.first reads)

@@ -13,7 +13,7 @@ returns-in_err-write_history-clause-write g c = λ configs texts writes is.
     let fault : c.in_err-write_history.field-0.0 ≡ Write = cc in
     begun_played _ _ c.args.ticks c.args.turns c.in_ok-machine.machine r.history.records r.ended
     (played _ _ c.args.ticks c.args.turns c.in_ok-machine.machine c.in_ok-machine.list r.history.records (map (λ v. v.items) r.receipts.items) r.ended
-    (read.says configs) (read.spells texts) read.in_bits c.requires.most c.in_ok-run.ensures.run)
+    (read.says configs) (read.spells texts) read.in_bits c.requires.most c.in_ok-run.ensures.run c.in_ok-run.ensures.ticked)
     _ _ c.names.ensures.value refl _ _ (c.in_err-write_history.ensures.write writes (ap Err fault))
 
 pub returns-in_err-write_history-clause-unwritten : goal.returns-in_err-write_history-clause-unwritten
@@ -27,7 +27,7 @@ returns-clause-answered g c = λ configs texts writes.
     let r = c.in_ok-run.run' in
     played_in_order _ _ c.args.ticks c.args.turns c.in_ok-machine.machine r.history.records r.ended
     (played _ _ c.args.ticks c.args.turns c.in_ok-machine.machine c.in_ok-machine.list r.history.records (map (λ v. v.items) r.receipts.items) r.ended
-    (read.says configs) (read.spells texts) read.in_bits c.requires.most c.in_ok-run.ensures.run)
+    (read.says configs) (read.spells texts) read.in_bits c.requires.most c.in_ok-run.ensures.run c.in_ok-run.ensures.ticked)
     _ _ c.names.ensures.value refl c.args.seed _ _ (c.in_ok-write_history.ensures.written writes) c.in_ok-run.ensures.order
 
 pub returns-in_err-write_history-clause-reads : goal.returns-in_err-write_history-clause-reads

@@ -46,3 +46,6 @@ pub returns-clause-top : goal.returns-clause-top
 returns-clause-top c =
     rw (← c.self.view_is)
     (top_after _ _ _ _ c.self.invariant (subst (λ (x : World Queues). (processor_of c.args.event).number ≤ length x.processors) (sym c.self.view_is) c.requires) c.step_into.ensures.step)
+
+pub returns-clause-same : goal.returns-clause-same
+returns-clause-same c = rw (← c.self.view_is) c.step_into.ensures.step

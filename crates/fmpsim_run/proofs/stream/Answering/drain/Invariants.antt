@@ -1,4 +1,5 @@
-use Rattle.std.proofs.Common.{◌≡◌, ◌-◌, ◌≤◌, ℕ, List, length}
+use Rattle.std.proofs.Common.{◌≡◌, ◌-◌, ◌≤◌, ℕ, Bool, IsTrue, List, length}
+use Rattle.fmp_devices.specs.Devices.{IsKnown, bytes_of}
 use Rattle.fmp_text.specs.Events.{Reading}
 use Rattle.fmp_text.specs.Limits.{most_events}
 use Rattle.fmpsim_run.specs.declared.stream.Detail.{Detail}
@@ -12,9 +13,11 @@ invariant-loop g l = record {
   few : l.self.feed.events ≤ most_events;
   processors : length l.self.kernel.processors ≡ length l.fn.self.kernel.processors;
   same : (l.self.feed.ended ≡ l.fn.self.feed.ended) × (l.self.feed.taken ≡ l.fn.self.feed.taken) × (l.self.feed.dropped ≡ l.fn.self.feed.dropped);
-  streams : (d : Detail) (whole : Reading) (old remaining : List ℕ)
-      → Streams d g.W.Sink.tells l.config whole old l.fn.self (g.W.Sink.written l.fn.trace) remaining
-      → Streams d g.W.Sink.tells l.config whole old l.self (g.W.Sink.written l.trace) remaining;
+  known : IsKnown (g.W.Sink.written l.fn.trace) → IsKnown (g.W.Sink.written l.trace);
+  streams : (d : Detail) (tells : Bool) (whole : Reading) (old remaining : List ℕ)
+      → (IsTrue tells → IsKnown (g.W.Sink.written l.fn.trace))
+      → Streams d tells l.config whole old l.fn.self (bytes_of (g.W.Sink.written l.fn.trace)) remaining
+      → Streams d tells l.config whole old l.self (bytes_of (g.W.Sink.written l.trace)) remaining;
 }
 
 abbrev pub decreases-loop : goal.decreases-loop

@@ -1,0 +1,60 @@
+-- How a run ends whose sink passed on what it held back.
+use Rattle.std.proofs.Common.{◌≡◌, ◌⊎◌, ℕ, ◌+◌, ◌≤◌, Bool, true, false, cond, List, Result, Ok, Err, IfErr, OnOk, refl, sym, subst, arith, inl, inr}
+use Rattle.std.proofs.lemmas.Bool.{false≢true}
+use Rattle.fmp_setup.specs.Setup.{Setup}
+use Rattle.fmp_text.specs.Events.{Reading}
+use Rattle.fmp_devices.specs.Devices.{BeginsWith}
+use Rattle.fmp_judging.specs.declared.fault.RunFault.{RunFault}
+use Rattle.fmp_judging.specs.declared.fault.RunFault.TheVariants as run
+use Rattle.fmp_judging.specs.Faults.{is_config}
+use Rattle.fmpsim_run.specs.declared.stream.Detail.{Detail}
+use Rattle.fmpsim_run.specs.Details.{detail_of}
+use Rattle.fmpsim_run.specs.Runs.{IsPrefixOut, IsStopped}
+use Rattle.fmpsim_run.specs.Streams.{IsAllOut, Leaves}
+use Rattle.fmpsim_run.proofs.Streaming.{all_out_begun}
+use Rattle.fmpsim_run.proofs.Traces.{all_begun, prefix_begun}
+
+abbrev Ended : Type 0
+Ended = Result (Unit {0}) RunFault
+
+-- the run ended as it did before, or the flush failed
+abbrev pub Passes : Ended → Ended → Type 0
+Passes ended result = (result ≡ ended) ⊎ (result ≡ Err run.Write)
+
+pub on_ok_passed : (P : Type 0) (ended result : Ended) → Passes ended result → OnOk ended P → OnOk result P
+on_ok_passed P ended result (inl is) holds = rw is holds
+on_ok_passed P ended result (inr is) holds = rw is tt
+
+pub if_err_passed : (P : RunFault → Type 0) (ended result : Ended) → P run.Write → Passes ended result → IfErr ended P → IfErr result P
+if_err_passed P ended result write (inl is) holds = rw is holds
+if_err_passed P ended result write (inr is) holds = rw is write
+
+module _ (d : Detail) (c : Setup) (whole : Reading) (old : List ℕ) where
+  out_begun : (new : List ℕ) → IsPrefixOut (detail_of d) c whole.events old new → BeginsWith old (detail_of d c whole.events) new
+  out_begun new (n, text) = prefix_begun d c whole.events n old new text
+
+  -- whatever is left behind a fault of the events is a beginning of what is written of them
+  leaves_begun : (new : List ℕ) (fault : RunFault) → is_config fault ≡ false → Leaves d c whole old new fault → BeginsWith old (detail_of d c whole.events) new
+  leaves_begun new (run.Config fault) config left = absurd (false≢true (sym config))
+  leaves_begun new (run.Text fault) config (inl before) = all_begun d c whole.events old new before.text
+  leaves_begun new (run.Text fault) config (inr (memory, out)) = out_begun new out
+  leaves_begun new run.Read config out = out_begun new out
+  leaves_begun new run.Write config begun = begun
+  leaves_begun new run.Memory config out = out_begun new out
+  leaves_begun new run.Start config out = out_begun new out
+  leaves_begun new run.Disagree config out = out_begun new out
+
+  ended_begun : (new : List ℕ) (ended : Ended) → OnOk ended (IsAllOut d c whole old new) → IfErr ended (λ fault. is_config fault ≡ false) → IfErr ended (Leaves d c whole old new)
+      → BeginsWith old (detail_of d c whole.events) new
+  ended_begun new (Ok done) all config left = all_out_begun d c whole old new all
+  ended_begun new (Err fault) all config left = leaves_begun new fault config left
+
+  pub leaves_passed : (new : List ℕ) (ended result : Ended) → Passes ended result → OnOk ended (IsAllOut d c whole old new) → IfErr ended (λ fault. is_config fault ≡ false)
+      → IfErr ended (Leaves d c whole old new) → IfErr result (Leaves d c whole old new)
+  leaves_passed new ended result (inl is) all config left = rw is left
+  leaves_passed new ended result (inr is) all config left = rw is (ended_begun new ended all config left)
+
+-- a count that rises by one where this is so rises by one at most
+pub once_at_most : (b : Bool) (n m : ℕ) → m ≡ n + cond b 1 0 → (n ≤ m) × (m ≤ n + 1)
+once_at_most true n m e = (omega arith, omega arith)
+once_at_most false n m e = (omega arith, omega arith)
