@@ -1,6 +1,6 @@
 # Completion of fmpsim for fish: put this file where fish looks for completions.
 complete -c fmpsim -n __fish_use_subcommand -f -a calls -d 'Writes the trace of a configuration over a list of events'
-complete -c fmpsim -n '__fish_seen_subcommand_from calls' -l state -d 'Also writes the state after each event'
+complete -c fmpsim -n '__fish_seen_subcommand_from calls' -l state -d 'Also writes the state at boot and after each event'
 complete -c fmpsim -n '__fish_seen_subcommand_from calls' -l context -d 'Shows below a fault its line, its place and what is wanted there'
 complete -c fmpsim -n '__fish_seen_subcommand_from calls' -l help -d 'Print help'
 complete -c fmpsim -n __fish_use_subcommand -f -a check -d 'Says whether a trace is what the machine answers to its events'

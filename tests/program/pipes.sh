@@ -1,8 +1,12 @@
 # The events come through a pipe, and the trace goes into one.
 
 pipes() {
-    local ended pieces
+    local at_once=no ended pieces
     from=$late/events.txt run 0 "$late/trace.txt" /dev/null calls "$late/machine.cfg" -
+    printf 'P1 act_tsk(T2)\nP2 get_pid()\nP2 ipi\n' > events.txt
+    printf '1 P1 T1 act_tsk(T2) E_OK ipi=2\n2 P2 - get_pid() idle\n3 P2 - ipi taken run=T2\n' > trace.txt
+    one_by_one events.txt trace.txt "$program" calls "$late/machine.cfg" - && at_once=yes
+    count "$at_once" calls "$late/machine.cfg" - '# one event after the other'
     printf 'P1 tick\nP1 jump()\n' > events.txt
     from=events.txt run 1 <(echo 1 P1 T1 tick taken) <(echo fmpsim: -: line 2: E2 bad word) calls "$late/machine.cfg" -
     yes 'P1 tick' | head -n 1000000 > long.txt
@@ -27,5 +31,22 @@ end, start = os.pipe2(os.O_DIRECT)
 with subprocess.Popen(sys.argv[1:], stdout=start):
     os.close(start)
     print(sum(1 for piece in iter(lambda: os.read(end, 4096), b"")))
+' "$@"
+}
+
+# one_by_one EVENTS TRACE COMMAND..: each line of the trace comes before the command is given the next event.
+one_by_one() {
+    python3 -c '
+import os, select, subprocess, sys
+with open(sys.argv[1], "rb") as events, open(sys.argv[2], "rb") as trace:
+    with subprocess.Popen(sys.argv[3:], stdin=subprocess.PIPE, stdout=subprocess.PIPE) as run:
+        for event, line in zip(events, trace):
+            run.stdin.write(event)
+            run.stdin.flush()
+            if not select.select([run.stdout], [], [], 60)[0] or os.read(run.stdout.fileno(), 4096) != line:
+                run.kill()
+                sys.exit(1)
+        run.stdin.close()
+        sys.exit(run.wait())
 ' "$@"
 }

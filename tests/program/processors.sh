@@ -297,12 +297,12 @@ limits() {
     turns_at_limits --turns 20000
 }
 
-# states_at_limits N: the trace with states has a line for each processor behind each event, and where all handlers are due that line
-# says so. Without these lines it is the trace.
+# states_at_limits N: the trace with states has a line for each processor at boot and behind each event, and where all handlers are
+# due that line says so. Without these lines it is the trace.
 states_at_limits() {
     local well=no
     ends 600 0 calls --state limits.cfg limits.events && grep -v '^ ' output | cmp - limits.told && grep -qxF "$due" output &&
-        [ "$(grep -c '^  P[0-9] run=' output)" = $(($1 * $(wc -l < limits.told))) ] && well=yes
+        [ "$(grep -c '^  P[0-9] run=' output)" = $(($1 * ($(wc -l < limits.told) + 1))) ] && well=yes
     count "$well" calls --state limits.cfg limits.events
 }
 

@@ -1,11 +1,12 @@
-# The state after each event. Without its lines the trace is left.
+# The state at boot and after each event. Without its lines the trace is left.
 
 states() {
     local folder same=yes task
     printf 'P1 act_tsk(T2)\nP2 get_pid()\nP2 ipi\n' > events.txt
-    printf '%s\n' '1 P1 T1 act_tsk(T2) E_OK ipi=2' '  P1 run=T1' '  P2 run=- ready=T2 latch' \
-        '2 P2 - get_pid() idle' '  P1 run=T1' '  P2 run=- ready=T2 latch' \
-        '3 P2 - ipi taken run=T2' '  P1 run=T1' '  P2 run=T2' > told.txt
+    printf '%s\n' '  P1 run=T1' '  P2 run=-' '  end' \
+        '1 P1 T1 act_tsk(T2) E_OK ipi=2' '  P1 run=T1' '  P2 run=- ready=T2 latch' '  end' \
+        '2 P2 - get_pid() idle' '  P1 run=T1' '  P2 run=- ready=T2 latch' '  end' \
+        '3 P2 - ipi taken run=T2' '  P1 run=T1' '  P2 run=T2' '  end' > told.txt
     run 0 told.txt /dev/null calls --state "$late/machine.cfg" events.txt
     from=events.txt run 0 told.txt /dev/null calls "$late/machine.cfg" - --state
     for folder in "$top"/examples/*/; do
@@ -15,7 +16,7 @@ states() {
     done
     count "$same" calls --state
     printf 'P1 tick\nP3 tick\n' > events.txt
-    run 1 <(printf '1 P1 T1 tick taken\n  P1 run=T1\n  P2 run=-\n') <(echo fmpsim: events.txt: line 2: E5 number out of range) \
+    run 1 <(printf '  P1 run=T1\n  P2 run=-\n  end\n1 P1 T1 tick taken\n  P1 run=T1\n  P2 run=-\n  end\n') <(echo fmpsim: events.txt: line 2: E5 number out of range) \
         calls --state "$late/machine.cfg" events.txt
     unread calls --state missing events.txt
     unwritten calls --state "$late/machine.cfg" "$late/events.txt"
@@ -28,5 +29,6 @@ states() {
         echo '}'
     } > many.cfg
     echo 'P1 get_tid()' > events.txt
-    run 0 <(echo '1 P1 T1 get_tid() E_OK:1' && seq -s ,T 2 64 | sed 's/^/  P1 run=T1 ready=T/') /dev/null calls --state many.cfg events.txt
+    { seq -s ,T 2 64 | sed 's/^/  P1 run=T1 ready=T/' && echo '  end'; } > state.txt
+    run 0 <(cat state.txt && echo '1 P1 T1 get_tid() E_OK:1' && cat state.txt) /dev/null calls --state many.cfg events.txt
 }

@@ -349,13 +349,14 @@ def declared(processors, tasks):
 
 
 def states_of(told):
-    """The lines of the state behind each event, each as its words."""
-    states = []
+    """The lines of the state at boot and of that behind each event, each as its words."""
+    states, lines = [], []
     for line in told.splitlines():
-        if line.startswith(" "):
-            states[-1].append(line.split())
-        else:
-            states.append([])
+        if line == "  end":
+            states.append(lines)
+            lines = []
+        elif line.startswith(" "):
+            lines.append(line.split())
     return states
 
 
@@ -388,7 +389,7 @@ def ticking(line):
 
 
 def replay(machine, trace, told, wave):
-    """A waveform says what the trace and the states say: those behind its events, and before them that of the beginning."""
+    """A waveform says what the trace and the states say: that at boot, and those behind its events."""
     dump, tasks, states = Dump(wave), tasks_of(machine), states_of(told)
     processors = sum(words[1].startswith("run=") for words in states[0])
     holds(dump.variables == list(declared(processors, tasks)), "other variables are declared")
@@ -434,10 +435,9 @@ class Player:
         return ended.returncode, ended.stdout.decode("ascii")
 
     def texts(self, machine, events):
-        """The trace, the states and the waveform of events. An interrupt without a request changes nothing, so the state behind it
-        is that of the beginning."""
+        """The trace, the states and the waveform of events."""
         trace = self.well(["calls", "machine", "events"], machine=machine, events=events)
-        told = self.well(["calls", "--state", "machine", "events"], machine=machine, events=f"P1 ipi\n{events}")
+        told = self.well(["calls", "--state", "machine", "events"], machine=machine, events=events)
         return trace, told, self.well(["wave", "machine", "trace"], machine=machine, trace=trace)
 
     def well(self, words, **texts):

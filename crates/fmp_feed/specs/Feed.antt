@@ -24,6 +24,10 @@ pub record Feed : Type 0 where
 abbrev pub new_feed : Feed
 new_feed = record { rest = []; lines = 0; events = 0; taken = 0; dropped = false; ended = false; fault = None }
 
+-- how many bytes a feed has room for at least
+abbrev pub first_room : ℕ
+first_room = 131072
+
 -- a piece stands behind the rest, up to the limit
 abbrev pub pushed : Feed → List ℕ → Feed
 pushed f piece = record f { rest = f.rest ++ take (most_bytes - f.taken) piece; taken = min most_bytes (f.taken + length piece); dropped = f.dropped || nat_lt most_bytes (f.taken + length piece) }

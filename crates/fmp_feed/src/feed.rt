@@ -1,9 +1,9 @@
 //! Feeds of event texts.
-ghost use Rattle.std.specs.Prelude.{◌≡◌, ◌+◌, ◌<◌, ◌≤◌, Ok, Err, Some, None, true, false, is_some, if◌then◌else◌, IfOk, IfErr, IfSome, OnOk};
+ghost use Rattle.std.specs.Prelude.{◌≡◌, ◌+◌, ◌-◌, ◌*◌, ◌<◌, ◌≤◌, Ok, Err, Some, None, true, false, is_some, if◌then◌else◌, length, drop, vec_len, vec_capacity, IfOk, IfErr, IfSome, OnOk, OnErr};
 ghost use Rattle.fmp_calls.specs.Arguments.{EventInBits};
 ghost use Rattle.fmp_codes.specs.Records.{processor_of};
 ghost use Rattle.fmp_text.specs.Limits.{most_bytes, most_events};
-ghost use Rattle.fmp_feed.specs.Feed.{TakesOff, Gives, IsDone, IsWanting, closed, failed, new_feed, pushed, rest_fault, too_many, want_of_memory};
+ghost use Rattle.fmp_feed.specs.Feed.{TakesOff, Gives, IsDone, IsWanting, closed, failed, first_room, new_feed, pushed, rest_fault, too_many, want_of_memory};
 
 use crate::scan::next_said;
 use fmp_codes::Event;
@@ -32,14 +32,33 @@ pub struct EventFeed {
 }
 
 impl Model for EventFeed {
-    ghost use Rattle.std.specs.Prelude.{◌-◌, drop, vec_len};
-    ghost use Rattle.fmp_feed.specs.Feed.{Feed, IsFeed, IsSearched};
+    ghost use Rattle.std.specs.Prelude.{◌-◌, ◌≤◌, drop, vec_len, vec_capacity};
+    ghost use Rattle.fmp_feed.specs.Feed.{Feed, IsFeed, IsSearched, first_room};
 
     ghost Value = { Feed };
 
     ghost view = { λ f. record { rest = drop f.start f.bytes.items; lines = f.lines; events = f.events; taken = f.taken; dropped = f.has_dropped; ended = f.has_ended; fault = f.fault } };
 
-    ghost invariant = { λ f. IsFeed (vec_len f.bytes - f.start) f.lines f.events f.taken f.has_dropped × IsSearched f.bytes.items f.start f.searched };
+    ghost invariant = { λ f. IsFeed (vec_len f.bytes - f.start) f.lines f.events f.taken f.has_dropped × IsSearched f.bytes.items f.start f.searched × (first_room ≤ vec_capacity f.bytes) };
+}
+
+/// Moves the rest from `start` on to the beginning of the room, where at least as many bytes were read: so each byte that was read
+/// pays for one that is moved. It answers where the rest begins now. Then no more bytes stand before the rest than in it.
+fn compact(bytes: &mut Vec<u8>, start: usize) -> usize
+    requires { start ≤ vec_len bytes.old }
+    ensures rest { drop result bytes.new.items ≡ drop start bytes.old.items }
+    ensures len { vec_len bytes.new - result ≡ vec_len bytes.old - start }
+    ensures within { result ≤ vec_len bytes.new }
+    ensures few { vec_len bytes.new ≤ 2 * (vec_len bytes.old - start) }
+    ensures room { vec_capacity bytes.new ≡ vec_capacity bytes.old }
+{
+    let rest = bytes.len() - start;
+    if start == 0 || start < rest {
+        return start;
+    }
+    bytes.copy_within(start.., 0);
+    bytes.truncate(rest);
+    0
 }
 
 impl EventFeed {
@@ -75,34 +94,22 @@ impl EventFeed {
         self.has_ended = true;
     }
 
-    /// Moves the unread rest to the beginning of the room, where at least as many bytes were read: so each byte that was read
-    /// pays for one that is moved.
-    fn compact(&mut self)
-        ensures { self.new ≡ self.old }
-    {
-        let rest = self.bytes.len() - self.start;
-        if self.start == 0 || self.start < rest {
-            return;
-        }
-        self.bytes.copy_within(self.start.., 0);
-        self.bytes.truncate(rest);
-        self.start = 0;
-    }
-
     /// Adds a piece of the text. Bytes past the limit of a text are dropped.
     ///
-    /// The error is the fault that the feed has, or want of memory, which adds nothing and is the feed's fault from then on.
+    /// The error is the fault that the feed has, or want of memory, which adds nothing and is the feed's fault from then on. Memory
+    /// can be wanting only where the piece and twice the bytes that were not read yet are more than a new feed has room for.
     pub fn push(&mut self, piece: &[u8]) -> Result<(), TextFault>
         requires { self.old.ended ≡ false }
         ensures ok { OnOk result ((self.old.fault ≡ None) × (self.new ≡ pushed self.old piece.now)) }
         ensures err { IfErr result (λ fault. self.new ≡ failed self.old fault) }
         ensures stays { IfSome self.old.fault (λ fault. (result ≡ Err fault) × (self.new ≡ self.old)) }
         ensures memory { self.old.fault ≡ None → IfErr result (λ fault. fault ≡ want_of_memory) }
+        ensures full { self.old.fault ≡ None → OnErr result (first_room < 2 * length self.old.rest + length piece.now) }
     {
         if let Some(fault) = self.fault {
             return Err(fault);
         }
-        self.compact();
+        self.start = compact(&mut self.bytes, self.start);
         let count = piece.len().min(MOST_BYTES - self.taken);
         if let Err(error) = self.bytes.extend_from_slice(&piece[..count]) {
             return Err(self.fail(TextFault::from(error)));

@@ -5,7 +5,8 @@
 //! gives is said by what is ahead of the feed: the events and the fault that follow, for any bytes that are still to come.
 //! So it does not matter how a text is cut: the events are those of its lines in order, up to the first fault.
 //!
-//! No byte is searched twice for a line's end, and no more bytes are moved than were used. Only `new` and `push` allocate.
+//! No byte is searched twice for a line's end, and no more bytes are moved than were used. Only `new` and `push` allocate,
+//! and in `push` memory can be wanting only where a piece and twice the unread rest are more than a new feed has room for.
 #![tactic(auto)]
 
 mod feed;

@@ -4,7 +4,7 @@
 //! state at boot, and [`Plain::step`] the definitions' step with its whole record. A machine makes fewer than 4,294,967,295
 //! steps, so that the numbers which it gives out stay within their type.
 //!
-//! It judges traces (`fmp_check`), draws them (`fmp_wave`), and in tests the kernel is compared with it. No step allocates.
+//! It judges traces (`fmp_check`), and in tests the kernel is compared with it. No step allocates.
 #![tactic(auto)]
 
 mod plain;

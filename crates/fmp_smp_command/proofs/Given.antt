@@ -1,18 +1,19 @@
--- A parse of the command line gives both numbers within their limits.
-use Rattle.std.proofs.Common.{zero, suc, ◌≡◌, ◌∙◌, subst, ◌<◌, ◌||◌, ap, ℕ, Bool, false, List, [], ◌∷◌, length, Some, refl, sym, inl, inr, arith, codes}
-use Rattle.std.specs.Prelude.{pos}
+-- A parse of the command line gives both paths, and both numbers within their limits.
+use Rattle.std.proofs.Common.{zero, suc, ◌≡◌, ◌∙◌, subst, ◌<◌, ◌||◌, ap, ℕ, Bool, true, false, List, [], ◌∷◌, length, Some, refl, sym, inl, inr, arith, codes}
+use Rattle.std.specs.Prelude.{is_some, pos}
 use Rattle.std.specs.List.{All, slice_index_or}
 use Rattle.std.specs.Str.{bytes_eq}
 use Rattle.std.proofs.lemmas.Bool.{true≢false, or_parts}
 use Rattle.std.proofs.lemmas.Slice.Eq.{bytes_eq-Decides}
+use Rattle.clap.proofs.CallerLemmas.{required_in_chain}
 use Rattle.clap.specs.Built.{HasDistinctIds, FitsChain, IsParsedFrom}
-use Rattle.clap.specs.Matches.{found_of, one_text}
+use Rattle.clap.specs.Matches.{first_value, found_of, one_text}
 use Rattle.clap.specs.Lexer.{without_minus}
 use Rattle.clap.specs.declared.builder.arg.Arg.{Arg}
 use Rattle.clap.specs.declared.builder.command.Command.{Command}
 use Rattle.clap.specs.declared.builder.value_parser.ValueParser.TheVariants as parser
 use Rattle.clap.specs.declared.parser.matches.ArgMatches.{ArgMatches}
-use Rattle.fmp_smp_command.specs.Smp.{IsOptional, IsNumber, IsSmp, Gives, GivesLimits}
+use Rattle.fmp_smp_command.specs.Smp.{IsOptional, IsRequired, IsNumber, IsSmp, Gives, GivesAll, GivesLimits}
 use Rattle.fmp_smp_command.proofs.Chains.{reads_in_chain}
 
 differs : (a b : List ℕ) → bytes_eq a b ≡ false → a ≡ b → ⊥
@@ -94,4 +95,18 @@ module _ (c : Command) (s : IsSmp c) where
   gives_limits m p = record {
     ticks = number m 2 s.ticks (codes "ticks") 0 1000000 p (omega arith) refl s.is_ticks;
     turns = number m 3 s.turns (codes "turns") 1 1000000 p (omega arith) refl s.is_turns;
+  }
+
+  path : (m : ArgMatches) (k : ℕ) (a : Arg) (id : List ℕ) → IsParsedFrom c m → k < 6 → slice_index_or chain k a ≡ a → IsRequired a id → is_some (first_value (found_of m) id) ≡ true
+  path m k a id p lt at is =
+      let got = required_in_chain s.start c chain k a m s.chain s.no_arguments s.no_groups s.no_globals s.negates_nothing all_fit distinct lt
+      (rw at is.takes) p in
+      let named : (slice_index_or chain k a).id.now ≡ id = ap (λ (x : Arg). x.id.now) at ∙ is.optional.named in
+      subst (λ (w : List ℕ). is_some (first_value (found_of m) w) ≡ true) named got
+
+  pub gives_all : (m : ArgMatches) → IsParsedFrom c m → GivesAll m
+  gives_all m p = record {
+    limits = gives_limits m p;
+    config = path m 0 s.config (codes "CFG") p (omega arith) refl s.is_config;
+    scripts = path m 1 s.scripts (codes "SCRIPTS") p (omega arith) refl s.is_scripts;
   }

@@ -1,15 +1,21 @@
 //! The command line of `fmpsim smp`. Its numbers are within their limits by what clap promises, and are not tested again.
 //!
-//! [`Limits`] are the numbers, in their ranges by their type, and [`smp_command`] is the command whose contract says which
-//! ranges clap keeps (`specs/Smp`). That the words of a command line become this request, and which are refused, is tested in
-//! `fmpsim`.
+//! [`Limits`] are the numbers, in their ranges by their type, and [`smp_command`] is the command whose contract says what a
+//! parse reads of it (`specs/Smp`). [`parse_smp`] says which part of a request is what clap finds under which name in the words
+//! of a command line, and which words are refused, by the functions of the words that clap's contracts give for such a command.
+//! How the help and the texts of errors read is tested in `fmpsim`.
 #![tactic(auto)]
 
-ghost use Rattle.std.specs.Prelude.{◌≡◌, ◌≤◌, IfOk, pos, Some, codes};
+ghost use Rattle.std.specs.Prelude.{◌≡◌, IfOk, map, pos, Some, codes};
+ghost use Rattle.clap.specs.Words.{FailsBy, rule_of};
 ghost use Rattle.clap.specs.declared.builder.value_parser.ValueParser.TheVariants as parser;
-ghost use Rattle.fmp_smp_command.specs.Smp.{IsOptional, IsRequired, IsNumber, IsSmp, GivesLimits};
+ghost use Rattle.fmp_smp_command.specs.Smp.{IsOptional, IsRequired, IsNumber, IsSmp, GivesLimits, GivesAll};
+ghost use Rattle.fmp_smp_command.specs.Smp.{Asks, AsksLimits, context_rule, faults_in, found_in, number_rule, path_rule, rows_in, seed_rule};
+
+mod limits;
 
 use clap::{Arg, ArgAction, ArgMatches, Command, Error};
+pub use limits::Limits;
 use std::alloc::{AllocError, Global};
 
 const ABOUT: &str = "Runs processors that follow scripts, each in a thread of its own";
@@ -44,16 +50,6 @@ Exit status:
   4  want of memory or of threads
   6  there were as many events as --turns says; their trace was written";
 
-/// How many ticks each processor takes, and how many events a run has at most.
-#[derive(Clone, Copy, Debug)]
-pub struct Limits {
-    pub ticks: u32,
-    pub turns: u32,
-    pub ghost few_ticks: { ticks ≤ 1000000 },
-    pub ghost some_turns: { 1 ≤ turns },
-    pub ghost few_turns: { turns ≤ 1000000 },
-}
-
 /// What the command line of `fmpsim smp` asks for.
 #[derive(Clone, Copy, Debug)]
 pub struct SmpRequest<'a> {
@@ -70,7 +66,8 @@ pub struct SmpRequest<'a> {
 
 /// The path of a text, which has to be given.
 pub fn path<'a>(alloc: Global, id: &'a str, about: &'a str) -> Arg<'a>
-    ensures { IsRequired result id.entry.now }
+    ensures kind { IsRequired result id.entry.now }
+    ensures rule { rule_of result ≡ path_rule id.entry.now }
 {
     Arg::new(alloc, id)
         .required(true)
@@ -79,7 +76,8 @@ pub fn path<'a>(alloc: Global, id: &'a str, about: &'a str) -> Arg<'a>
 }
 
 fn ticks<'a>(alloc: Global) -> Arg<'a>
-    ensures { IsNumber result (codes "ticks") 0 1000000 }
+    ensures kind { IsNumber result (codes "ticks") 0 1000000 }
+    ensures rule { rule_of result ≡ number_rule (codes "ticks") 0 1000000 }
 {
     Arg::new(alloc, "ticks")
         .long("ticks")
@@ -91,7 +89,8 @@ fn ticks<'a>(alloc: Global) -> Arg<'a>
 }
 
 fn turns<'a>(alloc: Global) -> Arg<'a>
-    ensures { IsNumber result (codes "turns") 1 1000000 }
+    ensures kind { IsNumber result (codes "turns") 1 1000000 }
+    ensures rule { rule_of result ≡ number_rule (codes "turns") 1 1000000 }
 {
     Arg::new(alloc, "turns")
         .long("turns")
@@ -103,7 +102,8 @@ fn turns<'a>(alloc: Global) -> Arg<'a>
 }
 
 fn seed<'a>(alloc: Global) -> Arg<'a>
-    ensures { IsOptional result (codes "seed") }
+    ensures kind { IsOptional result (codes "seed") }
+    ensures rule { rule_of result ≡ seed_rule }
 {
     Arg::new(alloc, "seed")
         .long("seed")
@@ -114,7 +114,8 @@ fn seed<'a>(alloc: Global) -> Arg<'a>
 }
 
 fn context<'a>(alloc: Global) -> Arg<'a>
-    ensures { IsOptional result (codes "context") }
+    ensures kind { IsOptional result (codes "context") }
+    ensures rule { rule_of result ≡ context_rule }
 {
     Arg::new(alloc, "context")
         .long("context")
@@ -149,23 +150,43 @@ pub fn smp_command<'a>(alloc: Global) -> Result<Command<'a>, AllocError>
     Ok(six)
 }
 
+/// The numbers of `--ticks` and `--turns`, each in its own place.
 fn limits_of<'a>(matches: &ArgMatches<'a>) -> Limits
     requires { GivesLimits matches.now }
+    ensures { AsksLimits (rows_in matches.now) result }
 {
     let ticks = matches.get_one::<u32>("ticks").unwrap();
     let turns = matches.get_one::<u32>("turns").unwrap();
     Limits { ticks, turns }
 }
 
-/// What the words of the command line ask for, from `smp` on.
-pub fn parse_smp<'a>(alloc: Global, words: &'a [String]) -> Result<SmpRequest<'a>, Error> {
+/// The request that the matches are: each of its parts is what they have under one name.
+fn request_of<'a>(matches: &ArgMatches<'a>) -> SmpRequest<'a>
+    requires { GivesAll matches.now }
+    ensures { Asks (rows_in matches.now) result }
+{
+    let config = matches.get_str("CFG").unwrap_or("");
+    let scripts = matches.get_str("SCRIPTS").unwrap_or("");
+    let limits = limits_of(matches);
+    let seed = matches.get_one::<u64>("seed");
+    let context = matches.get_flag("context");
+    SmpRequest {
+        config,
+        scripts,
+        limits,
+        seed,
+        context,
+    }
+}
+
+/// What the words of the command line ask for, from `smp` on. Each part of the request is what clap finds in these words
+/// under one name. There is a request only where clap finds nothing wrong in them, and otherwise the error says what is wrong,
+/// or that memory ran out.
+pub fn parse_smp<'a>(alloc: Global, words: &'a [String]) -> Result<SmpRequest<'a>, Error>
+    ensures asks { IfOk result (Asks (found_in (map (λ w. w.bytes.items) words.now))) }
+    ensures fails { FailsBy (faults_in (map (λ w. w.bytes.items) words.now)) result }
+{
     let mut command = smp_command(alloc)?;
     let matches = command.try_get_matches_from(words)?;
-    Ok(SmpRequest {
-        config: matches.get_str("CFG").unwrap_or(""),
-        scripts: matches.get_str("SCRIPTS").unwrap_or(""),
-        limits: limits_of(&matches),
-        seed: matches.get_one::<u64>("seed"),
-        context: matches.get_flag("context"),
-    })
+    Ok(request_of(&matches))
 }

@@ -13,7 +13,7 @@ use Rattle.fmp_names.specs.Names.{NameLists}
 use Rattle.fmp_queues.specs.Queues.{Queues, listed}
 use Rattle.fmp_lists.specs.Stands.{Stands}
 use Rattle.fmp_lists.proofs.SafeLists.{tells_alike}
-use Rattle.fmp_states.specs.States.{processor_text, processors_text, ready_to, state_lines, state_text, task_line, tasks_text, without_running}
+use Rattle.fmp_states.specs.States.{processor_text, processors_text, ready_to, state_lines, task_line, tasks_text, without_running}
 
 module _ (k : World Queues) (m : State) (h : Stands k m) where
   processor_same : (p : Proc) → processor k p ≡ processor m p
@@ -52,7 +52,7 @@ module _ (k : World Queues) (m : State) (h : Stands k m) where
       ap₂ ◌++◌ (tasks_same lists n)
       (ap₂ (λ (x : TaskRecord) (left : Option ℕ). task_line lists (as_task (suc n)) x left) (task_same (as_task (suc n))) (left_same (as_task (suc n))))
 
-  pub states_alike : (lists : NameLists) → state_lines listed lists k ≡ state_text lists m
+  pub states_alike : (lists : NameLists) → state_lines listed lists k ≡ state_lines numbered lists m
   unfolding state_lines
   states_alike lists =
       ap₂ ◌++◌

@@ -1,4 +1,5 @@
--- The text of a state: a line for each processor, and then one for each task that waits or is suspended. docs/FORMATS.md has its form.
+-- The text of a state: a line for each processor, one for each task that waits or is suspended, and one that ends it. docs/FORMATS.md
+-- has its form.
 use Rattle.std.specs.Prelude.{ℕ, zero, suc, ◌+◌, Bool, true, false, not, ◌||◌, ◌==◌, Option, None, Some, List, [], ◌∷◌, ◌++◌, length, filter, is_some, if◌then◌else◌, codes, decimal}
 use Rattle.fmp_codes.specs.Numbers.{as_pri, as_proc, as_task}
 use Rattle.fmp_codes.specs.declared.numbers.Object.{Object}
@@ -123,6 +124,13 @@ tasks_text lists w (suc n) =
 unfoldable pub state_lines : {Q : Type 0} → Ordering Q → NameLists → World Q → List ℕ
 state_lines k lists w = processors_text k lists w (length w.processors) ++ tasks_text lists w (length w.tasks)
 
--- the lines of a state of the model
+-- the line that ends a state, so that a reader need not wait for what comes next
+unfoldable pub state_end : List ℕ
+state_end = codes "  end\n"
+
+abbrev pub ended_lines : {Q : Type 0} → Ordering Q → NameLists → World Q → List ℕ
+ended_lines k lists w = state_lines k lists w ++ state_end
+
+-- the lines of a state of the model, and its end
 abbrev pub state_text : NameLists → State → List ℕ
-state_text lists m = state_lines numbered lists m
+state_text lists m = ended_lines numbered lists m

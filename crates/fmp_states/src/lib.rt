@@ -1,6 +1,6 @@
 //! The text of the kernel's state, by which one sees why a task does not run.
 //!
-//! [`put_state`] writes a line for each processor, then one for each task that waits or is suspended. Its contract says so
+//! [`put_state`] writes a line for each processor, one for each task that waits or is suspended, and one that ends the state. Its contract says so
 //! twice: by what the kernel's lists tell (`lists`), and, for every state of the model for which the kernel stands, by what
 //! that one tells (`model`). The text is `state_text` in `specs/States`; docs/FORMATS.md has its form.
 #![tactic(auto)]

@@ -1,9 +1,9 @@
 //! The whole state.
 ghost use Rattle.std.specs.Prelude.{◌≡◌, ◌++◌, OnOk};
-ghost use Rattle.fmp_machine.specs.Arrivals.{State};
+ghost use Rattle.fmp_machine.specs.Arrivals.{State, numbered};
 ghost use Rattle.fmp_queues.specs.Queues.{listed};
 ghost use Rattle.fmp_lists.specs.Stands.{Stands};
-ghost use Rattle.fmp_states.specs.States.{state_lines, state_text};
+ghost use Rattle.fmp_states.specs.States.{ended_lines, state_end, state_lines, state_text};
 
 use crate::processors::put_processors;
 use crate::tasks::put_tasks;
@@ -11,16 +11,33 @@ use fmp_kernel::Kernel;
 use fmp_names::Names;
 use std::alloc::AllocError;
 
-/// Adds the lines of the kernel's state: one for each processor, then one for each task that waits or is suspended.
-/// docs/FORMATS.md has their form. A number that is no object's is printed as a number.
-///
-/// After an error a beginning of these lines may have been added.
+/// Adds a line for each processor, then one for each task that waits or is suspended.
 #[tactic(auto, unfolding(crate::specs::States::state_lines))]
-pub fn put_state(out: &mut Vec<u8>, names: &Names, kernel: &Kernel) -> Result<(), AllocError>
+fn put_lines(out: &mut Vec<u8>, names: &Names, kernel: &Kernel) -> Result<(), AllocError>
     ensures lists { OnOk result (out.new.items ≡ out.old.items ++ state_lines listed names.now kernel.now) }
-    ensures model { (m : State) → Stands kernel.now m → OnOk result (out.new.items ≡ out.old.items ++ state_text names.now m) }
+    ensures model { (m : State) → Stands kernel.now m → OnOk result (out.new.items ≡ out.old.items ++ state_lines numbered names.now m) }
 {
     put_processors(out, names, kernel)?;
     put_tasks(out, names, kernel)?;
     Ok(())
+}
+
+/// Adds the line that ends a state.
+#[tactic(auto, unfolding(crate::specs::States::state_end))]
+fn put_end(out: &mut Vec<u8>) -> Result<(), AllocError>
+    ensures { OnOk result (out.new.items ≡ out.old.items ++ state_end) }
+{
+    out.extend_from_slice(b"  end\n")
+}
+
+/// Adds the lines of the kernel's state: one for each processor, one for each task that waits or is suspended, and one that ends it.
+/// docs/FORMATS.md has their form. A number that is no object's is printed as a number.
+///
+/// After an error a beginning of these lines may have been added.
+pub fn put_state(out: &mut Vec<u8>, names: &Names, kernel: &Kernel) -> Result<(), AllocError>
+    ensures lists { OnOk result (out.new.items ≡ out.old.items ++ ended_lines listed names.now kernel.now) }
+    ensures model { (m : State) → Stands kernel.now m → OnOk result (out.new.items ≡ out.old.items ++ state_text names.now m) }
+{
+    put_lines(out, names, kernel)?;
+    put_end(out)
 }

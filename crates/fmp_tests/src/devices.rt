@@ -171,11 +171,41 @@ fn failed_reads_of_one_byte(rt: HostRuntime) -> Result<(), Fail> {
     Ok(())
 }
 
-fn trace_is_not_written(rt: &impl Abort, alloc: Global) -> Result<(), AllocError> {
-    for calls in 0..=TRACE.len() {
-        let (written, _) = TRACE.split_at(calls);
+/// The writer is flushed before each read of the events, and behind all. Where such a flush fails, the lines of the events that
+/// were read before are out.
+fn flushes_fail(rt: &impl Abort, alloc: Global) -> Result<(), AllocError> {
+    for reads in 0..=EVENTS.len() {
+        let (given, _) = EVENTS.split_at(reads);
+        let written = trace_of(given);
+        let calls = reads + written.len();
         let turns = (NEVER, NEVER, calls as u64);
         answers(rt, alloc, turns, "write failed", written)?;
+    }
+    let calls = EVENTS.len() + 1 + TRACE.len();
+    answers(
+        rt,
+        alloc,
+        (NEVER, NEVER, calls as u64),
+        "write failed",
+        TRACE,
+    )
+}
+
+/// Each write of a byte of the trace fails in turn: there is room for those before it alone.
+fn trace_is_not_written(rt: &impl Abort, alloc: Global) -> Result<(), AllocError> {
+    for room in 0..TRACE.len() {
+        let (written, _) = TRACE.split_at(room);
+        let mut trace = OneByte {
+            device: MemSink::with_room(alloc, room)?,
+        };
+        let run = run_calls(
+            alloc,
+            &mut source(REMOTE, NEVER),
+            &mut source(EVENTS, NEVER),
+            &mut trace,
+        );
+        ends(rt, alloc, run, "write failed")?;
+        assert_eq!(rt; trace.device.bytes(), written);
     }
     Ok(())
 }
@@ -193,23 +223,24 @@ fn verdict_is_not_written(
     Ok(())
 }
 
-/// Each call of the writer fails in turn, from the first write to the flush behind the last. What went before it is written.
+/// Each call of the writer fails in turn, from the first to the flush behind the last. What went before it is written.
 #[test]
 fn failed_writes_of_one_byte(rt: HostRuntime) -> Result<(), Fail> {
+    flushes_fail(&rt, rt.alloc())?;
     trace_is_not_written(&rt, rt.alloc())?;
     verdict_is_not_written(&rt, rt.alloc(), b"yes\n")?;
     Ok(())
 }
 
-/// Asserts that a flush behind the first line fails, which is told in the place of how the run would end.
+/// Asserts that this call of the writer, a flush behind the first line, fails, which is told in the place of how the run would end.
 fn flush_fails(
     rt: &impl Abort,
     alloc: Global,
     events: &[u8],
     reads: u64,
+    calls: usize,
 ) -> Result<(), AllocError> {
-    let line = trace_of(FIRST_EVENT);
-    let mut trace = sink(alloc, line.len() as u64)?;
+    let mut trace = sink(alloc, calls as u64)?;
     let run = run_calls(
         alloc,
         &mut source(REMOTE, NEVER),
@@ -217,17 +248,24 @@ fn flush_fails(
         &mut trace,
     );
     ends(rt, alloc, run, "write failed")?;
-    assert_eq!(rt; trace.device.bytes(), line);
+    assert_eq!(rt; trace.device.bytes(), trace_of(FIRST_EVENT));
     Ok(())
 }
 
 const FIRST_EVENT: &[u8] = b"P1 act_tsk(T2)\n";
 
-/// The flush fails behind a text that has a fault, and behind a failed read.
+const EVENT_AT_FAULT: &[u8] = b"P1 act_tsk(T2)\nP1 jump()\n";
+
+/// The flush fails behind a text that has a fault, and behind a failed read. Before it each byte of the line was written, and the
+/// writer flushed before each read.
 #[test]
 fn failed_flush_behind_a_fault(rt: HostRuntime) -> Result<(), Fail> {
-    flush_fails(&rt, rt.alloc(), b"P1 act_tsk(T2)\nP1 jump()\n", NEVER)?;
-    flush_fails(&rt, rt.alloc(), EVENTS, FIRST_EVENT.len() as u64)?;
+    let line = trace_of(FIRST_EVENT).len();
+    let calls = EVENT_AT_FAULT.len() + line;
+    flush_fails(&rt, rt.alloc(), EVENT_AT_FAULT, NEVER, calls)?;
+    let reads = FIRST_EVENT.len();
+    let calls = reads + 1 + line;
+    flush_fails(&rt, rt.alloc(), EVENTS, reads as u64, calls)?;
     Ok(())
 }
 

@@ -84,7 +84,7 @@ fn run(alloc: Global, config: &[u8], events: &[u8]) -> Result<MemSink, RunFault>
     Ok(trace)
 }
 
-/// The state stands behind the line of its event.
+/// The state at boot stands before the first line, and behind each line the state after its event.
 #[test]
 fn states_are_told(rt: HostRuntime) -> Result<(), Fail> {
     let mut told = MemSink::with_room(rt.alloc(), 1000)?;
@@ -94,10 +94,13 @@ fn states_are_told(rt: HostRuntime) -> Result<(), Fail> {
         &mut MemSource::new(b"P1 act_tsk(T2)\n"),
         &mut told,
     )?;
-    let lines = b"\
+    let lines = b"  P1 run=T1
+  P2 run=-
+  end
 1 P1 T1 act_tsk(T2) E_OK ipi=2
   P1 run=T1
   P2 run=- ready=T2 latch
+  end
 ";
     assert_eq!(rt; told.bytes(), lines.as_slice());
     Ok(())
@@ -167,16 +170,18 @@ fn failed_writes(rt: HostRuntime) -> Result<(), Fail> {
     Ok(())
 }
 
-/// Each line is one write, and the flush is the call behind them. Each of these calls fails in turn.
+/// The writer is flushed before the events are read, each line is one write, and it is flushed before their end is read and behind
+/// all. Each of these calls fails in turn.
 #[test]
 fn failed_calls_of_the_writer(rt: HostRuntime) -> Result<(), Fail> {
-    for calls in 0..=TRACE_LINES {
+    for calls in 0..TRACE_LINES + 3 {
         let mut trace = MemSink::with_room(rt.alloc(), 1000)?.failing_after(calls);
         let (config, events) = (MemSource::new(REMOTE), MemSource::new(EVENTS));
         stops(&rt, rt.alloc(), config, events, &mut trace, "write failed")?;
         assert!(rt; TRACE.starts_with(trace.bytes()));
         assert!(rt; trace.bytes().is_empty() || trace.bytes().ends_with(b"\n".as_slice()));
-        assert!(rt; (trace.bytes() == TRACE) == (calls == TRACE_LINES));
+        assert!(rt; trace.bytes().is_empty() == (calls <= 1));
+        assert!(rt; (trace.bytes() == TRACE) == (calls > TRACE_LINES));
     }
     Ok(())
 }

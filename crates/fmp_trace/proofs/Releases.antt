@@ -7,7 +7,7 @@ use Rattle.fmp_names.specs.Names.{NameLists}
 use Rattle.fmp_trace.specs.Lines.{release_text, releases_text}
 
 -- the rest begins with what stands at its place
-drop-slice_get : (rs : List Release) (i : ℕ) (r : Release) → slice_get rs i ≡ Some r → drop i rs ≡ r ∷ drop (i + 1) rs
+pub drop-slice_get : (rs : List Release) (i : ℕ) (r : Release) → slice_get rs i ≡ Some r → drop i rs ≡ r ∷ drop (i + 1) rs
 drop-slice_get rs i r e =
     let within : i < length rs = slice_get_within rs i r e in
     rw (add-one) (drop-cons rs i r within ∙ ap (λ x. x ∷ drop (suc i) rs) (get_or_from_slice_get rs i r r e))

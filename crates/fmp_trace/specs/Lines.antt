@@ -98,6 +98,10 @@ core_text lists n r = head_text lists n r ++ event_text lists r.event ++ codes "
 unfoldable pub line_text : NameLists → ℕ → Record → List ℕ
 line_text lists n r = core_text lists n r ++ codes "\n"
 
+-- the greatest number of bytes of a line, with its line feed: no name has more than 64 bytes, and no number more than 64 digits
+abbrev pub most_line_bytes : ℕ
+most_line_bytes = 10394
+
 -- the lines of these records, numbered from n
 abbrev pub lines_from : NameLists → ℕ → List Record → List ℕ
 lines_from lists n [] = []

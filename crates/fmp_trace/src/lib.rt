@@ -6,6 +6,9 @@
 //! A line is read by a guess that is printed again and compared with it (`specs/Guess`), so a wrong guess does no harm, and the
 //! form of a trace is written down once. [`validate_from`] tells the first fault of a text, from a line on, and keeps no record.
 //! [`event_of`] reads the event of a line alone. docs/FORMATS.md has the form.
+//!
+//! A line is printed into a vector. Memory can be wanting only where that has less room than the line needs, and no line is longer
+//! than `most_line_bytes`, as the law [`lines_are_short`] says. So a vector that has that room is enough for every line.
 #![tactic(auto)]
 
 mod guess;
@@ -16,7 +19,7 @@ mod reading;
 mod values;
 
 pub use heads::event_of;
-pub use laws::texts_print_one_list;
+pub use laws::{lines_are_short, texts_print_one_list};
 pub use lines::{put_core, put_line, put_runner, put_running, put_task, trace_line, trace_text};
 pub use reading::{next_line, read_trace, validate_from};
 pub use values::{put_named, put_number};

@@ -1,5 +1,6 @@
-//! Printing records, a line for each.
-ghost use Rattle.std.specs.Prelude.{◌≡◌, ◌<◌, ◌^◌, [], ◌++◌, length, OnOk, OnErr, IfOk};
+//! Printing records, a line for each. What adds to a vector fails only where that had less room than there has to be, and it never
+//! takes room away.
+ghost use Rattle.std.specs.Prelude.{◌≡◌, ◌+◌, ◌<◌, ◌≤◌, ◌^◌, [], ◌++◌, length, OnOk, OnErr, IfOk, vec_capacity};
 ghost use Rattle.fmp_codes.specs.Records as records;
 ghost use Rattle.fmp_trace.specs.Lines as spec;
 
@@ -10,7 +11,9 @@ use fmp_text::Names;
 use std::alloc::{AllocError, Global};
 
 fn put_event(out: &mut Vec<u8>, names: &Names, event: Event) -> Result<(), AllocError>
-    ensures { OnOk result (out.new.items ≡ out.old.items ++ spec.event_text names.now event) }
+    ensures ok { OnOk result (out.new.items ≡ out.old.items ++ spec.event_text names.now event) }
+    ensures full { OnErr result (vec_capacity out.old < length out.old.items + length (spec.event_text names.now event)) }
+    ensures room { vec_capacity out.old ≤ vec_capacity out.new }
 {
     match event {
         Event::Call(_, call) => put_call(out, names, call),
@@ -31,7 +34,9 @@ fn processor_of(event: Event) -> Proc
 
 /// Adds the name of a task, or its number where no task has it.
 pub fn put_task(out: &mut Vec<u8>, names: &Names, task: Task) -> Result<(), AllocError>
-    ensures { OnOk result (out.new.items ≡ out.old.items ++ spec.task_text names.now task) }
+    ensures ok { OnOk result (out.new.items ≡ out.old.items ++ spec.task_text names.now task) }
+    ensures full { OnErr result (vec_capacity out.old < length out.old.items + length (spec.task_text names.now task)) }
+    ensures room { vec_capacity out.old ≤ vec_capacity out.new }
 {
     put_named(out, names, ObjectKind::Task, usize::from(task.number))
 }
@@ -42,7 +47,9 @@ pub fn put_runner(
     names: &Names,
     runner: Option<Runner>,
 ) -> Result<(), AllocError>
-    ensures { OnOk result (out.new.items ≡ out.old.items ++ spec.runner_text names.now runner) }
+    ensures ok { OnOk result (out.new.items ≡ out.old.items ++ spec.runner_text names.now runner) }
+    ensures full { OnErr result (vec_capacity out.old < length out.old.items + length (spec.runner_text names.now runner)) }
+    ensures room { vec_capacity out.old ≤ vec_capacity out.new }
 {
     match runner {
         None => out.extend_from_slice(b"-"),
@@ -59,7 +66,9 @@ pub fn put_runner(
 /// Adds a code and the value that it has, if any.
 #[tactic(auto, unfolding(crate::specs::Lines::code_text))]
 fn put_code(out: &mut Vec<u8>, code: Code, value: Option<i64>) -> Result<(), AllocError>
-    ensures { OnOk result (out.new.items ≡ out.old.items ++ spec.code_text code value) }
+    ensures ok { OnOk result (out.new.items ≡ out.old.items ++ spec.code_text code value) }
+    ensures full { OnErr result (vec_capacity out.old < length out.old.items + length (spec.code_text code value)) }
+    ensures room { vec_capacity out.old ≤ vec_capacity out.new }
 {
     out.extend_from_slice(code.name().as_bytes())?;
     if let Some(value) = value {
@@ -71,7 +80,9 @@ fn put_code(out: &mut Vec<u8>, code: Code, value: Option<i64>) -> Result<(), All
 
 /// Adds what a call returned, where the answer is that.
 fn put_returned(out: &mut Vec<u8>, answer: Answer) -> Result<(), AllocError>
-    ensures { OnOk result (out.new.items ≡ out.old.items ++ spec.returned_text answer) }
+    ensures ok { OnOk result (out.new.items ≡ out.old.items ++ spec.returned_text answer) }
+    ensures full { OnErr result (vec_capacity out.old < length out.old.items + length (spec.returned_text answer)) }
+    ensures room { vec_capacity out.old ≤ vec_capacity out.new }
 {
     match answer {
         Answer::Done(code, value) => put_code(out, code, value),
@@ -80,7 +91,9 @@ fn put_returned(out: &mut Vec<u8>, answer: Answer) -> Result<(), AllocError>
 }
 
 fn put_answer(out: &mut Vec<u8>, answer: Answer) -> Result<(), AllocError>
-    ensures { OnOk result (out.new.items ≡ out.old.items ++ spec.answer_text answer) }
+    ensures ok { OnOk result (out.new.items ≡ out.old.items ++ spec.answer_text answer) }
+    ensures full { OnErr result (vec_capacity out.old < length out.old.items + length (spec.answer_text answer)) }
+    ensures room { vec_capacity out.old ≤ vec_capacity out.new }
 {
     match answer.word() {
         Some(word) => out.extend_from_slice(word.as_bytes()),
@@ -90,7 +103,9 @@ fn put_answer(out: &mut Vec<u8>, answer: Answer) -> Result<(), AllocError>
 
 #[tactic(auto, unfolding(crate::specs::Lines::release_text))]
 fn put_release(out: &mut Vec<u8>, names: &Names, release: Release) -> Result<(), AllocError>
-    ensures { OnOk result (out.new.items ≡ out.old.items ++ spec.release_text names.now release) }
+    ensures ok { OnOk result (out.new.items ≡ out.old.items ++ spec.release_text names.now release) }
+    ensures full { OnErr result (vec_capacity out.old < length out.old.items + length (spec.release_text names.now release)) }
+    ensures room { vec_capacity out.old ≤ vec_capacity out.new }
 {
     out.extend_from_slice(b" rel=")?;
     put_task(out, names, release.task)?;
@@ -99,7 +114,9 @@ fn put_release(out: &mut Vec<u8>, names: &Names, release: Release) -> Result<(),
 }
 
 fn put_releases(out: &mut Vec<u8>, names: &Names, releases: &Releases) -> Result<(), AllocError>
-    ensures { OnOk result (out.new.items ≡ out.old.items ++ spec.releases_text names.now releases.now) }
+    ensures ok { OnOk result (out.new.items ≡ out.old.items ++ spec.releases_text names.now releases.now) }
+    ensures full { OnErr result (vec_capacity out.old < length out.old.items + length (spec.releases_text names.now releases.now)) }
+    ensures room { vec_capacity out.old ≤ vec_capacity out.new }
 {
     for index in 0..releases.len() {
         put_release(out, names, releases.get(index).unwrap())?;
@@ -108,7 +125,9 @@ fn put_releases(out: &mut Vec<u8>, names: &Names, releases: &Releases) -> Result
 }
 
 fn put_lost(out: &mut Vec<u8>, lost: Option<i64>) -> Result<(), AllocError>
-    ensures { OnOk result (out.new.items ≡ out.old.items ++ spec.lost_text lost) }
+    ensures ok { OnOk result (out.new.items ≡ out.old.items ++ spec.lost_text lost) }
+    ensures full { OnErr result (vec_capacity out.old < length out.old.items + length (spec.lost_text lost)) }
+    ensures room { vec_capacity out.old ≤ vec_capacity out.new }
 {
     if let Some(value) = lost {
         out.extend_from_slice(b" lost=")?;
@@ -123,7 +142,9 @@ pub fn put_running(
     names: &Names,
     running: Option<Task>,
 ) -> Result<(), AllocError>
-    ensures { OnOk result (out.new.items ≡ out.old.items ++ spec.running_text names.now running) }
+    ensures ok { OnOk result (out.new.items ≡ out.old.items ++ spec.running_text names.now running) }
+    ensures full { OnErr result (vec_capacity out.old < length out.old.items + length (spec.running_text names.now running)) }
+    ensures room { vec_capacity out.old ≤ vec_capacity out.new }
 {
     match running {
         None => out.extend_from_slice(b"idle"),
@@ -136,7 +157,9 @@ fn put_run_change(
     names: &Names,
     change: Option<Option<Task>>,
 ) -> Result<(), AllocError>
-    ensures { OnOk result (out.new.items ≡ out.old.items ++ spec.run_change_text names.now change) }
+    ensures ok { OnOk result (out.new.items ≡ out.old.items ++ spec.run_change_text names.now change) }
+    ensures full { OnErr result (vec_capacity out.old < length out.old.items + length (spec.run_change_text names.now change)) }
+    ensures room { vec_capacity out.old ≤ vec_capacity out.new }
 {
     if let Some(running) = change {
         out.extend_from_slice(b" run=")?;
@@ -146,7 +169,9 @@ fn put_run_change(
 }
 
 fn put_requests(out: &mut Vec<u8>, requests: &[Proc]) -> Result<(), AllocError>
-    ensures { OnOk result (out.new.items ≡ out.old.items ++ spec.requests_from 0 requests.now) }
+    ensures ok { OnOk result (out.new.items ≡ out.old.items ++ spec.requests_from 0 requests.now) }
+    ensures full { OnErr result (vec_capacity out.old < length out.old.items + length (spec.requests_from 0 requests.now)) }
+    ensures room { vec_capacity out.old ≤ vec_capacity out.new }
 {
     for (index, processor) in requests.iter().enumerate() {
         if index == 0 {
@@ -162,7 +187,9 @@ fn put_requests(out: &mut Vec<u8>, requests: &[Proc]) -> Result<(), AllocError>
 /// Adds what stands before the event in line n.
 #[tactic(auto, unfolding(crate::specs::Lines::head_text))]
 fn put_head(out: &mut Vec<u8>, names: &Names, n: u32, entry: &Record) -> Result<(), AllocError>
-    ensures { OnOk result (out.new.items ≡ out.old.items ++ spec.head_text names.now n entry.now) }
+    ensures ok { OnOk result (out.new.items ≡ out.old.items ++ spec.head_text names.now n entry.now) }
+    ensures full { OnErr result (vec_capacity out.old < length out.old.items + length (spec.head_text names.now n entry.now)) }
+    ensures room { vec_capacity out.old ≤ vec_capacity out.new }
 {
     put_number(out, u64::from(n))?;
     out.extend_from_slice(b" P")?;
@@ -176,7 +203,9 @@ fn put_head(out: &mut Vec<u8>, names: &Names, n: u32, entry: &Record) -> Result<
 /// Adds what stands behind the answer.
 #[tactic(auto, unfolding(crate::specs::Lines::tail_text))]
 fn put_tail(out: &mut Vec<u8>, names: &Names, entry: &Record) -> Result<(), AllocError>
-    ensures { OnOk result (out.new.items ≡ out.old.items ++ spec.tail_text names.now entry.now) }
+    ensures ok { OnOk result (out.new.items ≡ out.old.items ++ spec.tail_text names.now entry.now) }
+    ensures full { OnErr result (vec_capacity out.old < length out.old.items + length (spec.tail_text names.now entry.now)) }
+    ensures room { vec_capacity out.old ≤ vec_capacity out.new }
 {
     put_releases(out, names, &entry.releases)?;
     put_lost(out, entry.lost)?;
@@ -188,7 +217,9 @@ fn put_tail(out: &mut Vec<u8>, names: &Names, entry: &Record) -> Result<(), Allo
 /// Adds line n without its line feed.
 #[tactic(auto, unfolding(crate::specs::Lines::core_text))]
 pub fn put_core(out: &mut Vec<u8>, names: &Names, n: u32, entry: &Record) -> Result<(), AllocError>
-    ensures { OnOk result (out.new.items ≡ out.old.items ++ spec.core_text names.now n entry.now) }
+    ensures ok { OnOk result (out.new.items ≡ out.old.items ++ spec.core_text names.now n entry.now) }
+    ensures full { OnErr result (vec_capacity out.old < length out.old.items + length (spec.core_text names.now n entry.now)) }
+    ensures room { vec_capacity out.old ≤ vec_capacity out.new }
 {
     put_head(out, names, n, entry)?;
     put_event(out, names, entry.event)?;
@@ -201,14 +232,17 @@ pub fn put_core(out: &mut Vec<u8>, names: &Names, n: u32, entry: &Record) -> Res
 /// Adds line n with its line feed.
 #[tactic(auto, unfolding(crate::specs::Lines::line_text))]
 pub fn put_line(out: &mut Vec<u8>, names: &Names, n: u32, entry: &Record) -> Result<(), AllocError>
-    ensures { OnOk result (out.new.items ≡ out.old.items ++ spec.line_text names.now n entry.now) }
+    ensures ok { OnOk result (out.new.items ≡ out.old.items ++ spec.line_text names.now n entry.now) }
+    ensures full { OnErr result (vec_capacity out.old < length out.old.items + length (spec.line_text names.now n entry.now)) }
+    ensures room { vec_capacity out.old ≤ vec_capacity out.new }
 {
     put_core(out, names, n, entry)?;
     out.push(b'\n')?;
     Ok(())
 }
 
-/// Replaces what the vector holds by line n, with its line feed. After an error it is empty.
+/// Replaces what the vector holds by line n, with its line feed. After an error it is empty. It fails only where the vector had
+/// less room than the line has bytes, and it never takes room away.
 pub fn trace_line(
     n: u32,
     entry: &Record,
@@ -217,6 +251,8 @@ pub fn trace_line(
 ) -> Result<(), AllocError>
     ensures ok { OnOk result (line.new.items ≡ spec.line_text names.now n entry.now) }
     ensures err { OnErr result (line.new.items ≡ []) }
+    ensures full { OnErr result (vec_capacity line.old < length (spec.line_text names.now n entry.now)) }
+    ensures room { vec_capacity line.old ≤ vec_capacity line.new }
 {
     line.clear();
     let made = put_line(line, names, n, entry);

@@ -1,5 +1,6 @@
-//! Printing numbers, names and calls.
-ghost use Rattle.std.specs.Prelude.{◌≡◌, ◌++◌, length, decimal, OnOk};
+//! Printing numbers, names and calls. What adds to a vector fails only where that had less room than there has to be, and it never
+//! takes room away.
+ghost use Rattle.std.specs.Prelude.{◌≡◌, ◌+◌, ◌<◌, ◌≤◌, ◌++◌, length, decimal, OnOk, OnErr, vec_capacity};
 ghost use Rattle.std.specs.Fmt.{signed_decimal};
 ghost use Rattle.fmp_trace.specs.Values as spec;
 
@@ -12,7 +13,9 @@ use std::alloc::AllocError;
 /// Adds a number in decimal. Most are one digit, which is written without a buffer.
 #[tactic(auto, using(std::proofs::lemmas::Fmt::decimal_digit))]
 pub fn put_number(out: &mut Vec<u8>, number: u64) -> Result<(), AllocError>
-    ensures { OnOk result (out.new.items ≡ out.old.items ++ decimal number) }
+    ensures ok { OnOk result (out.new.items ≡ out.old.items ++ decimal number) }
+    ensures full { OnErr result (vec_capacity out.old < length out.old.items + length (decimal number)) }
+    ensures room { vec_capacity out.old ≤ vec_capacity out.new }
 {
     if number < 10 {
         out.push(b'0' + number as u8)?;
@@ -24,7 +27,9 @@ pub fn put_number(out: &mut Vec<u8>, number: u64) -> Result<(), AllocError>
 
 /// Adds a number with its sign, where it is below 0.
 pub fn put_signed(out: &mut Vec<u8>, number: i64) -> Result<(), AllocError>
-    ensures { OnOk result (out.new.items ≡ out.old.items ++ signed_decimal number) }
+    ensures ok { OnOk result (out.new.items ≡ out.old.items ++ signed_decimal number) }
+    ensures full { OnErr result (vec_capacity out.old < length out.old.items + length (signed_decimal number)) }
+    ensures room { vec_capacity out.old ≤ vec_capacity out.new }
 {
     if 0 <= number {
         return put_number(out, number as u64);
@@ -41,7 +46,9 @@ pub fn put_named(
     kind: ObjectKind,
     number: usize,
 ) -> Result<(), AllocError>
-    ensures { OnOk result (out.new.items ≡ out.old.items ++ spec.named names.now kind number) }
+    ensures ok { OnOk result (out.new.items ≡ out.old.items ++ spec.named names.now kind number) }
+    ensures full { OnErr result (vec_capacity out.old < length out.old.items + length (spec.named names.now kind number)) }
+    ensures room { vec_capacity out.old ≤ vec_capacity out.new }
 {
     match names.name(NameKind::Object(kind), number) {
         Some(name) => out.extend_from_slice(name),
@@ -57,7 +64,9 @@ fn put_object(
     kind: ObjectKind,
     number: i32,
 ) -> Result<(), AllocError>
-    ensures { OnOk result (out.new.items ≡ out.old.items ++ spec.object_text names.now kind number) }
+    ensures ok { OnOk result (out.new.items ≡ out.old.items ++ spec.object_text names.now kind number) }
+    ensures full { OnErr result (vec_capacity out.old < length out.old.items + length (spec.object_text names.now kind number)) }
+    ensures room { vec_capacity out.old ≤ vec_capacity out.new }
 {
     if number == 0 && kind == ObjectKind::Task {
         return out.extend_from_slice(b"TSK_SELF");
@@ -69,7 +78,9 @@ fn put_object(
 }
 
 fn put_mode(out: &mut Vec<u8>, mode: Mode) -> Result<(), AllocError>
-    ensures { OnOk result (out.new.items ≡ out.old.items ++ spec.mode_text mode) }
+    ensures ok { OnOk result (out.new.items ≡ out.old.items ++ spec.mode_text mode) }
+    ensures full { OnErr result (vec_capacity out.old < length out.old.items + length (spec.mode_text mode)) }
+    ensures room { vec_capacity out.old ≤ vec_capacity out.new }
 {
     match mode {
         Mode::Andw => out.extend_from_slice(b"TWF_ANDW"),
@@ -85,7 +96,9 @@ fn put_value(
     kind: ArgumentKind,
     value: Value,
 ) -> Result<(), AllocError>
-    ensures { OnOk result (out.new.items ≡ out.old.items ++ spec.value_text names.now kind value) }
+    ensures ok { OnOk result (out.new.items ≡ out.old.items ++ spec.value_text names.now kind value) }
+    ensures full { OnErr result (vec_capacity out.old < length out.old.items + length (spec.value_text names.now kind value)) }
+    ensures room { vec_capacity out.old ≤ vec_capacity out.new }
 {
     match value {
         Value::Number(number) => match kind {
@@ -105,7 +118,9 @@ fn put_arguments(
     values: &[Value],
 ) -> Result<(), AllocError>
     requires { length kinds.now ≡ length values.now }
-    ensures { OnOk result (out.new.items ≡ out.old.items ++ spec.arguments_from names.now 0 kinds.now values.now) }
+    ensures ok { OnOk result (out.new.items ≡ out.old.items ++ spec.arguments_from names.now 0 kinds.now values.now) }
+    ensures full { OnErr result (vec_capacity out.old < length out.old.items + length (spec.arguments_from names.now 0 kinds.now values.now)) }
+    ensures room { vec_capacity out.old ≤ vec_capacity out.new }
 {
     for (index, value) in values.iter().enumerate() {
         if index > 0 {
@@ -119,7 +134,9 @@ fn put_arguments(
 /// Adds a call with its arguments in parentheses, if it has any.
 #[tactic(auto, unfolding(crate::specs::Values::call_text, crate::specs::Values::behind_name))]
 pub fn put_call(out: &mut Vec<u8>, names: &Names, call: Call) -> Result<(), AllocError>
-    ensures { OnOk result (out.new.items ≡ out.old.items ++ spec.call_text names.now call) }
+    ensures ok { OnOk result (out.new.items ≡ out.old.items ++ spec.call_text names.now call) }
+    ensures full { OnErr result (vec_capacity out.old < length out.old.items + length (spec.call_text names.now call)) }
+    ensures room { vec_capacity out.old ≤ vec_capacity out.new }
 {
     let (form, values) = parts(call);
     out.extend_from_slice(form.text)?;

@@ -1,16 +1,13 @@
 -- One processor or one task more.
 use Rattle.std.proofs.Common.{◌≡◌, ℕ, ◌+◌, suc, List, [], ◌++◌, add-one, refl, sym, ap, ◌∙◌, append_assoc, append-nil}
-use Rattle.std.specs.Prelude.{Option}
 use Rattle.fmp_codes.specs.Numbers.{as_proc, as_task}
 use Rattle.fmp_codes.specs.declared.numbers.Proc.{Proc}
 use Rattle.fmp_codes.specs.declared.numbers.Task.{Task}
-use Rattle.fmp_codes.specs.declared.records.Runner.{Runner}
-use Rattle.fmp_machine.specs.declared.machine.Processor.{Processor}
-use Rattle.fmp_machine.specs.declared.machine.TaskRecord.{TaskRecord}
 use Rattle.fmp_names.specs.Names.{NameLists}
-use Rattle.fmp_machine.specs.Arrivals.{State}
-use Rattle.fmp_machine.specs.World.{handler, processor, task}
+use Rattle.fmp_wave.specs.declared.snapshot.ShownProcessor.{ShownProcessor}
+use Rattle.fmp_wave.specs.declared.snapshot.TaskState.{TaskState}
 use Rattle.fmp_wave.specs.Headers.{processor_scope, processor_scopes, task_variable, task_variables}
+use Rattle.fmp_wave.specs.Shown.{Shown, on_processor, state_of}
 use Rattle.fmp_wave.specs.Values.{processor_values, processors_values, state_value, tasks_values}
 
 -- what was written of the first n, and one line more
@@ -45,44 +42,40 @@ module _ (lists : NameLists) where
   pub variables_more : (n : ℕ) → task_variables lists (n + 1) ≡ task_variables lists n ++ task_variable lists (as_task (n + 1))
   variables_more n = rw (add-one) (variables_suc n)
 
-  pub no_processor : (w : State) → processors_values lists w 0 ≡ []
+module _ (lists : NameLists) (s : Shown) where
+  pub no_processor : processors_values lists s 0 ≡ []
   unfolding processors_values
-  no_processor w = refl
+  no_processor = refl
 
-  processors_suc : (w : State) (n : ℕ) → processors_values lists w (suc n)
-      ≡ processors_values lists w n ++ processor_values lists (as_proc (suc n)) (processor w (as_proc (suc n))) (handler w (as_proc (suc n)))
+  processors_suc : (n : ℕ) → processors_values lists s (suc n) ≡ processors_values lists s n ++ processor_values lists (as_proc (suc n)) (on_processor s (as_proc (suc n)))
   unfolding processors_values
-  processors_suc w n = refl
+  processors_suc n = refl
 
-  processors_more : (w : State) (n : ℕ) → processors_values lists w (n + 1)
-      ≡ processors_values lists w n ++ processor_values lists (as_proc (n + 1)) (processor w (as_proc (n + 1))) (handler w (as_proc (n + 1)))
-  processors_more w n = rw (add-one) (processors_suc w n)
+  processors_more : (n : ℕ) → processors_values lists s (n + 1) ≡ processors_values lists s n ++ processor_values lists (as_proc (n + 1)) (on_processor s (as_proc (n + 1)))
+  processors_more n = rw (add-one) (processors_suc n)
 
-  pub processor_line : (w : State) (n : ℕ) (p : Proc) (x : Processor) (due : Option Runner) (old between new : List ℕ)
-      → p ≡ as_proc (n + 1) → x ≡ processor w p → due ≡ handler w p → between ≡ old ++ processors_values lists w n → new ≡ between ++ processor_values lists p x due
-      → new ≡ old ++ processors_values lists w (n + 1)
-  processor_line w n p x due old between new number record_is due_is before line =
-      let same : processor_values lists p x due ≡ processor_values lists (as_proc (n + 1)) (processor w (as_proc (n + 1))) (handler w (as_proc (n + 1))) =
-      rw (record_is, due_is, number) refl in
-      grown (processors_values lists w) n _ old between new (processors_more w n) before (line ∙ ap (λ (xs : List ℕ). between ++ xs) same)
+  pub processor_line : (n : ℕ) (p : Proc) (x : ShownProcessor) (old between new : List ℕ)
+      → p ≡ as_proc (n + 1) → x ≡ on_processor s p → between ≡ old ++ processors_values lists s n → new ≡ between ++ processor_values lists p x
+      → new ≡ old ++ processors_values lists s (n + 1)
+  processor_line n p x old between new number shown before line =
+      let same : processor_values lists p x ≡ processor_values lists (as_proc (n + 1)) (on_processor s (as_proc (n + 1))) = rw (shown, number) refl in
+      grown (processors_values lists s) n _ old between new (processors_more n) before (line ∙ ap (λ (xs : List ℕ). between ++ xs) same)
 
-pub no_task : (w : State) → tasks_values w 0 ≡ []
-unfolding tasks_values
-no_task w = refl
+module _ (s : Shown) where
+  pub no_task : tasks_values s 0 ≡ []
+  unfolding tasks_values
+  no_task = refl
 
-tasks_suc : (w : State) (n : ℕ) → tasks_values w (suc n)
-    ≡ tasks_values w n ++ state_value (as_task (suc n)) (task w (as_task (suc n))) (processor w (task w (as_task (suc n))).assigned).running
-unfolding tasks_values
-tasks_suc w n = refl
+  tasks_suc : (n : ℕ) → tasks_values s (suc n) ≡ tasks_values s n ++ state_value (as_task (suc n)) (state_of s (as_task (suc n)))
+  unfolding tasks_values
+  tasks_suc n = refl
 
-tasks_more : (w : State) (n : ℕ) → tasks_values w (n + 1)
-    ≡ tasks_values w n ++ state_value (as_task (n + 1)) (task w (as_task (n + 1))) (processor w (task w (as_task (n + 1))).assigned).running
-tasks_more w n = rw (add-one) (tasks_suc w n)
+  tasks_more : (n : ℕ) → tasks_values s (n + 1) ≡ tasks_values s n ++ state_value (as_task (n + 1)) (state_of s (as_task (n + 1)))
+  tasks_more n = rw (add-one) (tasks_suc n)
 
-pub task_line : (w : State) (n : ℕ) (t : Task) (x : TaskRecord) (running : Option Task) (old between new : List ℕ)
-    → t ≡ as_task (n + 1) → x ≡ task w t → running ≡ (processor w x.assigned).running → between ≡ old ++ tasks_values w n → new ≡ between ++ state_value t x running
-    → new ≡ old ++ tasks_values w (n + 1)
-task_line w n t x running old between new number record_is running_is before line =
-    let same : state_value t x running ≡ state_value (as_task (n + 1)) (task w (as_task (n + 1))) (processor w (task w (as_task (n + 1))).assigned).running =
-    rw (running_is, record_is, number) refl in
-    grown (tasks_values w) n _ old between new (tasks_more w n) before (line ∙ ap (λ (xs : List ℕ). between ++ xs) same)
+  pub task_line : (n : ℕ) (t : Task) (x : TaskState) (old between new : List ℕ)
+      → t ≡ as_task (n + 1) → x ≡ state_of s t → between ≡ old ++ tasks_values s n → new ≡ between ++ state_value t x
+      → new ≡ old ++ tasks_values s (n + 1)
+  task_line n t x old between new number shown before line =
+      let same : state_value t x ≡ state_value (as_task (n + 1)) (state_of s (as_task (n + 1))) = rw (shown, number) refl in
+      grown (tasks_values s) n _ old between new (tasks_more n) before (line ∙ ap (λ (xs : List ℕ). between ++ xs) same)

@@ -21,6 +21,7 @@ use Rattle.fmp_trace.proofs.ReadTexts.{lines-cons}
 use Rattle.fmp_trace.proofs.Unended.{line_is}
 use Rattle.fmp_devices.specs.Devices.{BeginsWith}
 use Rattle.fmp_devices.proofs.Begun.{begun_first, begun_second}
+use Rattle.fmp_wave.specs.Shown.{shown_of}
 use Rattle.fmp_wave.specs.Waves.{change_text, events_text, start_text, wave_of}
 
 -- what is written whole was begun
@@ -36,7 +37,7 @@ abbrev pub events_of : List Record → List Event
 events_of records = map (λ r. r.event) records
 
 events-cons : (names : NameLists) (n : ℕ) (w : State) (e : Event) (es : List Event) → events_text names n w (e ∷ es)
-    ≡ change_text names n e w (step numbered w e).0 ++ events_text names (n + 1) (step numbered w e).0 es
+    ≡ change_text names n e (shown_of w) (shown_of (step numbered w e).0) ++ events_text names (n + 1) (step numbered w e).0 es
 unfolding events_text
 events-cons names n w e es = refl
 
@@ -61,10 +62,10 @@ pub record SoFar (names : NameLists) (tells : Bool) (n : ℕ) (w : State) (rest 
   pub out : IsTrue tells → written ≡ old ++ drawn
 
 pub begins : (c : Setup) (tells : Bool) (text old written : List ℕ) (records : List Record) → PrintsWithin c.names text records
-    → (IsTrue tells → written ≡ old ++ start_text c.names (booted c)) → SoFar c.names tells 1 (booted c) text old written (wave_of c (events_of records))
+    → (IsTrue tells → written ≡ old ++ start_text c.names (shown_of (booted c))) → SoFar c.names tells 1 (booted c) text old written (wave_of c (events_of records))
 begins c tells text old written records prints out = record {
   left = records;
-  drawn = start_text c.names (booted c);
+  drawn = start_text c.names (shown_of (booted c));
   text = prints.prints.lines;
   fit = prints.prints.fit;
   few = omega (arith, prints.few);
@@ -78,7 +79,7 @@ record Next (names : NameLists) (n : ℕ) (w : State) (after drawn whole : List 
   pub text : after ≡ lines_from names (n + 1) others
   pub fit : AllFit names others
   pub few : (n + 1) + length others ≤ most_events + 1
-  pub ends : (drawn ++ change_text names n e w (step numbered w e).0) ++ events_text names (n + 1) (step numbered w e).0 (events_of others) ≡ whole
+  pub ends : (drawn ++ change_text names n e (shown_of w) (shown_of (step numbered w e).0)) ++ events_text names (n + 1) (step numbered w e).0 (events_of others) ≡ whole
 
 module _ (names : NameLists) (valid : AreValid names) (n : ℕ) (w : State) (rest line after : List ℕ) (is_line : (cut_at 10 rest).0 ≡ line) (cut : (cut_at 10 rest).1 ≡ Some after) where
   -- the event that the line of a record tells
@@ -107,7 +108,7 @@ module _ (names : NameLists) (valid : AreValid names) (n : ℕ) (w : State) (res
   next_of (first ∷ others) drawn whole e text fit few ends told =
       let one : Some first.event ≡ Some e = sym (event_is first others text fit few) ∙ told in
       let same : first.event ≡ e = cc in
-      let change = change_text names n first.event w (step numbered w first.event).0 in
+      let change = change_text names n first.event (shown_of w) (shown_of (step numbered w first.event).0) in
       let events = events_text names (n + 1) (step numbered w first.event).0 (events_of others) in
       let next : Next names n w after drawn whole first.event = record {
         others = others;
@@ -128,25 +129,25 @@ module _ (names : NameLists) (valid : AreValid names) (n : ℕ) (w : State) (res
     is_told none = told_is s.left s.text s.fit s.few none
 
     pub goes_on : (e : Event) (next : State) (new : List ℕ) → event_of names line ≡ Some e → next ≡ (step numbered w e).0
-        → (IsTrue tells → new ≡ written ++ change_text names n e w next) → SoFar names tells (n + 1) next after old new whole
+        → (IsTrue tells → new ≡ written ++ change_text names n e (shown_of w) (shown_of next)) → SoFar names tells (n + 1) next after old new whole
     goes_on e next new told next_is more =
         let step_on = next_of s.left s.drawn whole e s.text s.fit s.few s.ends told in
         record {
           left = step_on.others;
-          drawn = s.drawn ++ change_text names n e w next;
+          drawn = s.drawn ++ change_text names n e (shown_of w) (shown_of next);
           text = step_on.text;
           fit = step_on.fit;
           few = step_on.few;
           ends = rw next_is step_on.ends;
-          out = λ tell. more tell ∙ ap (λ (xs : List ℕ). xs ++ change_text names n e w next) (s.out tell) ∙ append_assoc old s.drawn (change_text names n e w next);
+          out = λ tell. more tell ∙ ap (λ (xs : List ℕ). xs ++ change_text names n e (shown_of w) (shown_of next)) (s.out tell) ∙ append_assoc old s.drawn (change_text names n e (shown_of w) (shown_of next));
         }
 
     -- a write that failed
     pub is_cut : (e : Event) (next : State) (new : List ℕ) → event_of names line ≡ Some e → next ≡ (step numbered w e).0 → IsTrue tells
-        → BeginsWith written (change_text names n e w next) new → BeginsWith old whole new
+        → BeginsWith written (change_text names n e (shown_of w) (shown_of next)) new → BeginsWith old whole new
     is_cut e next new told next_is tell begun =
         let step_on = next_of s.left s.drawn whole e s.text s.fit s.few s.ends told in
-        let change = change_text names n e w next in
+        let change = change_text names n e (shown_of w) (shown_of next) in
         let events = events_text names (n + 1) next (events_of step_on.others) in
         let ends : (s.drawn ++ change) ++ events ≡ whole = rw next_is step_on.ends in
         subst (λ (xs : List ℕ). BeginsWith old xs new) ends (begun_first old (s.drawn ++ change) events new (begun_second old s.drawn change written new (s.out tell) begun))

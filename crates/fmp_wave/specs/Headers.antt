@@ -4,10 +4,10 @@ use Rattle.fmp_codes.specs.Numbers.{as_proc, as_task}
 use Rattle.fmp_codes.specs.declared.numbers.Proc.{Proc}
 use Rattle.fmp_codes.specs.declared.numbers.Task.{Task}
 use Rattle.fmp_names.specs.Names.{NameLists}
-use Rattle.fmp_machine.specs.Arrivals.{State}
 use Rattle.fmp_trace.specs.Lines.{task_text}
 use Rattle.fmp_wave.specs.declared.signal.Signal.{Signal}
 use Rattle.fmp_wave.specs.declared.signal.Signal.TheVariants as signals
+use Rattle.fmp_wave.specs.Shown.{Shown}
 use Rattle.fmp_wave.specs.Signals.{declaration_end, variable_begin, variable_text, word}
 
 -- the declaration of a signal of a processor
@@ -64,5 +64,5 @@ unit_text = codes "$timescale 1 us $end\n"
 unfoldable pub header_end : List ℕ
 header_end = codes "$enddefinitions $end\n"
 
-unfoldable pub header_text : NameLists → State → List ℕ
-header_text lists w = unit_text ++ processor_scopes (length w.processors) ++ tasks_scope lists (length w.tasks) ++ header_end
+unfoldable pub header_text : NameLists → Shown → List ℕ
+header_text lists s = unit_text ++ processor_scopes (length s.processors) ++ tasks_scope lists (length s.tasks) ++ header_end

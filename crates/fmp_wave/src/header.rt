@@ -3,11 +3,10 @@ ghost use Rattle.std.specs.Prelude.{◌≡◌, ◌++◌, length, OnOk};
 ghost use Rattle.fmp_wave.specs.Headers as spec;
 
 use crate::signal::{Signal, put_declaration_end, put_variable, put_variable_begin, word};
+use crate::snapshot::Snapshot;
 use fmp_codes::{Proc, Task};
 use fmp_names::Names;
-use fmp_plain_rows::Machine;
 use fmp_trace::{put_number, put_task};
-use fmp_words::Words;
 use std::alloc::AllocError;
 
 /// Adds the declaration of a signal of a processor.
@@ -65,10 +64,10 @@ fn put_processor_scope(out: &mut Vec<u8>, p: Proc) -> Result<(), AllocError>
     put_scope_end(out)
 }
 
-fn put_processor_scopes(out: &mut Vec<u8>, machine: &Machine) -> Result<(), AllocError>
-    ensures { OnOk result (out.new.items ≡ out.old.items ++ spec.processor_scopes (length machine.now.processors)) }
+fn put_processor_scopes(out: &mut Vec<u8>, shown: &Snapshot) -> Result<(), AllocError>
+    ensures { OnOk result (out.new.items ≡ out.old.items ++ spec.processor_scopes (length shown.now.processors)) }
 {
-    for index in 0..machine.processor_count() {
+    for index in 0..shown.processor_count() {
         put_processor_scope(out, Proc::from_index(index))?;
     }
     Ok(())
@@ -84,10 +83,10 @@ fn put_task_variable(out: &mut Vec<u8>, names: &Names, t: Task) -> Result<(), Al
     put_declaration_end(out)
 }
 
-fn put_task_variables(out: &mut Vec<u8>, names: &Names, machine: &Machine) -> Result<(), AllocError>
-    ensures { OnOk result (out.new.items ≡ out.old.items ++ spec.task_variables names.now (length machine.now.tasks)) }
+fn put_task_variables(out: &mut Vec<u8>, names: &Names, shown: &Snapshot) -> Result<(), AllocError>
+    ensures { OnOk result (out.new.items ≡ out.old.items ++ spec.task_variables names.now (length shown.now.tasks)) }
 {
-    for index in 0..machine.task_count() {
+    for index in 0..shown.task_count() {
         put_task_variable(out, names, Task::from_index(index))?;
     }
     Ok(())
@@ -104,11 +103,11 @@ fn put_tasks_begin(out: &mut Vec<u8>) -> Result<(), AllocError>
 
 /// Adds the scope of all tasks.
 #[tactic(auto, unfolding(crate::specs::Headers::tasks_scope))]
-fn put_tasks_scope(out: &mut Vec<u8>, names: &Names, machine: &Machine) -> Result<(), AllocError>
-    ensures { OnOk result (out.new.items ≡ out.old.items ++ spec.tasks_scope names.now (length machine.now.tasks)) }
+fn put_tasks_scope(out: &mut Vec<u8>, names: &Names, shown: &Snapshot) -> Result<(), AllocError>
+    ensures { OnOk result (out.new.items ≡ out.old.items ++ spec.tasks_scope names.now (length shown.now.tasks)) }
 {
     put_tasks_begin(out)?;
-    put_task_variables(out, names, machine)?;
+    put_task_variables(out, names, shown)?;
     put_scope_end(out)
 }
 
@@ -126,17 +125,17 @@ fn put_end(out: &mut Vec<u8>) -> Result<(), AllocError>
     out.extend_from_slice(b"$enddefinitions $end\n")
 }
 
-/// Adds the declarations of all signals of a machine.
+/// Adds the declarations of all signals.
 #[tactic(auto, unfolding(crate::specs::Headers::header_text))]
 pub(crate) fn put_header(
     out: &mut Vec<u8>,
     names: &Names,
-    machine: &Machine,
+    shown: &Snapshot,
 ) -> Result<(), AllocError>
-    ensures { OnOk result (out.new.items ≡ out.old.items ++ spec.header_text names.now machine.now) }
+    ensures { OnOk result (out.new.items ≡ out.old.items ++ spec.header_text names.now shown.now) }
 {
     put_unit(out)?;
-    put_processor_scopes(out, machine)?;
-    put_tasks_scope(out, names, machine)?;
+    put_processor_scopes(out, shown)?;
+    put_tasks_scope(out, names, shown)?;
     put_end(out)
 }

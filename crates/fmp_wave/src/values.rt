@@ -3,12 +3,10 @@ ghost use Rattle.std.specs.Prelude.{◌≡◌, ◌++◌, length, OnOk};
 ghost use Rattle.fmp_wave.specs.Values as spec;
 
 use crate::signal::{Signal, put_identifier};
+use crate::snapshot::{ShownProcessor, Snapshot, TaskState};
 use fmp_codes::{Proc, Runner, Task};
-use fmp_machine::{Processor, TaskRecord};
 use fmp_names::Names;
-use fmp_plain_rows::Machine;
 use fmp_trace::{put_runner, put_running};
-use fmp_words::Words;
 use std::alloc::AllocError;
 
 /// Adds what stands behind a value of more than a bit: the signal, and the end of the line.
@@ -50,7 +48,7 @@ pub(crate) fn put_bit_value(
 
 /// Adds the line of the task that runs on a processor.
 #[tactic(auto, unfolding(crate::specs::Values::running_value))]
-fn put_running_value(
+pub(crate) fn put_running_value(
     out: &mut Vec<u8>,
     names: &Names,
     p: Proc,
@@ -64,7 +62,7 @@ fn put_running_value(
 }
 
 /// The number of the task that runs, or 0.
-fn number_of(running: Option<Task>) -> u8
+pub(crate) fn number_of(running: Option<Task>) -> u8
     ensures { result ≡ spec.number_of running }
 {
     match running {
@@ -89,7 +87,7 @@ fn put_bits(out: &mut Vec<u8>, number: u8) -> Result<(), AllocError>
 
 /// Adds the line of the number of the task that runs on a processor.
 #[tactic(auto, unfolding(crate::specs::Values::number_value))]
-fn put_number_value(out: &mut Vec<u8>, p: Proc, number: u8) -> Result<(), AllocError>
+pub(crate) fn put_number_value(out: &mut Vec<u8>, p: Proc, number: u8) -> Result<(), AllocError>
     ensures { OnOk result (out.new.items ≡ out.old.items ++ spec.number_value p number) }
 {
     out.push(b'b')?;
@@ -99,7 +97,7 @@ fn put_number_value(out: &mut Vec<u8>, p: Proc, number: u8) -> Result<(), AllocE
 
 /// Adds the line of the handler that is due on a processor.
 #[tactic(auto, unfolding(crate::specs::Values::due_value))]
-fn put_due_value(
+pub(crate) fn put_due_value(
     out: &mut Vec<u8>,
     names: &Names,
     p: Proc,
@@ -114,12 +112,12 @@ fn put_due_value(
 
 /// Adds the lines of a processor's locks and of its latch.
 #[tactic(auto, unfolding(crate::specs::Values::flag_values))]
-fn put_flag_values(out: &mut Vec<u8>, p: Proc, processor: Processor) -> Result<(), AllocError>
-    ensures { OnOk result (out.new.items ≡ out.old.items ++ spec.flag_values p processor) }
+fn put_flag_values(out: &mut Vec<u8>, p: Proc, shown: ShownProcessor) -> Result<(), AllocError>
+    ensures { OnOk result (out.new.items ≡ out.old.items ++ spec.flag_values p shown) }
 {
-    put_bit_value(out, Signal::Locked, p.number, processor.locked)?;
-    put_bit_value(out, Signal::Disabled, p.number, processor.disabled)?;
-    put_bit_value(out, Signal::Latch, p.number, processor.latch)
+    put_bit_value(out, Signal::Locked, p.number, shown.locked)?;
+    put_bit_value(out, Signal::Disabled, p.number, shown.disabled)?;
+    put_bit_value(out, Signal::Latch, p.number, shown.latch)
 }
 
 /// Adds the lines of a processor.
@@ -128,82 +126,62 @@ fn put_processor_values(
     out: &mut Vec<u8>,
     names: &Names,
     p: Proc,
-    processor: Processor,
-    handler: Option<Runner>,
+    shown: ShownProcessor,
 ) -> Result<(), AllocError>
-    ensures { OnOk result (out.new.items ≡ out.old.items ++ spec.processor_values names.now p processor handler) }
+    ensures { OnOk result (out.new.items ≡ out.old.items ++ spec.processor_values names.now p shown) }
 {
-    put_running_value(out, names, p, processor.running)?;
-    put_number_value(out, p, number_of(processor.running))?;
-    put_flag_values(out, p, processor)?;
-    put_due_value(out, names, p, handler)
+    put_running_value(out, names, p, shown.running)?;
+    put_number_value(out, p, number_of(shown.running))?;
+    put_flag_values(out, p, shown)?;
+    put_due_value(out, names, p, shown.due)
 }
 
 /// Adds the lines of all processors.
-fn put_processors(out: &mut Vec<u8>, names: &Names, machine: &Machine) -> Result<(), AllocError>
-    ensures { OnOk result (out.new.items ≡ out.old.items ++ spec.processors_values names.now machine.now (length machine.now.processors)) }
+fn put_processors(out: &mut Vec<u8>, names: &Names, shown: &Snapshot) -> Result<(), AllocError>
+    ensures { OnOk result (out.new.items ≡ out.old.items ++ spec.processors_values names.now shown.now (length shown.now.processors)) }
 {
-    for index in 0..machine.processor_count() {
+    for index in 0..shown.processor_count() {
         let p = Proc::from_index(index);
-        put_processor_values(out, names, p, machine.processor(p), machine.handler(p))?;
+        put_processor_values(out, names, p, shown.processor(p))?;
     }
     Ok(())
 }
 
-/// The word of a task's state, where this task runs on its processor.
-fn state_word(t: Task, task: &TaskRecord, running: Option<Task>) -> &'static [u8]
-    ensures { result.now ≡ spec.state_word t task.now running }
+/// The word of a task's state.
+pub(crate) fn state_word(state: TaskState) -> &'static [u8]
+    ensures { result.now ≡ spec.state_word state }
 {
-    if !task.active {
-        return b"dormant";
-    }
-    match (task.wait, task.suspended) {
-        (Some(_), true) => b"waiting-suspended",
-        (Some(_), false) => b"waiting",
-        (None, true) => b"suspended",
-        (None, false) => ready_word(t, running),
-    }
-}
-
-fn ready_word(t: Task, running: Option<Task>) -> &'static [u8]
-    ensures { result.now ≡ spec.ready_word t running }
-{
-    match running {
-        None => b"ready",
-        Some(other) => {
-            if other.number == t.number {
-                b"running"
-            } else {
-                b"ready"
-            }
-        }
+    match state {
+        TaskState::Dormant => b"dormant",
+        TaskState::Ready => b"ready",
+        TaskState::Running => b"running",
+        TaskState::Waiting => b"waiting",
+        TaskState::Suspended => b"suspended",
+        TaskState::WaitingSuspended => b"waiting-suspended",
     }
 }
 
 /// Adds the line of a task.
 #[tactic(auto, unfolding(crate::specs::Values::state_value))]
-fn put_state_value(
+pub(crate) fn put_state_value(
     out: &mut Vec<u8>,
     t: Task,
-    task: &TaskRecord,
-    running: Option<Task>,
+    state: TaskState,
 ) -> Result<(), AllocError>
-    ensures { OnOk result (out.new.items ≡ out.old.items ++ spec.state_value t task.now running) }
+    ensures { OnOk result (out.new.items ≡ out.old.items ++ spec.state_value t state) }
 {
     out.push(b's')?;
-    out.extend_from_slice(state_word(t, task, running))?;
+    out.extend_from_slice(state_word(state))?;
     put_value_end(out, Signal::State, t.number)
 }
 
 /// Adds the lines of all tasks.
-fn put_tasks(out: &mut Vec<u8>, machine: &Machine) -> Result<(), AllocError>
-    ensures { OnOk result (out.new.items ≡ out.old.items ++ spec.tasks_values machine.now (length machine.now.tasks)) }
+fn put_tasks(out: &mut Vec<u8>, shown: &Snapshot) -> Result<(), AllocError>
+    ensures { OnOk result (out.new.items ≡ out.old.items ++ spec.tasks_values shown.now (length shown.now.tasks)) }
 {
-    for index in 0..machine.task_count() {
+    for index in 0..shown.task_count() {
         let t = Task::from_index(index);
-        let task = machine.task(t);
-        let running = machine.processor(task.assigned).running;
-        put_state_value(out, t, &task, running)?;
+        put_state_value(out, t, shown.task(t))?;
     }
     Ok(())
 }
@@ -213,11 +191,10 @@ fn put_tasks(out: &mut Vec<u8>, machine: &Machine) -> Result<(), AllocError>
 pub(crate) fn put_values(
     out: &mut Vec<u8>,
     names: &Names,
-    machine: &Machine,
+    shown: &Snapshot,
 ) -> Result<(), AllocError>
-    ensures { OnOk result (out.new.items ≡ out.old.items ++ spec.values_text names.now machine.now) }
+    ensures { OnOk result (out.new.items ≡ out.old.items ++ spec.values_text names.now shown.now) }
 {
-    put_processors(out, names, machine)?;
-    put_tasks(out, machine)?;
-    Ok(())
+    put_processors(out, names, shown)?;
+    put_tasks(out, shown)
 }

@@ -1,6 +1,13 @@
-//! The command line of the program: which words ask for what. No clause says it, since what clap accepts has none; each
-//! subcommand, its help and its faults are run by tests/program.
+//! The command line of the program: which words ask for what. [`parse`] says it by what clap finds in the words under each
+//! name, a function of the words that clap's contracts give for such command lines. How the help and the texts of errors read,
+//! and which words are refused but for those of `smp`, is run by tests/program.
 #![tactic(auto)]
+
+ghost use Rattle.std.specs.Prelude.{◌≡◌, ◌≤◌, IfOk, Some, codes, drop, false, length, map, true, option_map, slice_get};
+ghost use Rattle.clap.specs.Words.{app_of, first_of, rule_of};
+ghost use Rattle.fmp_smp_command.specs.Smp.{IsOptional};
+ghost use Rattle.fmpsim_cli.specs.Cli.{AsksFor, IsCalls, IsCheck, IsWave, NamesPaths, asked_by, found_by, rows_in, told_by};
+ghost use Rattle.fmpsim_cli.specs.Cli.{calls_line, check_line, choice_rule, flag_rule, list_line, name_rule, wave_line};
 
 use clap::error::ErrorKind;
 use clap::{Arg, ArgAction, ArgMatches, Command, Error};
@@ -38,13 +45,15 @@ who made the call, the event, the answer, and what it changed:
 Each line is written as its event comes. Where a text has a fault, the trace of the events
 before it is written.
 
-With --state the state of the machine follows each line: what each processor runs, the other
-ready tasks there in their precedence, and the tasks that wait or are suspended:
+With --state the state of the machine at boot comes first, and the state after its event follows
+each line: what each processor runs, the other ready tasks there in their precedence, the tasks
+that wait or are suspended, and a line that ends it:
 
   1 P1 T1 act_tsk(T2) E_OK run=T2
     P1 run=T2 ready=T1
     P2 run=-
     T3 waits sem S1 left=10
+    end
 
 Exit status:
   0  done
@@ -172,30 +181,47 @@ pub enum Request<'a> {
     List(Option<&'a str>),
 }
 
-fn calls_command<'a>(alloc: Global) -> Result<Command<'a>, AllocError> {
-    Command::new(alloc, "calls")
+fn calls_command<'a>(alloc: Global) -> Result<Command<'a>, AllocError>
+    ensures { IfOk result (λ c. app_of c ≡ calls_line) }
+{
+    let config = path(alloc, "CFG", "Path of the configuration");
+    let events = path(
+        alloc,
+        "EVENTS",
+        "Path of the list of events, or - for standard input",
+    );
+    let state = flag(
+        alloc,
+        STATE,
+        "Also writes the state at boot and after each event",
+    );
+    let context = context(alloc);
+    let start = Command::new(alloc, "calls")
         .about(CALLS_ABOUT)
         .after_help(CALLS_HELP)
-        .bin_name("fmpsim calls")?
-        .arg(path(alloc, "CFG", "Path of the configuration"))?
-        .arg(path(
-            alloc,
-            "EVENTS",
-            "Path of the list of events, or - for standard input",
-        ))?
-        .arg(flag(alloc, STATE, "Also writes the state after each event"))?
-        .arg(context(alloc))
+        .bin_name("fmpsim calls")?;
+    let one = start.arg(config)?;
+    let two = one.arg(events)?;
+    let three = two.arg(state)?;
+    let four = three.arg(context)?;
+    Ok(four)
 }
 
 /// An option without a value.
-fn flag<'a>(alloc: Global, id: &'a str, about: &'a str) -> Arg<'a> {
+fn flag<'a>(alloc: Global, id: &'a str, about: &'a str) -> Arg<'a>
+    ensures kind { IsOptional result id.entry.now }
+    ensures rule { rule_of result ≡ flag_rule id.entry.now }
+{
     Arg::new(alloc, id)
         .long(id)
         .action(ArgAction::SetTrue)
         .help(about)
 }
 
-fn context<'a>(alloc: Global) -> Arg<'a> {
+fn context<'a>(alloc: Global) -> Arg<'a>
+    ensures kind { IsOptional result (codes "context") }
+    ensures rule { rule_of result ≡ flag_rule (codes "context") }
+{
     flag(
         alloc,
         CONTEXT,
@@ -203,44 +229,75 @@ fn context<'a>(alloc: Global) -> Arg<'a> {
     )
 }
 
-fn check_command<'a>(alloc: Global) -> Result<Command<'a>, AllocError> {
-    let show = flag(alloc, SHOW, "Also shows the first line that differs").conflicts_with(ALL)?;
+/// The flag for the first line that differs, which goes without the one for all of them.
+fn show<'a>(alloc: Global) -> Result<Arg<'a>, AllocError>
+    ensures { IfOk result (λ a. (a.global ≡ false) × (rule_of a ≡ choice_rule (codes "show"))) }
+{
+    let show = flag(alloc, SHOW, "Also shows the first line that differs");
+    let choice = show.conflicts_with(ALL)?;
+    Ok(choice)
+}
+
+fn check_command<'a>(alloc: Global) -> Result<Command<'a>, AllocError>
+    ensures { IfOk result (λ c. app_of c ≡ check_line) }
+{
+    let config = path(alloc, "CFG", "Path of the configuration");
+    let trace = path(alloc, "TRACE", "Path of the trace");
+    let show = show(alloc)?;
     let all = flag(
         alloc,
         ALL,
         "Shows each line that differs, as a unified diff",
     );
-    Command::new(alloc, "check")
+    let context = context(alloc);
+    let start = Command::new(alloc, "check")
         .about(CHECK_ABOUT)
         .after_help(CHECK_HELP)
-        .bin_name("fmpsim check")?
-        .arg(path(alloc, "CFG", "Path of the configuration"))?
-        .arg(path(alloc, "TRACE", "Path of the trace"))?
-        .arg(show)?
-        .arg(all)?
-        .arg(context(alloc))
+        .bin_name("fmpsim check")?;
+    let one = start.arg(config)?;
+    let two = one.arg(trace)?;
+    let three = two.arg(show)?;
+    let four = three.arg(all)?;
+    let five = four.arg(context)?;
+    Ok(five)
 }
 
-fn wave_command<'a>(alloc: Global) -> Result<Command<'a>, AllocError> {
-    Command::new(alloc, "wave")
+fn wave_command<'a>(alloc: Global) -> Result<Command<'a>, AllocError>
+    ensures { IfOk result (λ c. app_of c ≡ wave_line) }
+{
+    let config = path(alloc, "CFG", "Path of the configuration");
+    let trace = path(alloc, "TRACE", "Path of the trace");
+    let context = context(alloc);
+    let start = Command::new(alloc, "wave")
         .about(WAVE_ABOUT)
         .after_help(WAVE_HELP)
-        .bin_name("fmpsim wave")?
-        .arg(path(alloc, "CFG", "Path of the configuration"))?
-        .arg(path(alloc, "TRACE", "Path of the trace"))?
-        .arg(context(alloc))
+        .bin_name("fmpsim wave")?;
+    let one = start.arg(config)?;
+    let two = one.arg(trace)?;
+    let three = two.arg(context)?;
+    Ok(three)
 }
 
-fn list_command<'a>(alloc: Global) -> Result<Command<'a>, AllocError> {
-    Command::new(alloc, "list")
+/// The name of what is to be listed, which may be left out.
+fn name<'a>(alloc: Global) -> Arg<'a>
+    ensures local { result.global ≡ false }
+    ensures rule { rule_of result ≡ name_rule }
+{
+    Arg::new(alloc, "NAME")
+        .action(ArgAction::Set)
+        .help("A service call, a statement, or the number of a fault")
+}
+
+fn list_command<'a>(alloc: Global) -> Result<Command<'a>, AllocError>
+    ensures { IfOk result (λ c. app_of c ≡ list_line) }
+{
+    let name = name(alloc);
+    let start = Command::new(alloc, "list")
         .about(LIST_ABOUT)
         .after_help(LIST_HELP)
-        .bin_name("fmpsim list")?
-        .arg(
-            Arg::new(alloc, "NAME")
-                .action(ArgAction::Set)
-                .help("A service call, a statement, or the number of a fault"),
-        )
+        .bin_name("fmpsim list")?;
+    let one = start.arg(name)?;
+    Ok(one)
 }
 
 /// The whole command line, for its help and for what is wrong in it.
@@ -258,66 +315,124 @@ fn whole_command<'a>(alloc: Global) -> Result<Command<'a>, AllocError> {
 }
 
 /// The two paths that the words behind a subcommand name.
-fn named_paths<'a>(matches: &ArgMatches<'a>, text: &str, form: TextForm) -> Paths<'a> {
+fn named_paths<'a>(matches: &ArgMatches<'a>, text: &str, form: TextForm) -> Paths<'a>
+    ensures { NamesPaths (rows_in matches.now) text.now form result }
+{
+    let config = matches.get_str("CFG").unwrap_or("");
+    let named = matches.get_str(text).unwrap_or("");
+    let shown = matches.get_flag(CONTEXT);
+    let context = shown.then_some(form);
     Paths {
-        config: matches.get_str("CFG").unwrap_or(""),
-        text: matches.get_str(text).unwrap_or(""),
-        context: matches.get_flag(CONTEXT).then_some(form),
+        config,
+        text: named,
+        context,
     }
 }
 
-fn parse_calls<'a>(alloc: Global, words: &'a [String]) -> Result<Request<'a>, Error> {
-    let matches = calls_command(alloc)?.try_get_matches_from(words)?;
-    let paths = named_paths(&matches, "EVENTS", TextForm::Events);
-    let told = if matches.get_flag(STATE) {
-        Told::State
-    } else {
-        Told::Line
-    };
-    Ok(Request::Calls(paths, told))
+/// What is told of each event.
+fn told_for(state: bool) -> Told
+    ensures { result ≡ told_by state }
+{
+    if state { Told::State } else { Told::Line }
 }
 
-fn parse_check<'a>(alloc: Global, words: &'a [String]) -> Result<Request<'a>, Error> {
-    let matches = check_command(alloc)?.try_get_matches_from(words)?;
-    let paths = named_paths(&matches, "TRACE", TextForm::Trace);
-    let asked = match (matches.get_flag(SHOW), matches.get_flag(ALL)) {
+/// What is asked of a trace by these two flags.
+fn asked_for(show: bool, all: bool) -> Asked
+    ensures { result ≡ asked_by show all }
+{
+    match (show, all) {
         (true, _) => Asked::Differences(Shown::First),
         (false, true) => Asked::Differences(Shown::Each),
         (false, false) => Asked::Verdict,
-    };
-    Ok(Request::Trace(paths, asked))
+    }
 }
 
-fn parse_wave<'a>(alloc: Global, words: &'a [String]) -> Result<Request<'a>, Error> {
-    let matches = wave_command(alloc)?.try_get_matches_from(words)?;
+/// What `calls` is asked for: the state too where `--state` stands.
+fn parse_calls<'a>(alloc: Global, words: &'a [String]) -> Result<Request<'a>, Error>
+    ensures { IfOk result (IsCalls (found_by calls_line (map (λ w. w.bytes.items) words.now))) }
+{
+    let command = calls_command(alloc)?;
+    let matches = command.try_get_matches_from(words)?;
+    let paths = named_paths(&matches, "EVENTS", TextForm::Events);
+    let state = matches.get_flag(STATE);
+    Ok(Request::Calls(paths, told_for(state)))
+}
+
+/// What `check` is asked for: by `--show`, by `--all`, or by neither.
+fn parse_check<'a>(alloc: Global, words: &'a [String]) -> Result<Request<'a>, Error>
+    ensures { IfOk result (IsCheck (found_by check_line (map (λ w. w.bytes.items) words.now))) }
+{
+    let command = check_command(alloc)?;
+    let matches = command.try_get_matches_from(words)?;
+    let paths = named_paths(&matches, "TRACE", TextForm::Trace);
+    let show = matches.get_flag(SHOW);
+    let all = matches.get_flag(ALL);
+    Ok(Request::Trace(paths, asked_for(show, all)))
+}
+
+/// What `wave` is asked for.
+fn parse_wave<'a>(alloc: Global, words: &'a [String]) -> Result<Request<'a>, Error>
+    ensures { IfOk result (IsWave (found_by wave_line (map (λ w. w.bytes.items) words.now))) }
+{
+    let command = wave_command(alloc)?;
+    let matches = command.try_get_matches_from(words)?;
     let paths = named_paths(&matches, "TRACE", TextForm::Trace);
     Ok(Request::Trace(paths, Asked::Waveform))
 }
 
 /// The name behind `list`, if there is one.
-fn listed_name<'a>(alloc: Global, words: &'a [String]) -> Result<Option<&'a str>, Error> {
-    let mut command = list_command(alloc)?;
+fn listed_name<'a>(alloc: Global, words: &'a [String]) -> Result<Option<&'a str>, Error>
+    ensures { IfOk result (λ r. option_map (λ s. s.now) r
+        ≡ first_of (codes "NAME") (found_by list_line (map (λ w. w.bytes.items) words.now))) }
+{
+    let command = list_command(alloc)?;
     let matches = command.try_get_matches_from(words)?;
     Ok(matches.get_str("NAME"))
 }
 
-/// What the words of the command line ask for.
-pub fn parse<'a>(alloc: Global, words: &'a [String]) -> Result<Request<'a>, Error> {
-    let command = words.get(1).map(|word| word.as_str());
-    if command == Some("calls") {
-        return parse_calls(alloc, &words[1..]);
+/// The word behind the program's name, which names the command.
+fn command_word<'a>(words: &'a [String]) -> Option<&'a str>
+    ensures { option_map (λ w. w.now) result ≡ option_map (λ w. w.bytes.items) (slice_get words.now 1) }
+{
+    words.get(1).map(|word| word.as_str())
+}
+
+/// Whether the command is the one of this name.
+fn is_named(command: Option<&str>, name: &str) -> bool
+    ensures { result ≡ true → option_map (λ w. w.now) command.entry ≡ Some name.entry.now }
+{
+    command == Some(name)
+}
+
+/// The words behind the program's name.
+fn behind<'a>(words: &'a [String]) -> &'a [String]
+    requires { 1 ≤ length words.now }
+    ensures { result.now ≡ drop 1 words.now }
+{
+    &words[1..]
+}
+
+/// What the words of the command line ask for: the word behind the program's name says which command, and each part of the
+/// request is what clap finds in that word and those behind it under one name of that command.
+pub fn parse<'a>(alloc: Global, words: &'a [String]) -> Result<Request<'a>, Error>
+    ensures { IfOk result (AsksFor (option_map (λ w. w.bytes.items) (slice_get words.now 1))
+        (map (λ w. w.bytes.items) (drop 1 words.now))) }
+{
+    let command = command_word(words);
+    if is_named(command, "calls") {
+        return parse_calls(alloc, behind(words));
     }
-    if command == Some("check") {
-        return parse_check(alloc, &words[1..]);
+    if is_named(command, "check") {
+        return parse_check(alloc, behind(words));
     }
-    if command == Some("wave") {
-        return parse_wave(alloc, &words[1..]);
+    if is_named(command, "wave") {
+        return parse_wave(alloc, behind(words));
     }
-    if command == Some("smp") {
-        return Ok(Request::Smp(parse_smp(alloc, &words[1..])?));
+    if is_named(command, "smp") {
+        return Ok(Request::Smp(parse_smp(alloc, behind(words))?));
     }
-    if command == Some("list") {
-        return Ok(Request::List(listed_name(alloc, &words[1..])?));
+    if is_named(command, "list") {
+        return Ok(Request::List(listed_name(alloc, behind(words))?));
     }
     let mut whole = whole_command(alloc)?;
     whole.try_get_matches_from_mut(words)?;

@@ -1,9 +1,13 @@
 //! What `fmpsim calls` does.
-ghost use Rattle.std.specs.Prelude.{◌≡◌, ◌-◌, ◌^◌, ◌<◌, OnOk, IfOk, IfErr};
+ghost use Rattle.std.specs.Prelude.{◌≡◌, ◌≢◌, ◌+◌, ◌-◌, ◌^◌, ◌<◌, [], List, true, false, OnOk, IfOk, IfErr, Err, if◌then◌else◌};
+ghost use Rattle.fmp_codes.specs.declared.records.Event.{Event as AnyEvent};
+ghost use Rattle.fmp_setup.specs.Setup.{Setup};
+ghost use Rattle.fmp_text.specs.TextGrammar.{SpellsText};
 ghost use Rattle.fmp_devices.specs.Devices.{IsKnown, bytes_of};
-ghost use Rattle.fmp_judging.specs.Texts.{FirstConfigFault};
-ghost use Rattle.fmpsim_run.specs.Details.{AreStatesTold};
-ghost use Rattle.fmpsim_run.specs.Runs.{FirstTextFault, IsAnswered};
+ghost use Rattle.fmp_judging.specs.Faults.{failed_write, is_config, is_thread_fault};
+ghost use Rattle.fmp_judging.specs.Texts.{CountsReads, FailsOnce, FirstConfigFault, SaysConfig};
+ghost use Rattle.fmpsim_run.specs.Details.{AreStatesTold, LeavesStates};
+ghost use Rattle.fmpsim_run.specs.Runs.{FirstTextFault, IsAnswered, IsNoFaultOfText, LeavesOut};
 
 use fmp_devices::{Sink, Source};
 use fmpsim_cli::Told;
@@ -21,14 +25,43 @@ pub fn answer<R: Source, S: Source, W: Sink>(
     requires config_calls { R.failures config.old < 2 ^ 64 - 1 }
     requires event_calls { S.failures events.old < 2 ^ 64 - 1 }
     requires trace_calls { W.failures trace.old < 2 ^ 64 - 1 }
-    ensures known { IsKnown (W.written trace.old) → IsKnown (W.written trace.new) }
+
+    // Both texts were read to their ends, and what is asked for was written: the trace, or each state with it.
     ensures lines { told ≡ Told.Line → IsKnown (R.left config.old) → IsKnown (S.left events.old) → IsKnown (W.written trace.old)
         → OnOk result (IsAnswered (bytes_of (R.left config.old)) (bytes_of (S.left events.old)) (bytes_of (W.written trace.old)) (bytes_of (W.written trace.new))) }
     ensures states { told ≡ Told.State → IsKnown (R.left config.old) → IsKnown (S.left events.old) → IsKnown (W.written trace.old)
         → OnOk result (AreStatesTold (bytes_of (R.left config.old)) (bytes_of (S.left events.old)) (bytes_of (W.written trace.old)) (bytes_of (W.written trace.new))) }
+    ensures known { IsKnown (W.written trace.old) → IsKnown (W.written trace.new) }
     ensures status { IfOk result (λ status. status ≡ Status.Done) }
+    ensures config_read { IsKnown (R.left config.old) → OnOk result (bytes_of (R.left config.new) ≡ []) }
+    ensures events_read { IsKnown (S.left events.old) → OnOk result (bytes_of (S.left events.new) ≡ []) }
+
+    // Texts that are right in all are answered, but for want of memory or a device that fails.
+    ensures right { IsKnown (R.left config.old) → IsKnown (S.left events.old) → (c : Setup) (es : List AnyEvent) → SaysConfig (bytes_of (R.left config.old)) c
+        → SpellsText c.names (bytes_of (S.left events.old)) es → IfErr result IsNoFaultOfText }
+
+    // A fault of a text is its first one.
     ensures config_fault { IsKnown (R.left config.old) → IfErr result (FirstConfigFault (bytes_of (R.left config.old))) }
     ensures text_fault { IsKnown (R.left config.old) → IsKnown (S.left events.old) → IfErr result (FirstTextFault (bytes_of (R.left config.old)) (bytes_of (S.left events.old))) }
+
+    // What is out after each fault.
+    ensures unwritten { IsKnown (W.written trace.old) → IfErr result (λ fault. is_config fault ≡ true → bytes_of (W.written trace.new) ≡ bytes_of (W.written trace.old)) }
+    ensures lines_left { told ≡ Told.Line → IsKnown (R.left config.old) → IsKnown (S.left events.old) → IsKnown (W.written trace.old)
+        → IfErr result (LeavesOut (bytes_of (R.left config.old)) (bytes_of (S.left events.old)) (bytes_of (W.written trace.old)) (bytes_of (W.written trace.new))) }
+    ensures states_left { told ≡ Told.State → IsKnown (R.left config.old) → IsKnown (S.left events.old) → IsKnown (W.written trace.old)
+        → IfErr result (LeavesStates (bytes_of (R.left config.old)) (bytes_of (S.left events.old)) (bytes_of (W.written trace.old)) (bytes_of (W.written trace.new))) }
+
+    // However the run ends, nothing is held back, unless a write failed.
+    ensures passed { OnOk result (W.buffered trace.new ≡ []) }
+    ensures none_held { W.buffered trace.old ≡ [] → result ≢ Err RunFault.Write → W.buffered trace.new ≡ [] }
+
+    // No thread was started.
+    ensures no_thread_fault { IfErr result (λ fault. is_thread_fault fault ≡ false) }
+
+    // Which calls of the devices failed. The flush behind a failed read may fail too, and is told then.
+    ensures reads { result ≢ Err RunFault.Write → CountsReads result (R.failures config.old) (R.failures config.new) (S.failures events.old) (S.failures events.new) }
+    ensures most { FailsOnce (R.failures config.old) (R.failures config.new) (S.failures events.old) (S.failures events.new) }
+    ensures writes { W.failures trace.new ≡ W.failures trace.old + (if failed_write result then 1 else 0) }
 {
     match told {
         Told::Line => run_calls(alloc, config, events, trace)?,

@@ -1,12 +1,16 @@
 //! What `fmpsim check` and `fmpsim wave` do.
-ghost use Rattle.std.specs.Prelude.{◌≡◌, ◌++◌, ◌-◌, ◌^◌, ◌<◌, IfOk, IfErr};
+ghost use Rattle.std.specs.Prelude.{◌≡◌, ◌≢◌, ℕ, List, [], length, ◌++◌, ◌+◌, ◌-◌, ◌^◌, ◌<◌, ◌≤◌, false, OnOk, IfOk, IfErr, Err, if◌then◌else◌};
+ghost use Rattle.fmp_text.specs.Limits.{most_bytes as MOST_BYTES};
 ghost use Rattle.fmp_devices.specs.Devices.{IsKnown, bytes_of};
-ghost use Rattle.fmp_judging.specs.Texts.{FirstConfigFault};
-ghost use Rattle.fmp_judging.specs.Traces.{Checked, FirstTraceFault};
-ghost use Rattle.fmp_wave.specs.Runs.{Drawn};
-ghost use Rattle.fmpsim_run.specs.Checks.{verdict_text};
-ghost use Rattle.fmpsim_run.specs.Reports.{IsReported};
+ghost use Rattle.fmp_judging.specs.Faults.{failed_write, is_thread_fault};
+ghost use Rattle.fmp_judging.specs.Texts.{Answered, CountsReads, FirstConfigFault};
+ghost use Rattle.fmp_judging.specs.Traces.{Checked, FirstTraceFault, IsOwn, IsYes};
+ghost use Rattle.fmp_wave.specs.Runs.{Drawn, LeavesDrawn};
+ghost use Rattle.fmpsim_run.specs.Checks.{IsCheckBegun, verdict_text};
+ghost use Rattle.fmpsim_run.specs.Reports.{IsReported, IsReportBegun};
+ghost use Rattle.fmpsim_run.specs.Scripted.{Played};
 ghost use Rattle.fmp_check.specs.declared.comparing.Shown.{Shown as AnyShown};
+ghost use Rattle.fmp_world.specs.declared.finishing.Ended.{Ended as AnyEnded};
 
 use fmp_check::Verdict;
 use fmp_devices::{Sink, Source};
@@ -26,17 +30,56 @@ pub fn judge<R: Source, S: Source, W: Sink>(
     requires config_calls { R.failures config.old < 2 ^ 64 - 1 }
     requires trace_calls { S.failures trace.old < 2 ^ 64 - 1 }
     requires output_calls { W.failures output.old < 2 ^ 64 - 1 }
-    ensures known { IsKnown (W.written output.old) → IsKnown (W.written output.new) }
+
+    // The verdict alone: it is right, and it is what is written.
     ensures verdict { asked ≡ Asked.Verdict → IsKnown (R.left config.old) → IsKnown (S.left trace.old)
         → IfOk result (Checked (bytes_of (R.left config.old)) (bytes_of (S.left trace.old))) }
     ensures written { asked ≡ Asked.Verdict → IsKnown (W.written output.old)
         → IfOk result (λ verdict. bytes_of (W.written output.new) ≡ bytes_of (W.written output.old) ++ verdict_text verdict) }
+    ensures verdict_begun { asked ≡ Asked.Verdict → IsKnown (R.left config.old) → IsKnown (S.left trace.old) → IsKnown (W.written output.old) → (result ≡ Err RunFault.Write)
+        → IsCheckBegun (bytes_of (R.left config.old)) (bytes_of (S.left trace.old)) (bytes_of (W.written output.old)) (bytes_of (W.written output.new)) }
+
+    // The lines that differ.
     ensures differences { (shown : AnyShown) → asked ≡ Asked.Differences shown → IsKnown (R.left config.old) → IsKnown (S.left trace.old) → IsKnown (W.written output.old)
         → IfOk result (IsReported shown (bytes_of (R.left config.old)) (bytes_of (S.left trace.old)) (bytes_of (W.written output.old)) (bytes_of (W.written output.new))) }
+    ensures differences_begun { (shown : AnyShown) → asked ≡ Asked.Differences shown → IsKnown (R.left config.old) → IsKnown (S.left trace.old) → IsKnown (W.written output.old) → (result ≡ Err RunFault.Write)
+        → IsReportBegun shown (bytes_of (R.left config.old)) (bytes_of (S.left trace.old)) (bytes_of (W.written output.old)) (bytes_of (W.written output.new)) }
+
+    // The waveform, of a trace that is the machine's own.
     ensures waveform { asked ≡ Asked.Waveform → IsKnown (R.left config.old) → IsKnown (S.left trace.old) → IsKnown (W.written output.old)
         → IfOk result (Drawn (bytes_of (R.left config.old)) (bytes_of (S.left trace.old)) (bytes_of (W.written output.old)) (bytes_of (W.written output.new))) }
+    ensures waveform_left { asked ≡ Asked.Waveform → IsKnown (R.left config.old) → IsKnown (S.left trace.old) → IsKnown (W.written output.old)
+        → IfErr result (LeavesDrawn (bytes_of (R.left config.old)) (bytes_of (S.left trace.old)) (bytes_of (W.written output.old)) (bytes_of (W.written output.new))) }
+    ensures none_held { asked ≡ Asked.Waveform → W.buffered output.old ≡ [] → result ≢ Err RunFault.Write → W.buffered output.new ≡ [] }
+
+    // Both texts were read to their ends, and nothing that was written is held back.
+    ensures known { IsKnown (W.written output.old) → IsKnown (W.written output.new) }
+    ensures passed { asked ≢ Asked.Waveform → OnOk result (W.buffered output.new ≡ []) }
+    ensures drawn_passed { IfOk result (λ verdict. verdict ≡ Verdict.Yes → W.buffered output.new ≡ []) }
+    ensures config_read { IsKnown (R.left config.old) → OnOk result (bytes_of (R.left config.new) ≡ []) }
+    ensures trace_read { IsKnown (S.left trace.old) → OnOk result (bytes_of (S.left trace.new) ≡ []) }
+
+    // A trace that answers some events, as `answer` writes it, is judged with yes, and so is one of processors that follow
+    // scripts, as `play` writes it.
+    ensures answers { IsKnown (R.left config.old) → IsKnown (S.left trace.old) → (event_text : List ℕ) → Answered (bytes_of (R.left config.old)) event_text (bytes_of (S.left trace.old))
+        → length (bytes_of (S.left trace.old)) ≤ MOST_BYTES → IsYes result }
+    ensures plays { IsKnown (R.left config.old) → IsKnown (S.left trace.old) → (script_text : List ℕ) (ticks turns : ℕ) (ended : AnyEnded)
+        → Played (bytes_of (R.left config.old)) script_text ticks turns (bytes_of (S.left trace.old)) ended → length (bytes_of (S.left trace.old)) ≤ MOST_BYTES → IsYes result }
+
+    // A fault of a text is its first one.
     ensures config_fault { IsKnown (R.left config.old) → IfErr result (FirstConfigFault (bytes_of (R.left config.old))) }
     ensures text_fault { IsKnown (R.left config.old) → IsKnown (S.left trace.old) → IfErr result (FirstTraceFault (bytes_of (R.left config.old)) (bytes_of (S.left trace.old))) }
+
+    // After a fault that is no failed write nothing is out, but of a waveform perhaps a beginning.
+    ensures unwritten { asked ≢ Asked.Waveform → IsKnown (W.written output.old)
+        → IfErr result (λ fault. fault ≢ RunFault.Write → bytes_of (W.written output.new) ≡ bytes_of (W.written output.old)) }
+
+    // No thread was started.
+    ensures no_thread_fault { IfErr result (λ fault. is_thread_fault fault ≡ false) }
+
+    // Which calls of the devices failed.
+    ensures reads { CountsReads result (R.failures config.old) (R.failures config.new) (S.failures trace.old) (S.failures trace.new) }
+    ensures writes { W.failures output.new ≡ W.failures output.old + (if failed_write result then 1 else 0) }
 {
     match asked {
         Asked::Verdict => run_check(alloc, config, trace, output),

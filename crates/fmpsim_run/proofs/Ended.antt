@@ -95,7 +95,8 @@ module _ (config_text event_text old : List ℕ) where
     leaves_out d new (run.Text fault) config left = (c, says, left)
     leaves_out d new run.Read config left = inr (c, says, left)
     leaves_out d new run.Write config left = (detail_of d c (reading_by_line c.names event_text).events, record { config = c; says = says; prints = refl }, left)
-    leaves_out d new run.Memory config left = inr (c, says, left)
+    leaves_out d new run.Memory config (inl none) = inl none
+    leaves_out d new run.Memory config (inr left) = inr (c, says, left)
     leaves_out d new run.Start config left = inr (c, says, left)
     leaves_out d new run.Disagree config left = inr (c, says, left)
 

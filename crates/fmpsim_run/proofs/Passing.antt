@@ -1,6 +1,7 @@
 -- How a run ends whose sink passed on what it held back.
-use Rattle.std.proofs.Common.{◌≡◌, ◌⊎◌, ℕ, ◌+◌, ◌≤◌, Bool, true, false, cond, List, Result, Ok, Err, IfErr, OnOk, refl, sym, subst, arith, inl, inr}
+use Rattle.std.proofs.Common.{◌≡◌, ◌⊎◌, ◌∙◌, ℕ, ◌+◌, ◌≤◌, Bool, true, false, cond, List, Result, Ok, Err, IfErr, OnOk, refl, sym, subst, arith, inl, inr}
 use Rattle.std.proofs.lemmas.Bool.{false≢true}
+use Rattle.std.proofs.lemmas.List.{append-nil}
 use Rattle.fmp_setup.specs.Setup.{Setup}
 use Rattle.fmp_text.specs.Events.{Reading}
 use Rattle.fmp_devices.specs.Devices.{BeginsWith}
@@ -40,7 +41,8 @@ module _ (d : Detail) (c : Setup) (whole : Reading) (old : List ℕ) where
   leaves_begun new (run.Text fault) config (inr (memory, out)) = out_begun new out
   leaves_begun new run.Read config out = out_begun new out
   leaves_begun new run.Write config begun = begun
-  leaves_begun new run.Memory config out = out_begun new out
+  leaves_begun new run.Memory config (inl none) = (0, none ∙ sym (append-nil old))
+  leaves_begun new run.Memory config (inr out) = out_begun new out
   leaves_begun new run.Start config out = out_begun new out
   leaves_begun new run.Disagree config out = out_begun new out
 

@@ -15,14 +15,14 @@ use Rattle.fmp_text.specs.declared.fault.TextFault.{TextFault}
 use Rattle.fmp_text.specs.Events.{Reading, faultless, reading_by_line, with_events}
 use Rattle.fmp_codes.specs.declared.records.Record.{Record}
 use Rattle.fmp_names.specs.Names.{NameLists}
-use Rattle.fmpsim_run.proofs.Traces.{all_begun, begun, detail_more, detail_none, entry_behind, state_more}
+use Rattle.fmpsim_run.proofs.Traces.{all_begun, begun, boot_begun, detail_more, detail_none, entry_behind, prefix_begun, state_more}
 use Rattle.fmpsim_run.specs.declared.stream.Answering.{Answering}
 use Rattle.fmpsim_run.specs.declared.stream.Detail.{Detail}
 use Rattle.fmp_judging.specs.declared.fault.RunFault.{RunFault}
 use Rattle.fmp_judging.specs.declared.fault.RunFault.TheVariants as run
 use Rattle.fmp_devices.specs.Devices.{BeginsWith}
 use Rattle.fmpsim_run.specs.Runs.{IsPrefixOut, IsStopped}
-use Rattle.fmpsim_run.specs.Details.{detail_of, entry_text}
+use Rattle.fmpsim_run.specs.Details.{behind_line, detail_of, entry_text}
 use Rattle.fmpsim_run.specs.Streams.{IsAllOut, Leaves, Streams}
 
 module _ (d : Detail) (tells : Bool) (c : Setup) (whole : Reading) (old : List ℕ) where
@@ -84,6 +84,18 @@ module _ (d : Detail) (tells : Bool) (c : Setup) (whole : Reading) (old : List �
     text = s.text;
   }
 
+  -- what was written was passed on, and is the same
+  pub stream_passed : (a : Answering) (written out remaining : List ℕ) → (IsTrue tells → out ≡ written) → Streams d tells c whole old a written remaining
+      → Streams d tells c whole old a out remaining
+  stream_passed a written out remaining same s = record {
+    detail = s.detail;
+    given = s.given;
+    reading = s.reading;
+    stands = s.stands;
+    count = s.count;
+    text = λ told. same told ∙ s.text told;
+  }
+
   -- a fault that is ahead is the text's first one
   pub stream_first : (a : Answering) (written remaining : List ℕ) (fault : TextFault) → Streams d tells c whole old a written remaining
       → ahead c.names a.feed remaining ≡ only fault → whole.fault ≡ Some fault
@@ -104,6 +116,13 @@ module _ (d : Detail) (tells : Bool) (c : Setup) (whole : Reading) (old : List �
       let events = ap (λ (r : Reading). r.events) s.reading in
       let prefix = ap (take (length s.given)) events ∙ take-append_seam s.given (ahead c.names a.feed remaining).events in
       (length s.given, s.text told ∙ ap (λ es. old ++ detail_of d c es) (sym prefix))
+
+  -- what was written and passed on is a beginning of what is written of all events
+  pub passed_begun : (a : Answering) (written out remaining : List ℕ) → IsTrue tells → out ≡ written → Streams d tells c whole old a written remaining
+      → BeginsWith old (detail_of d c whole.events) out
+  passed_begun a written out remaining told same s =
+      let front = prefix_out a written remaining told s in
+      prefix_begun d c whole.events front.0 old out (same ∙ front.1)
 
   -- a text at fault, where what is written of the events before is out
   pub stopped : (a : Answering) (written remaining : List ℕ) (fault : TextFault) → IsTrue tells → Streams d tells c whole old a written remaining
@@ -132,21 +151,23 @@ measure_falls old false limit taken later is fits moves =
     let nearer = moves refl in
     rw is (omega arith)
 
--- a run begins with all of the text ahead
-pub stream_start : (d : Detail) (tells : Bool) (c : Setup) (text old : List ℕ) (a : Answering) → a.detail ≡ d → a.feed ≡ new_feed → Stands a.kernel (booted c) → a.count ≡ 0
-    → Streams d tells c (reading_by_line c.names text) old a old text
-stream_start d tells c text old a detail feed stands count = record {
+-- a run begins with all of the text ahead, and what is written at boot
+pub stream_start : (d : Detail) (tells : Bool) (c : Setup) (text old written : List ℕ) (a : Answering) → a.detail ≡ d → a.feed ≡ new_feed → Stands a.kernel (booted c) → a.count ≡ 0
+    → (IsTrue tells → written ≡ old ++ behind_line d c.names (booted c)) → Streams d tells c (reading_by_line c.names text) old a written text
+stream_start d tells c text old written a detail feed stands count out = record {
   detail = detail;
   given = [];
   reading = sym (ap (λ f. ahead c.names f text) feed ∙ ahead_new c.names text);
   stands = stands;
   count = count;
-  text = λ told. sym (append-nil old) ∙ ap (λ xs. old ++ xs) (sym (detail_none d c));
+  text = λ told. out told ∙ ap (λ xs. old ++ xs) (sym (detail_none d c));
 }
 
--- where nothing was written, what is written of no event is out
-pub none_out : (d : Detail) (c : Setup) (events : List Event) (old : List ℕ) → IsPrefixOut (detail_of d) c events old old
-none_out d c events old = (0, sym (append-nil old) ∙ ap (λ xs. old ++ xs) (sym (detail_none d c)))
+-- what is left where what is written at boot was not written, or not whole
+pub start_leaves : (d : Detail) (c : Setup) (whole : Reading) (old new : List ℕ) (fault : RunFault) → (fault ≡ run.Memory → new ≡ old)
+    → (fault ≡ run.Write → BeginsWith old (behind_line d c.names (booted c)) new) → (fault ≡ run.Memory) ⊎ (fault ≡ run.Write) → Leaves d c whole old new fault
+start_leaves d c whole old new fault memory write (inl is) = rw is (inl (memory is))
+start_leaves d c whole old new fault memory write (inr is) = rw is (boot_begun d c whole.events old new (write is))
 
 -- all of what is written is a beginning of it
 pub all_out_begun : (d : Detail) (c : Setup) (whole : Reading) (old new : List ℕ) → IsAllOut d c whole old new → BeginsWith old (detail_of d c whole.events) new
@@ -160,7 +181,7 @@ pub step_leaves : (d : Detail) (tells : Bool) (c : Setup) (whole : Reading) (old
     → ((m : State) → Stands a.kernel m → fault ≡ run.Write → BeginsWith written (entry_text a.detail c.names (a.count + 1) (step numbered m event)) out)
     → (fault ≡ run.Memory) ⊎ (fault ≡ run.Write) → Leaves d c whole old out fault
 step_leaves d tells c whole old a between written out remaining event fault told s next memory write (inl is) =
-    rw (is, memory is) (prefix_out d tells c whole old a written remaining told s)
+    rw (is, memory is) (inr (prefix_out d tells c whole old a written remaining told s))
 step_leaves d tells c whole old a between written out remaining event fault told s next memory write (inr is) =
     rw is (torn d tells c whole old a between written out remaining event told s next (λ m stands. write m stands is))
 

@@ -15,7 +15,8 @@ use Rattle.fmp_devices.specs.Devices.{BeginsWith}
 use Rattle.fmpsim_run.specs.declared.stream.Detail.{Detail}
 use Rattle.fmpsim_run.specs.declared.stream.Detail.TheVariants as detail
 use Rattle.fmpsim_run.specs.Runs.{trace_of}
-use Rattle.fmpsim_run.specs.Details.{detail_of, entry_text, states_from, states_of}
+use Rattle.fmp_states.specs.States.{state_text}
+use Rattle.fmpsim_run.specs.Details.{behind_line, detail_of, entry_text, states_from, states_of}
 
 module _ {Q : Type 0} (k : Ordering Q) (names : NameLists) where
   pub replay_more : (w : World Q) (es : List Event) (e : Event) → replay k w (es ++ e ∷ []) ≡ (step k (replay k w es) e).0
@@ -56,7 +57,10 @@ states_append_from names n m (e ∷ es) fs =
 
 states_append : (c : Setup) (es fs : List Event) → states_of c (es ++ fs) ≡ states_of c es ++ states_from c.names (1 + length es) (replay numbered (booted c) es) fs
 unfolding states_of
-states_append c es fs = states_append_from c.names 1 (booted c) es fs
+states_append c es fs =
+    let boot = state_text c.names (booted c) in
+    ap (λ xs. boot ++ xs) (states_append_from c.names 1 (booted c) es fs)
+    ∙ sym (append_assoc boot (states_from c.names 1 (booted c) es) (states_from c.names (1 + length es) (replay numbered (booted c) es) fs))
 
 -- what is written from these events on
 abbrev rest_of : Detail → Setup → List Event → List Event → List ℕ
@@ -81,11 +85,11 @@ detail_more d c es e =
     detail_append d c es (e ∷ []) ∙ ap (λ xs. detail_of d c es ++ xs) (one_more d c es e)
     ∙ ap (λ i. detail_of d c es ++ entry_text d c.names i (step numbered (replay numbered (booted c) es) e)) place
 
--- nothing is written of no event
-pub detail_none : (d : Detail) (c : Setup) → detail_of d c [] ≡ []
+-- of no event there is what is written at boot
+pub detail_none : (d : Detail) (c : Setup) → detail_of d c [] ≡ behind_line d c.names (booted c)
 unfolding trace_of states_of
 detail_none detail.Line c = refl
-detail_none detail.State c = refl
+detail_none detail.State c = append-nil (state_text c.names (booted c))
 
 -- a beginning of some bytes is one of more bytes
 begins_on : (old prefix line behind new : List ℕ) → BeginsWith (old ++ prefix) line new → BeginsWith old ((prefix ++ line) ++ behind) new
@@ -104,6 +108,14 @@ begun d c given more event old written new text begins =
     let parts = ap (detail_of d c) (sym (append_assoc given (event ∷ []) more)) ∙ detail_append d c (given ++ event ∷ []) more
     ∙ ap (λ xs. xs ++ rest_of d c (given ++ event ∷ []) more) (detail_more d c given event) in
     rw (parts) (begins_on old (detail_of d c given) (entry_behind d c given event) _ new (rw text at begins))
+
+-- a beginning of what is written at boot is one of all
+pub boot_begun : (d : Detail) (c : Setup) (events : List Event) (old new : List ℕ) → BeginsWith old (behind_line d c.names (booted c)) new
+    → BeginsWith old (detail_of d c events) new
+boot_begun d c events old new begins =
+    let boot = behind_line d c.names (booted c) in
+    let parts : detail_of d c events ≡ boot ++ rest_of d c [] events = detail_append d c [] events ∙ ap (λ xs. xs ++ rest_of d c [] events) (detail_none d c) in
+    rw parts (begins_on old [] boot (rest_of d c [] events) new (rw (← append-nil old) at begins))
 
 -- all of what is written is a beginning of it
 pub all_begun : (d : Detail) (c : Setup) (events : List Event) (old new : List ℕ) → new ≡ old ++ detail_of d c events → BeginsWith old (detail_of d c events) new

@@ -18,7 +18,7 @@ use Rattle.fmp_judging.specs.Texts.{SaysConfig}
 use Rattle.fmpsim_run.specs.Runs.{LeavesWritten, Writing, trace_of}
 use Rattle.fmp_judging.specs.declared.fault.RunFault.{RunFault}
 
--- what is written behind the line of an event that led to this state
+-- what is written of a state, at boot and behind the line of an event that led to it
 abbrev pub behind_line : Detail → NameLists → State → List ℕ
 behind_line detail.Line lists m = []
 behind_line detail.State lists m = state_text lists m
@@ -33,22 +33,22 @@ states_from lists n m [] = []
 states_from lists n m (e ∷ es) =
     (line_text lists n (step numbered m e).1 ++ state_text lists (step numbered m e).0) ++ states_from lists (n + 1) (step numbered m e).0 es
 
--- the trace of what a machine answers to events, with the states that these lead to
+-- the state at boot, and the trace of what a machine answers to events, with the states that these lead to
 unfoldable pub states_of : Setup → List Event → List ℕ
-states_of config events = states_from config.names 1 (booted config) events
+states_of config events = state_text config.names (booted config) ++ states_from config.names 1 (booted config) events
 
 abbrev pub detail_of : Detail → Writing
 detail_of detail.Line = trace_of
 detail_of detail.State = states_of
 
--- The output is the trace of the one text's machine over the other's events, with the state after each. Every prefix of these
--- leads to a safe state, and the headline holds there.
+-- The output is the state at boot, and the trace of the one text's machine over the other's events, with the state after each. Every
+-- prefix of these leads to a safe state, and the headline holds there.
 pub record ToldStates (config_text event_text output : List ℕ) : Type 0 where
   pub config : Setup
   pub events : List Event
   pub says : SaysConfig config_text config
   pub lists : SpellsText config.names event_text events
-  pub prints : output ≡ states_from config.names 1 (booted config) events
+  pub prints : output ≡ state_text config.names (booted config) ++ states_from config.names 1 (booted config) events
   pub safe : IsSafeThroughout (booted config) events
   pub headline : HeadlineThroughout config events (answers numbered (booted config) events)
 

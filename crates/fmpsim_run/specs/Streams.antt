@@ -1,5 +1,5 @@
 -- What a run that answers each event as it comes has done.
-use Rattle.std.specs.Prelude.{◌≡◌, ℕ, Bool, IsTrue, List, ◌++◌, length}
+use Rattle.std.specs.Prelude.{◌≡◌, ◌⊎◌, ℕ, Bool, IsTrue, List, ◌++◌, length}
 use Rattle.fmp_codes.specs.declared.records.Event.{Event}
 use Rattle.fmp_text.specs.Events.{Reading, faultless, with_events}
 use Rattle.fmp_feed.specs.Feed.{ahead}
@@ -26,11 +26,12 @@ pub record Streams (d : Detail) (tells : Bool) (config : Setup) (whole : Reading
   pub count : a.count ≡ length given
   pub text : IsTrue tells → written ≡ old ++ detail_of d config given
 
--- what was written after old, where the run ends with this fault
+-- What was written after old, where the run ends with this fault. Memory may be wanting before anything is written.
 abbrev pub Leaves : Detail → Setup → Reading → List ℕ → List ℕ → RunFault → Type 0
 Leaves d config whole old new (run.Config fault) = Unit {0}
 Leaves d config whole old new (run.Text fault) = IsStopped (detail_of d) config whole old new fault
 Leaves d config whole old new run.Write = BeginsWith old (detail_of d config whole.events) new
+Leaves d config whole old new run.Memory = (new ≡ old) ⊎ IsPrefixOut (detail_of d) config whole.events old new
 Leaves d config whole old new other = IsPrefixOut (detail_of d) config whole.events old new
 
 -- the text has no fault, and what is told of all its events was written after old

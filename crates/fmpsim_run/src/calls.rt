@@ -19,7 +19,7 @@ use fmp_judging::{RunFault, config_from, pass_on};
 use fmp_machine::Config;
 use std::alloc::Global;
 
-/// Answers the events of a text, piece by piece.
+/// Answers the events of a text, piece by piece. What was written is passed on before each piece is waited for.
 fn answer_all<S: Source, W: Sink>(
     run: &mut Answering,
     config: &Config,
@@ -53,7 +53,8 @@ fn answer_all<S: Source, W: Sink>(
     ensures writes { W.failures trace.new ≡ W.failures trace.old + (if failed_write result then 1 else 0) }
 {
     while !run.has_ended() {
-        run.take_piece(events, piece)?;
+        trace.flush()?;
+        run.take_piece(events, trace, piece)?;
         run.drain(config, trace)?;
     }
     Ok(())
@@ -84,6 +85,7 @@ fn answer_from_boot<S: Source, W: Sink>(
 {
     let mut piece = new_piece(alloc)?;
     let mut run = Answering::new(alloc, detail, config)?;
+    run.begin(config.names(), trace)?;
     answer_all(&mut run, config, events, trace, piece.as_mut_slice())
 }
 
@@ -166,8 +168,8 @@ pub fn run_calls<R: Source, S: Source, W: Sink>(
     answer_text(alloc, Detail::Line, &configuration, events, trace)
 }
 
-/// Reads a configuration and events, and writes the trace of the machine's answers, and behind each line the state after its event,
-/// each as its event comes. docs/FORMATS.md has the form of the state.
+/// Reads a configuration and events, and writes the state at boot, the trace of the machine's answers, and behind each line the state
+/// after its event, each as its event comes. docs/FORMATS.md has the form of the state.
 ///
 /// No list of events or of records is kept.
 pub fn run_states<R: Source, S: Source, W: Sink>(

@@ -36,7 +36,7 @@ pub(crate) enum Detail {
     State,
 }
 
-/// Adds what is told behind the line of an event that led to this state.
+/// Adds what is told of a state, at boot and behind the line of an event that led to it.
 fn put_behind(
     detail: Detail,
     names: &Names,
@@ -91,6 +91,25 @@ impl Answering {
         ensures { result ≡ self.now.feed.ended }
     {
         self.feed.ended()
+    }
+
+    /// Writes what is told before the first event: the state at boot, where states are told.
+    pub(crate) fn begin<W: Sink>(&mut self, names: &Names, trace: &mut W) -> Result<(), RunFault>
+        requires calls { W.failures trace.old < 2 ^ 64 - 1 }
+        ensures same { (self.new.detail ≡ self.old.detail) × (self.new.feed ≡ self.old.feed) × (self.new.kernel ≡ self.old.kernel) × (self.new.count ≡ self.old.count) }
+        ensures known { IsKnown (W.written trace.old) → IsKnown (W.written trace.new) }
+        ensures ok { IsKnown (W.written trace.old) → (m : State) → Stands self.old.kernel m
+            → OnOk result (bytes_of (W.written trace.new) ≡ bytes_of (W.written trace.old) ++ behind_line self.old.detail names.now m) }
+        ensures memory { IsKnown (W.written trace.old) → result ≡ Err RunFault.Memory → bytes_of (W.written trace.new) ≡ bytes_of (W.written trace.old) }
+        ensures write { IsKnown (W.written trace.old) → (m : State) → Stands self.old.kernel m → result ≡ Err RunFault.Write
+            → BeginsWith (bytes_of (W.written trace.old)) (behind_line self.old.detail names.now m) (bytes_of (W.written trace.new)) }
+        ensures kinds { IfErr result (λ fault. (fault ≡ RunFault.Memory) ⊎ (fault ≡ RunFault.Write)) }
+        ensures no_thread_fault { IfErr result (λ fault. is_thread_fault fault ≡ false) }
+        ensures writes { W.failures trace.new ≡ W.failures trace.old + (if failed_write result then 1 else 0) }
+    {
+        self.line.clear();
+        put_behind(self.detail, names, &self.kernel, &mut self.line)?;
+        Ok(write_all(trace, self.line.as_slice())?)
     }
 
     /// Answers one event, and writes its line with what is told behind it.
@@ -198,12 +217,15 @@ impl Answering {
         Ok(())
     }
 
-    /// Reads a further piece of the text, or its end.
-    pub(crate) fn take_piece<S: Source>(
+    /// Reads a further piece of the text, or its end. The trace holds nothing back meanwhile, so who gives events one by one has
+    /// the answers to all that were given.
+    pub(crate) fn take_piece<S: Source, W: Sink>(
         &mut self,
         events: &mut S,
+        trace: &W,
         piece: &mut [u8],
     ) -> Result<(), RunFault>
+        requires passed { W.buffered trace.now ≡ [] }
         requires calls { S.failures events.old < 2 ^ 64 - 1 }
         requires fine { self.old.feed.fault ≡ None }
         requires unended { self.old.feed.ended ≡ false }

@@ -4,4 +4,4 @@ use Rattle.fmp_wave.proofs.values.put_processors.Given as goal
 
 -- the lines so far
 abbrev pub invariant-loop-index : goal.invariant-loop-index
-invariant-loop-index l = l.out.items ≡ l.fn.out.items ++ processors_values l.names l.machine l.index
+invariant-loop-index l = l.out.items ≡ l.fn.out.items ++ processors_values l.names l.shown l.index

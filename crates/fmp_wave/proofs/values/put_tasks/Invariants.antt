@@ -4,4 +4,4 @@ use Rattle.fmp_wave.proofs.values.put_tasks.Given as goal
 
 -- the lines so far
 abbrev pub invariant-loop-index : goal.invariant-loop-index
-invariant-loop-index l = l.out.items ≡ l.fn.out.items ++ tasks_values l.machine l.index
+invariant-loop-index l = l.out.items ≡ l.fn.out.items ++ tasks_values l.shown l.index

@@ -8,8 +8,8 @@ use Rattle.fmpsim_run.specs.declared.stream.Detail.{Detail}
 use Rattle.fmpsim_run.specs.Streams.{Streams}
 use Rattle.fmpsim_run.proofs.calls.answer_all.Given as goal
 
-abbrev pub invariant-loop-run : goal.invariant-loop-run
-invariant-loop-run g l = record {
+abbrev pub invariant-loop-trace : goal.invariant-loop-trace
+invariant-loop-trace g l = record {
   read_failures : g.S.Source.failures l.events ≡ g.S.Source.failures l.fn.events;
   write_failures : g.W.Sink.failures l.trace ≡ g.W.Sink.failures l.fn.trace;
   counted : l.run.count ≡ l.run.feed.events;
@@ -28,5 +28,5 @@ invariant-loop-run g l = record {
       → Streams d tells l.config whole old l.run (bytes_of (g.W.Sink.written l.trace)) (bytes_of (g.S.Source.left l.events));
 }
 
-abbrev pub decreases-loop-run : goal.decreases-loop-run
-decreases-loop-run g l = cond l.run.feed.ended 0 (most_bytes + 1 - l.run.feed.taken)
+abbrev pub decreases-loop-trace : goal.decreases-loop-trace
+decreases-loop-trace g l = cond l.run.feed.ended 0 (most_bytes + 1 - l.run.feed.taken)

@@ -1,0 +1,43 @@
+-- What the getters of the matches give, by the ids.
+use Rattle.std.proofs.Common.{◌≡◌, ◌∙◌, ap, subst, sym, refl, ℕ, Bool, true, false, List, Option, Some, None, codes}
+use Rattle.std.specs.Prelude.{Ok, Err, Result, is_some, option_map, unwrap_or}
+use Rattle.std.specs.Borrow.{Bor}
+use Rattle.std.specs.Str.Parse.{ParsesUnsigned}
+use Rattle.clap.specs.Matches.{ReadsOne, first_value, one_text}
+use Rattle.clap.specs.Walk.{first_of, one_of, rows_of}
+use Rattle.clap.specs.declared.parser.matches.Found.{Found}
+use Rattle.clap.proofs.WalkLemmas.{first_value-rows, one_text-rows}
+use Rattle.fmp_smp_command.specs.Smp.{IsFlag, IsNumberIn, number_of}
+
+-- a path that is given
+pub path_read : (f : Found) (id : List ℕ) (o : Option (Bor (List ℕ))) (d r : Bor (List ℕ)) → option_map (λ s. s.now) o ≡ first_value f id
+    → is_some (first_value f id) ≡ true → r ≡ unwrap_or o d → first_of id (rows_of f) ≡ Some r.now
+path_read f id None d r same has is =
+    let none : is_some (first_value f id) ≡ false = rw (← same) refl in
+    cc
+path_read f id (Some p) d r same has is = sym (first_value-rows f id) ∙ (sym same ∙ ap (λ (b : Bor (List ℕ)). Some b.now) (sym is))
+
+-- a number that a text gives
+pub number_read : (E : Type 0) (G : List ℕ → Result ℕ E → Type 0) (k : ℕ) (f : Found) (id t : List ℕ) (r : Option ℕ) (n : ℕ)
+    → one_text f id ≡ Some t → ReadsOne G t r → ((u : List ℕ) (x : Result ℕ E) → G u x → ParsesUnsigned k 10 u x) → r ≡ Some n
+    → option_map number_of (one_of id (rows_of f)) ≡ Some n
+number_read E G k f id t r n text read only is =
+    let parsed = only t (Ok n) (subst (λ (o : Option ℕ). ReadsOne G t o) is read) in
+    ap (option_map number_of) (sym (one_text-rows f id) ∙ text) ∙ ap Some (sym parsed.1)
+
+-- a number that may be missing
+pub seed_read : (E : Type 0) (G : List ℕ → Result ℕ E → Type 0) (f : Found) (id : List ℕ) (r : Option ℕ)
+    → (one_text f id ≡ None → r ≡ None) → ((t : List ℕ) → one_text f id ≡ Some t → ReadsOne G t r)
+    → ((u : List ℕ) (x : Result ℕ E) → G u x → ParsesUnsigned 64 10 u x) → IsNumberIn (one_of id (rows_of f)) r
+seed_read E G f id r none some only =
+    subst (λ (o : Option (List ℕ)). IsNumberIn o r) (one_text-rows f id) (go (one_text f id) r none some)
+  where
+    go : (o : Option (List ℕ)) (r : Option ℕ) → (o ≡ None → r ≡ None) → ((t : List ℕ) → o ≡ Some t → ReadsOne G t r) → IsNumberIn o r
+    go None r none some = none refl
+    go (Some t) (Some n) none some = only t (Ok n) (some t refl)
+    go (Some t) None none some = let got = some t refl in only t (Err got.0) got.1
+
+-- a flag
+pub flag_read : (f : Found) (id : List ℕ) (b : Bool) → (one_text f id ≡ None → b ≡ false) → (one_text f id ≡ Some (codes "true") → b ≡ true)
+    → (one_text f id ≡ Some (codes "false") → b ≡ false) → IsFlag (one_of id (rows_of f)) b
+flag_read f id b missing set unset = subst (λ (o : Option (List ℕ)). IsFlag o b) (one_text-rows f id) (record { missing = missing; set = set; unset = unset })

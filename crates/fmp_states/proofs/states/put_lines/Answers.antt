@@ -1,0 +1,14 @@
+use Rattle.std.proofs.Common.{ℕ, List, length, ◌++◌, ap, ◌∙◌, append_assoc}
+use Rattle.fmp_queues.specs.Queues.{listed}
+use Rattle.fmp_states.specs.States.{processors_text, state_lines, tasks_text}
+use Rattle.fmp_states.proofs.Alike.{states_alike}
+use Rattle.fmp_states.proofs.states.put_lines.Goals as goal
+
+pub returns-clause-model : goal.returns-clause-model
+unfolding state_lines
+returns-clause-model c = λ m stands.
+    let k = c.args.kernel.now in
+    let tasks = tasks_text c.args.names.now k (length k.tasks) in
+    c.in_ok-put_tasks.ensures ∙ ap (λ (xs : List ℕ). xs ++ tasks) c.in_ok-put_processors.ensures
+    ∙ append_assoc c.args.out.now.items (processors_text listed c.args.names.now k (length k.processors)) tasks
+    ∙ ap (λ (xs : List ℕ). c.args.out.now.items ++ xs) (states_alike k m stands c.args.names.now)

@@ -1,0 +1,75 @@
+-- What clap finds in the words of a command line.
+use Rattle.std.proofs.Common.{inl, inr, ◌≡◌, ◌∙◌, ◌++◌, ap, refl, ℕ, List, [], ◌∷◌, Bool, Option, Some, None, true, false}
+use Rattle.std.specs.Prelude.{option_map, unwrap_or}
+use Rattle.std.specs.Borrow.{Bor}
+use Rattle.clap.specs.Words.{App, HasMatchesOf, Text, first_of, first_value, is_simple, matches_of, rows_of}
+use Rattle.clap.specs.Walk.{is_free_arg}
+use Rattle.clap.specs.Words.{AddsConflicts, Rule, rule_of}
+use Rattle.clap.specs.declared.builder.arg.Arg.{Arg}
+use Rattle.clap.specs.declared.parser.matches.ArgMatches.{ArgMatches}
+use Rattle.clap.specs.declared.parser.matches.Found.{Found}
+use Rattle.clap.proofs.WalkLemmas.{first_value-rows}
+use Rattle.fmp_smp_command.specs.Smp.{IsOptional}
+use Rattle.std.specs.Prelude.{IfOk, Result, codes}
+use Rattle.std.proofs.lemmas.Result.{IfOk-weaker}
+use Rattle.clap.specs.declared.error.Error.{Error}
+use Rattle.fmpsim_cli.specs.declared.Request.{Request}
+use Rattle.fmpsim_cli.specs.declared.Request.TheVariants as request
+use Rattle.fmpsim_cli.specs.Cli.{AsksFor, IsCalls, IsCheck, IsWave, calls_line, check_line, choice_rule, flag_rule, found_by, rows_in, wave_line}
+
+-- a parse of a command line that is known
+pub rows_found : (a line : App) (words : List Text) (m : ArgMatches) → a ≡ line → is_simple line ≡ true → HasMatchesOf a words m → rows_in m ≡ found_by line words
+unfolding found_by
+rows_found a line words m is simple has = (has (ap is_simple is ∙ simple)).0 ∙ ap (λ (x : App). matches_of x words) is
+
+-- a path, or nothing
+pub path_or : (f : Found) (id : List ℕ) (o : Option (Bor (List ℕ))) (d r : Bor (List ℕ)) → option_map (λ s. s.now) o ≡ first_value f id
+    → d.now ≡ [] → r ≡ unwrap_or o d → r.now ≡ unwrap_or (first_of id (rows_of f)) []
+path_or f id o d r same empty is = ap (λ (b : Bor (List ℕ)). b.now) is ∙ (go o ∙ ap (λ v. unwrap_or v []) (same ∙ first_value-rows f id))
+  where
+    go : (o : Option (Bor (List ℕ))) → (unwrap_or o d).now ≡ unwrap_or (option_map (λ s. s.now) o) []
+    go None = empty
+    go (Some p) = refl
+
+-- a flag that another one rules out
+pub choice_of : (a b : Arg) (x : Bor (List ℕ)) (id : List ℕ) → IsOptional a id → rule_of a ≡ flag_rule id → AddsConflicts a b (x ∷ [])
+    → (b.global ≡ false) × (rule_of b ≡ choice_rule id)
+choice_of a b x id opt rule adds =
+    let items : b.conflicts.items ≡ x ∷ [] = adds.1 ∙ ap (λ l. l ++ x ∷ []) opt.plain.1 in
+    let free : is_free_arg (record a { conflicts = b.conflicts }) ≡ false = rw (opt.plain.0, items) refl in (
+      ap (λ (y : Arg). y.global) adds.0 ∙ opt.local,
+      ap rule_of adds.0 ∙ (ap (λ (f : Bool). record (rule_of a) { is_free = f }) free ∙ ap (λ (r : Rule). record r { is_free = false }) rule),
+    )
+
+-- what `calls` is asked for, behind its name
+pub calls_asked : (r : Result Request Error) (word : Option Text) (words : List Text) → word ≡ Some (codes "calls")
+    → IfOk r (IsCalls (found_by calls_line words)) → IfOk r (AsksFor word words)
+calls_asked r word words named asks = IfOk-weaker r _ _ go asks
+  where
+    go : (x : Request) → IsCalls (found_by calls_line words) x → AsksFor word words x
+    go (request.Calls p t) h = (named, h)
+    go (request.Trace p a) h = absurd h
+    go (request.Smp x) h = absurd h
+    go (request.List x) h = absurd h
+
+-- what `check` is asked for, behind its name
+pub check_asked : (r : Result Request Error) (word : Option Text) (words : List Text) → word ≡ Some (codes "check")
+    → IfOk r (IsCheck (found_by check_line words)) → IfOk r (AsksFor word words)
+check_asked r word words named asks = IfOk-weaker r _ _ go asks
+  where
+    go : (x : Request) → IsCheck (found_by check_line words) x → AsksFor word words x
+    go (request.Calls p t) h = absurd h
+    go (request.Trace p a) h = inl (named, h)
+    go (request.Smp x) h = absurd h
+    go (request.List x) h = absurd h
+
+-- what `wave` is asked for, behind its name
+pub wave_asked : (r : Result Request Error) (word : Option Text) (words : List Text) → word ≡ Some (codes "wave")
+    → IfOk r (IsWave (found_by wave_line words)) → IfOk r (AsksFor word words)
+wave_asked r word words named asks = IfOk-weaker r _ _ go asks
+  where
+    go : (x : Request) → IsWave (found_by wave_line words) x → AsksFor word words x
+    go (request.Calls p t) h = absurd h
+    go (request.Trace p a) h = inr (named, h)
+    go (request.Smp x) h = absurd h
+    go (request.List x) h = absurd h

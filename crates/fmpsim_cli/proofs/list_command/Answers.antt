@@ -1,0 +1,8 @@
+use Rattle.std.proofs.Common.{rules, ap₂, ◌≡◌, ◌∙◌, codes}
+use Rattle.clap.specs.Words.{app_of, new_app, with_rule}
+use Rattle.fmpsim_cli.proofs.list_command.Goals as goal
+
+pub returns : goal.returns
+returns c =
+    let start_is : app_of c.in_ok-start.start ≡ new_app (codes "list") = search rules in
+    c.in_ok-one.ensures.shape c.name-name.ensures.local ∙ ap₂ with_rule start_is c.name-name.ensures.rule

@@ -1,0 +1,123 @@
+-- The command lines of the program, and what their words ask for.
+use Rattle.std.specs.Prelude.{◌≡◌, ◌⊎◌, Bool, true, false, List, [], Option, Some, codes, if◌then◌else◌, option_map, unwrap_or}
+use Rattle.std.specs.Bool.{then_some}
+use Rattle.clap.specs.Words.{App, Row, Rule, Text, first_of, found_of, matches_of, new_app, new_rule, one_of, rows_of, with_rule}
+use Rattle.clap.specs.declared.builder.action.ArgAction.TheVariants.{Set, SetTrue}
+use Rattle.clap.specs.declared.parser.matches.ArgMatches.{ArgMatches}
+use Rattle.fmp_check.specs.declared.comparing.Shown.TheVariants.{First, Each}
+use Rattle.fmp_context.specs.declared.text.TextForm.{TextForm}
+use Rattle.fmp_context.specs.declared.text.TextForm.TheVariants as form
+use Rattle.fmp_smp_command.specs.Smp.{Asks, IsFlag, found_in, path_rule}
+use Rattle.fmpsim_cli.specs.declared.Asked.{Asked}
+use Rattle.fmpsim_cli.specs.declared.Asked.TheVariants.{Verdict, Differences, Waveform}
+use Rattle.fmpsim_cli.specs.declared.Paths.{Paths}
+use Rattle.fmpsim_cli.specs.declared.Request.{Request}
+use Rattle.fmpsim_cli.specs.declared.Request.TheVariants as request
+use Rattle.fmpsim_cli.specs.declared.Told.{Told}
+use Rattle.fmpsim_cli.specs.declared.Told.TheVariants as told
+
+-- what a parse reads of a flag
+abbrev pub flag_rule : Text → Rule
+flag_rule id = record (new_rule id) { long = Some id; action = Some SetTrue }
+
+-- of a flag that another one rules out
+abbrev pub choice_rule : Text → Rule
+choice_rule id = record (flag_rule id) { is_free = false }
+
+-- of a name that may be left out
+abbrev pub name_rule : Rule
+name_rule = record (new_rule (codes "NAME")) { action = Some Set }
+
+-- each command line, as a parse reads it
+abbrev pub calls_line : App
+calls_line = with_rule
+    (with_rule
+    (with_rule
+    (with_rule (new_app (codes "calls")) (path_rule (codes "CFG")))
+    (path_rule (codes "EVENTS")))
+    (flag_rule (codes "state")))
+    (flag_rule (codes "context"))
+
+abbrev pub check_line : App
+check_line = with_rule
+    (with_rule
+    (with_rule
+    (with_rule
+    (with_rule (new_app (codes "check")) (path_rule (codes "CFG")))
+    (path_rule (codes "TRACE")))
+    (choice_rule (codes "show")))
+    (flag_rule (codes "all")))
+    (flag_rule (codes "context"))
+
+abbrev pub wave_line : App
+wave_line = with_rule
+    (with_rule
+    (with_rule (new_app (codes "wave")) (path_rule (codes "CFG")))
+    (path_rule (codes "TRACE")))
+    (flag_rule (codes "context"))
+
+abbrev pub list_line : App
+list_line = with_rule (new_app (codes "list")) name_rule
+
+-- what clap finds in the words of a command line, by the ids of the arguments
+unfoldable pub found_by : App → List Text → List Row
+found_by line words = matches_of line words
+
+-- what the matches have, by the ids of the arguments
+abbrev pub rows_in : ArgMatches → List Row
+rows_in m = rows_of (found_of m)
+
+-- the configuration is that of CFG, the other text that of this id, and it is shown beside a fault where that is asked for
+pub record NamesPaths (rows : List Row) (id : Text) (text_form : TextForm) (p : Paths) : Type 0 where
+  pub config : p.config.now ≡ unwrap_or (first_of (codes "CFG") rows) []
+  pub text : p.text.now ≡ unwrap_or (first_of id rows) []
+  pub context : (b : Bool) × IsFlag (one_of (codes "context") rows) b × (p.context ≡ then_some b text_form)
+
+-- what is told of each event, by the flag
+abbrev pub told_by : Bool → Told
+told_by state = if state then told.State else told.Line
+
+-- what is asked of a trace, by both flags: the first line that differs, or else all of them, or else the verdict alone
+abbrev pub asked_by : Bool → Bool → Asked
+asked_by true all = Differences First
+asked_by false true = Differences Each
+asked_by false false = Verdict
+
+-- the state is told where that is asked for
+pub record AsksCalls (rows : List Row) (p : Paths) (t : Told) : Type 0 where
+  pub paths : NamesPaths rows (codes "EVENTS") form.Events p
+  pub told : (b : Bool) × IsFlag (one_of (codes "state") rows) b × (t ≡ told_by b)
+
+-- what is asked is what the flags say
+pub record AsksCheck (rows : List Row) (p : Paths) (a : Asked) : Type 0 where
+  pub paths : NamesPaths rows (codes "TRACE") form.Trace p
+  pub asked : (show : Bool) × (all : Bool) × IsFlag (one_of (codes "show") rows) show × IsFlag (one_of (codes "all") rows) all
+      × (a ≡ asked_by show all)
+
+-- the waveform is asked for
+pub record AsksWave (rows : List Row) (p : Paths) (a : Asked) : Type 0 where
+  pub paths : NamesPaths rows (codes "TRACE") form.Trace p
+  pub asked : a ≡ Waveform
+
+-- what is asked for by the words behind the program's name, of which the first names the command
+abbrev pub AsksFor : Option Text → List Text → Request → Type 0
+AsksFor name words (request.Calls p t) = (name ≡ Some (codes "calls")) × AsksCalls (found_by calls_line words) p t
+AsksFor name words (request.Trace p a) =
+    ((name ≡ Some (codes "check")) × AsksCheck (found_by check_line words) p a)
+    ⊎ ((name ≡ Some (codes "wave")) × AsksWave (found_by wave_line words) p a)
+AsksFor name words (request.Smp r) = (name ≡ Some (codes "smp")) × Asks (found_in words) r
+AsksFor name words (request.List id) =
+    (name ≡ Some (codes "list")) × (option_map (λ s. s.now) id ≡ first_of (codes "NAME") (found_by list_line words))
+
+-- the same of one command, whose name is known
+abbrev pub IsCalls : List Row → Request → Type 0
+IsCalls rows (request.Calls p t) = AsksCalls rows p t
+IsCalls rows _ = ⊥
+
+abbrev pub IsCheck : List Row → Request → Type 0
+IsCheck rows (request.Trace p a) = AsksCheck rows p a
+IsCheck rows _ = ⊥
+
+abbrev pub IsWave : List Row → Request → Type 0
+IsWave rows (request.Trace p a) = AsksWave rows p a
+IsWave rows _ = ⊥

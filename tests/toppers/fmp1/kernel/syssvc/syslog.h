@@ -1,0 +1,1 @@
+#define LOG_UPTO(level)	((level) * 2 + 1)

@@ -1,0 +1,1 @@
+#define CPUEXC1	4

@@ -1,0 +1,2 @@
+#define STACK_SIZE	UINT_C(8192)
+#define INTNO1	UINT_C(0x10)

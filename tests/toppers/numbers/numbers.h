@@ -1,0 +1,2 @@
+#define KIB (1 << 10)
+#define LOW ( 16 )

@@ -1,0 +1,1 @@
+/* Empty: tools/from-toppers reads it in place of the kernel's own. kernel.h has what is defined. */

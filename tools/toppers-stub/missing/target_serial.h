@@ -1,0 +1,1 @@
+/* Empty: tools/from-toppers reads it where no folder of -I has it, and says so. */
