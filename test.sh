@@ -13,7 +13,7 @@ trap 'rm -rf "$room"' EXIT
 passed=0 failed=0 proved=
 
 # What is run of a program beside the cases: the function of this name, in the file of this name in tests/program.
-subjects=(examples texts_at_fault reports contexts states waves lists help_texts completions command_lines paths pipes
+subjects=(examples texts_at_fault reports contexts states waves views lists help_texts completions command_lines paths pipes
     host_tests devices_that_fail scripts seeds processors greatest_texts long_lines little_memory refused_growth player
     from_toppers)
 

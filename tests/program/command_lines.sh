@@ -12,6 +12,7 @@ command_lines() {
     usage 0 output errors calls --help
     usage 0 output errors check --help
     usage 0 output errors wave --help
+    usage 0 output errors view --help
     usage 0 output errors smp --help
     usage 0 output errors list --help
 }
@@ -40,6 +41,9 @@ refused_lines() {
 	wave machine.cfg
 	wave machine.cfg trace.txt more
 	wave --show machine.cfg trace.txt
+	view machine.cfg
+	view machine.cfg trace.txt more
+	view --all machine.cfg trace.txt
 	list act_tsk sig_sem
 	smp machine.cfg scripts.txt
 	smp machine.cfg scripts.txt --ticks 0

@@ -6,12 +6,12 @@ help_texts() {
     # what each status means, wherever it is told, and which ones a command may end with
     local means=('done|yes|all ticks were taken' 'a fault in a text|a text has a fault' 'the command line is wrong'
         'output (could )?not be written' 'want of memory|memory ran out' '\bno\b|not the machine' 'turns')
-    local -A statuses=([calls]='0 1 2 3 4' [check]='0 1 2 3 4 5' [wave]='0 1 2 3 4 5' [smp]='0 1 2 3 4 6' [list]='0 2 3 4')
+    local -A statuses=([calls]='0 1 2 3 4' [check]='0 1 2 3 4 5' [wave]='0 1 2 3 4 5' [view]='0 1 2 3 4 5' [smp]='0 1 2 3 4 6' [list]='0 2 3 4')
     version=$(sed -nE 's/^\.TH FMPSIM 1 "" "(fmpsim [0-9.]+)" .*/\1/p' "$top/man/fmpsim.1")
     run 0 <(echo "$version") /dev/null --version
     unwritten --version
     unwritten --help
-    for command in calls check wave smp list; do
+    for command in calls check wave view smp list; do
         unwritten "$command" --help
         well=no
         play "$command" --help

@@ -14,6 +14,7 @@ ghost use Rattle.fmp_trace.specs.Reading.{GivesOrFails};
 
 use crate::checking::Verdict;
 use crate::walking::{Player, Stop, walk};
+use crate::watching::Nobody;
 use fmp_machine::Config;
 use fmp_text::{Names, TextFault};
 use fmp_trace::{next_line, put_number};
@@ -130,7 +131,7 @@ fn comparison_of(
         verdict: Verdict::Yes,
         lines: Vec::new(alloc),
     };
-    if let Some(stop) = walk(alloc, config, text)? {
+    if let Some(stop) = walk(alloc, config, text, &mut Nobody {})? {
         found.verdict = Verdict::No(stop.number);
         put_shown(&mut found.lines, shown, config.names(), stop)?;
     }

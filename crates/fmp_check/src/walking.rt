@@ -1,14 +1,17 @@
 //! Going over a trace as long as its lines are the plain machine's own.
-ghost use Rattle.std.specs.Prelude.{◌≡◌, ◌≤◌, ◌<◌, ◌+◌, [], length, IfOk, IfSome, OnOk, option_map};
+ghost use Rattle.std.specs.Prelude.{◌≡◌, ◌≤◌, ◌<◌, ◌+◌, [], length, true, None, Some, IfOk, IfSome, OnOk, option_map};
 ghost use Rattle.fmp_bytes.specs.Bytes.{pieces_of};
 ghost use Rattle.fmp_machine.specs.Arrivals.{numbered};
 ghost use Rattle.fmp_machine.specs.Boot.{booted};
 ghost use Rattle.fmp_safety.specs.Safe.{Safe};
 ghost use Rattle.fmp_text.specs.Limits.{most_bytes};
 ghost use Rattle.fmp_check.specs.Walking as spec;
+ghost use Rattle.fmp_check.specs.Watching.{watched_in};
 ghost use Rattle.fmp_trace.specs.Heads.{event_of as event_told};
 ghost use Rattle.fmp_trace.specs.Reading.{Passes, records_from, records_in};
 
+use crate::same::is_same;
+use crate::watching::Watcher;
 use fmp_codes::{Answer, Event, Proc, Record};
 use fmp_machine::Config;
 use fmp_plain::Plain;
@@ -44,6 +47,7 @@ impl Player {
         requires { self.old.plain.steps < 4294967295 }
         ensures same { IfOk result (λ same. same ≡ spec.prints_answer names.now self.old.plain.state n line.now (event_told names.now line.now)) }
         ensures own { OnOk result (self.new.own.items ≡ spec.own_core names.now self.old.plain.state n (event_told names.now line.now)) }
+        ensures told { IfOk result (λ same. same ≡ true → event_told names.now line.now ≡ Some self.new.told.event) }
         ensures state { self.new.plain.state ≡ spec.behind self.old.plain.state (event_told names.now line.now) }
         ensures steps { self.new.plain.steps ≤ self.old.plain.steps + 1 }
     {
@@ -53,7 +57,7 @@ impl Player {
             Some(event) => {
                 self.plain.step_into(event, &mut self.told);
                 put_core(&mut self.own, names, n, &self.told)?;
-                Ok(self.own.as_slice() == line)
+                Ok(is_same(self.own.as_slice(), line))
             }
         }
     }
@@ -69,14 +73,16 @@ pub(crate) struct Stop<'a> {
 }
 
 /// Goes over a text that is within the limit of bytes.
-fn walk_within<'a>(
+fn walk_within<'a, W: Watcher>(
     alloc: Global,
     config: &Config,
     text: &'a [u8],
+    watcher: &mut W,
 ) -> Result<Option<Stop<'a>>, TextFault>
     requires { length text.now ≤ most_bytes }
     ensures passes { Passes result (records_from config.now.names 1 (pieces_of 10 text.now)) }
     ensures stop { IfOk result (λ stop. option_map (λ s. spec.seen s.number s.line.now s.player.own.items s.player.plain.state (pieces_of 10 s.rest.now)) stop ≡ spec.stop_in config.now text.now) }
+    ensures watched { IfOk result (λ stop. stop ≡ None → watcher.new ≡ watched_in W.watched config.now text.now watcher.old) }
     ensures steps { IfOk result (λ stop. IfSome stop (λ s. s.player.plain.steps ≤ s.number)) }
     ensures left { IfOk result (λ stop. IfSome stop (λ s. s.number + length s.rest.now ≤ most_bytes)) }
 {
@@ -96,6 +102,7 @@ fn walk_within<'a>(
                 rest: after,
             }));
         }
+        watcher.watch(names, number, player.told.event, player.plain.machine())?;
         number += 1;
         rest = after;
     }
@@ -103,16 +110,18 @@ fn walk_within<'a>(
     Ok(None)
 }
 
-/// Goes over a text as long as its lines are the machine's own, and gives the first that is not. Lines of its own have no fault, since
+/// Goes over a text as long as its lines are the machine's own, which a watcher sees, and gives the first that is not. Lines of its own have no fault, since
 /// what the machine answers fits the names; from the first other line on the text is judged as any other.
 #[tactic(auto, unfolding(fmp_trace::specs::Reading::records_in))]
-pub(crate) fn walk<'a>(
+pub(crate) fn walk<'a, W: Watcher>(
     alloc: Global,
     config: &Config,
     text: &'a [u8],
+    watcher: &mut W,
 ) -> Result<Option<Stop<'a>>, TextFault>
     ensures passes { Passes result (records_in config.now.names text.now) }
     ensures stop { IfOk result (λ stop. option_map (λ s. spec.seen s.number s.line.now s.player.own.items s.player.plain.state (pieces_of 10 s.rest.now)) stop ≡ spec.stop_in config.now text.now) }
+    ensures watched { IfOk result (λ stop. stop ≡ None → watcher.new ≡ watched_in W.watched config.now text.now watcher.old) }
     ensures steps { IfOk result (λ stop. IfSome stop (λ s. s.player.plain.steps ≤ s.number)) }
     ensures left { IfOk result (λ stop. IfSome stop (λ s. s.number + length s.rest.now ≤ most_bytes)) }
 {
@@ -122,5 +131,5 @@ pub(crate) fn walk<'a>(
             line: 0,
         });
     }
-    walk_within(alloc, config, text)
+    walk_within(alloc, config, text, watcher)
 }

@@ -14,6 +14,7 @@ use Rattle.fmp_statements.specs.declared.fault.ConfigKind.TheVariants as faults
 use Rattle.fmp_tokens.specs.Lexing.{Lexeme, lexed_text}
 use Rattle.fmp_tokens.specs.declared.tokens.End.{End}
 use Rattle.fmp_tokens.specs.declared.tokens.End.TheVariants.{Bad, CutShort, Done}
+use Rattle.fmp_token_laws.proofs.Cuts.{cut_before}
 use Rattle.fmp_config_laws.specs.FirstFaults.{IsOfEnd, HaveNoFault, FaultAtToken, FirstFault}
 use Rattle.fmp_config_laws.proofs.Configured.{setup_read}
 use Rattle.fmp_config_laws.proofs.Results.{bind_parts, each-append, each-cons, each-none}
@@ -118,6 +119,7 @@ at_token text fault s =
       rest = s.rest;
       parts = s.parts;
       faultless = read_tokens s.before s.between s.read;
+      cut = cut_before text s.before s.token s.rest s.parts;
       never = λ other more c are says.
           no_fault c fault (sym (setup_read other c says) ∙ ap (λ (ts : List Lexeme). each take_token at_start ts >>= λ s. finished s (lexed_text other).end) are
           ∙ ap (λ (r : Result State Fault). r >>= λ s. finished s (lexed_text other).end) (goes more));

@@ -8,6 +8,7 @@ use Rattle.fmp_statements.specs.declared.fault.ConfigKind.TheVariants as faults
 use Rattle.fmp_tokens.specs.Lexing.{Lexeme, lexed_text}
 use Rattle.fmp_tokens.specs.declared.tokens.End.{End}
 use Rattle.fmp_tokens.specs.declared.tokens.End.TheVariants.{Bad, CutShort, Done}
+use Rattle.fmp_token_laws.specs.Cuts.{IsCutBehind}
 use Rattle.fmp_config_laws.specs.Grammar.{Configures}
 
 -- a fault of the end of the tokens: a byte that may not stand there, a string or a comment that is open, or else a statement or a class that is open, or no
@@ -23,14 +24,15 @@ HaveNoFault tokens =
     (first others : List Lexeme) (text : List ℕ) (fault : Fault) → tokens ≡ first ++ others → (lexed_text text).lexemes ≡ first → length text ≤ most_bytes → config_in text ≡ Err fault
     → IsOfEnd (lexed_text text).end fault
 
--- the fault is found at a token: those before it have none, no text with the same tokens up to this one says a configuration, and each of them, within the
--- limit, has this fault
+-- the fault is found at a token: those before it have none, and are the tokens of a beginning of the text, but for the end of a directive that is cut there;
+-- no text with the same tokens up to this one says a configuration, and each of them, within the limit, has this fault
 pub record FaultAtToken (text : List ℕ) (fault : Fault) : Type 0 where
   pub before : List Lexeme
   pub token : Lexeme
   pub rest : List Lexeme
   pub parts : (lexed_text text).lexemes ≡ before ++ (token ∷ rest)
   pub faultless : HaveNoFault before
+  pub cut : IsCutBehind text before
   pub never : (other : List ℕ) (more : List Lexeme) (c : Setup) → (lexed_text other).lexemes ≡ before ++ (token ∷ more) → Configures other c → ⊥
   pub told : (other : List ℕ) (more : List Lexeme) → (lexed_text other).lexemes ≡ before ++ (token ∷ more) → length other ≤ most_bytes → config_in other ≡ Err fault
 

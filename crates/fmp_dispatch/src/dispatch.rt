@@ -7,6 +7,8 @@ use crate::due::{Due, nothing_due};
 use arrayvec::ArrayVec;
 use fmp_codes::{Proc, Runner};
 use fmp_machine::Processor;
+use fmp_parts::{Digest, Part, add_all, are_same, copy_all};
+use fmp_same::{add_each, are_equal};
 use std::marker::Model;
 
 /// The processors in the order of their numbers, with the handlers that are due on each. There are at most 8.
@@ -140,5 +142,27 @@ impl Dispatch {
         ensures { self.new ≡ with_lock_in self.old p false }
     {
         self.set_locked(p, false);
+    }
+}
+
+impl Part for Dispatch {
+    ghost fits = { λ a b. length a.processors ≡ length b.processors };
+
+    fn is_same(&self, other: &Self) -> bool {
+        are_equal(self.processors.as_slice(), other.processors.as_slice())
+            && are_same(self.due.as_slice(), other.due.as_slice())
+    }
+
+    fn copy_from(&mut self, other: &Self) {
+        self.processors.clear();
+        self.processors
+            .try_extend_from_slice(other.processors.as_slice())
+            .unwrap();
+        copy_all(self.due.as_mut_slice(), other.due.as_slice());
+    }
+
+    fn add_to(&self, digest: &mut Digest) {
+        add_each(self.processors.as_slice(), digest);
+        add_all(self.due.as_slice(), digest);
     }
 }

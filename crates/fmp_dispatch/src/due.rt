@@ -4,6 +4,8 @@ ghost use Rattle.fmp_machine.specs.World.{first, rest};
 
 use arrayvec::ArrayVec;
 use fmp_codes::Runner;
+use fmp_parts::{Digest, Part};
+use fmp_same::{add_each, are_equal};
 use std::marker::Model;
 
 /// The handlers that are due on a processor, at most 64, in a ring from the oldest one on. The first one runs.
@@ -79,6 +81,31 @@ impl Default for Due {
             slots: [Runner::default(); 64],
             oldest: 0,
             len: 0,
+        }
+    }
+}
+
+impl Part for Due {
+    ghost fits = { λ a b. Unit {0} };
+
+    /// Whether the same handlers are due, wherever in the ring they stand.
+    fn is_same(&self, other: &Self) -> bool {
+        if self.len == 0 && other.len == 0 {
+            return true;
+        }
+        are_equal(self.list().as_slice(), other.list().as_slice())
+    }
+
+    fn copy_from(&mut self, other: &Self) {
+        self.slots = other.slots;
+        self.oldest = other.oldest;
+        self.len = other.len;
+    }
+
+    fn add_to(&self, digest: &mut Digest) {
+        digest.add(self.len as u64);
+        if 0 < self.len {
+            add_each(self.list().as_slice(), digest);
         }
     }
 }

@@ -7,7 +7,7 @@
 //! `Dtq::new` takes the memory for as many values as the configuration says. No other call allocates.
 #![tactic(auto)]
 
-ghost use Rattle.std.specs.Prelude.{◌≡◌, ◌≤◌, ◌<◌, ◌++◌, ◌∷◌, [], length, map, IfOk};
+ghost use Rattle.std.specs.Prelude.{◌≡◌, ◌≤◌, ◌<◌, ◌++◌, ◌∷◌, [], length, map, ℤ, Some, IfOk, IsTrue};
 ghost use Rattle.fmp_machine.specs.World.{first, rest};
 ghost use Rattle.fmp_links.specs.Tasks.{AreDistinct};
 ghost use Rattle.fmp_waitq.specs.Queue.{task_of, has_waiter, left_by, joined_by, waiter_of};
@@ -20,6 +20,8 @@ use arrayvec::ArrayVec;
 use circular_buffer::HeapCircularBuffer;
 use fmp_codes::{Pri, Task};
 use fmp_machine::{DataQueueSetup, Order};
+use fmp_parts::{Digest, Part};
+use fmp_same::Same;
 use fmp_waitq::WaitQueue;
 pub use operations::{Forced, Received, Sent};
 use std::alloc::{AllocError, Global};
@@ -159,5 +161,69 @@ impl Dtq {
         ensures distinct { AreDistinct (map task_of self.now.receivers) }
     {
         self.receivers.list()
+    }
+}
+
+/// Whether there are two values, and they are the same.
+fn are_both(one: Option<i64>, other: Option<i64>) -> bool
+    ensures { IsTrue result → (v : ℤ) × (one ≡ Some v) × (other ≡ Some v) }
+{
+    match (one, other) {
+        (Some(one), Some(other)) => one == other,
+        _ => false,
+    }
+}
+
+/// Whether two rings have the same values.
+#[tactic(auto, using(crate::proofs::Values::one_more))]
+fn are_same_values(one: &HeapCircularBuffer<i64>, other: &HeapCircularBuffer<i64>) -> bool
+    ensures { IsTrue result → one.now.items ≡ other.now.items }
+{
+    if one.len() != other.len() {
+        return false;
+    }
+    for at in 0..one.len() {
+        if !are_both(one.get(at).copied(), other.get(at).copied()) {
+            return false;
+        }
+    }
+    true
+}
+
+/// A ring gets the values of another one, for which it has the places.
+fn copy_values(values: &mut HeapCircularBuffer<i64>, others: &HeapCircularBuffer<i64>)
+    requires { length others.now.items ≤ values.old.capacity }
+    ensures items { values.new.items ≡ others.now.items }
+    ensures capacity { values.new.capacity ≡ values.old.capacity }
+{
+    let (front, back) = others.as_slices();
+    values.clear();
+    values.fill_from_slice(front);
+    values.fill_from_slice(back);
+}
+
+impl Part for Dtq {
+    ghost fits = { λ a b. b.setup.capacity ≤ a.setup.capacity };
+
+    fn is_same(&self, other: &Self) -> bool {
+        are_same_values(&self.values, &other.values)
+            && self.senders.is_same(&other.senders)
+            && self.receivers.is_same(&other.receivers)
+            && self.setup.is_same(&other.setup)
+    }
+
+    fn copy_from(&mut self, other: &Self) {
+        self.setup = other.setup;
+        copy_values(&mut self.values, &other.values);
+        self.senders.copy_from(&other.senders);
+        self.receivers.copy_from(&other.receivers);
+    }
+
+    fn add_to(&self, digest: &mut Digest) {
+        for value in self.values.iter() {
+            digest.add(value.cast_unsigned());
+        }
+        self.senders.add_to(digest);
+        self.receivers.add_to(digest);
     }
 }

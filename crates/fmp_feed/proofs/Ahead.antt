@@ -26,6 +26,7 @@ unfolding ahead
 taken_off names old tail scan fine is_tail scans whole = record {
   ahead = λ more. rw fine (rw is_tail at (scans (old.dropped || nat_lt most_bytes (old.taken + length (coming old.ended more))) old.events (take (most_bytes - old.taken) (coming old.ended more))));
   whole = λ none. rw is_tail at (whole none);
+  end = record { taken = scan.used; is = refl };
   others = refl;
 }
 

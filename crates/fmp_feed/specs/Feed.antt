@@ -73,10 +73,16 @@ rest_fault f =
     if f.dropped then Some (too_many 0)
     else (if f.ended && not (is_skipped f.rest) then Some (record { kind = CutShort; line = f.lines + 1 }) else None)
 
+-- bytes that are left of others, of which some were taken off the front
+pub record IsEndOf (all rest : List ℕ) : Type 0 where
+  pub taken : ℕ
+  pub is : rest ≡ drop taken all
+
 -- the whole lines that are skipped, and the next one that is not, are taken off, and that one says this
 pub record TakesOff (names : NameLists) (old : Feed) (said : Result (Option Event) TextKind) (new : Feed) : Type 0 where
   pub ahead : (more : List ℕ) → ahead names old more ≡ after_line new.lines old.events said (ahead names new more) (ahead names (record new { events = old.events + 1 }) more)
   pub whole : said ≡ Ok None → HasNoFeed new.rest
+  pub end : IsEndOf old.rest new.rest
   pub others : new ≡ record old { rest = new.rest; lines = new.lines }
 
 -- what a feed answers is a prefix of what was ahead of it, and the rest is ahead of the feed that is left
@@ -94,6 +100,10 @@ pub record IsWanting (f : Feed) : Type 0 where
   pub fine : f.fault ≡ None
   pub no_line : HasNoFeed f.rest
   pub all_taken : f.dropped ≡ false
+
+-- no line of these bytes has more than so many, its line feed left out
+abbrev pub HasLinesWithin : ℕ → List ℕ → Type 0
+HasLinesWithin most bytes = (before line behind : List ℕ) → bytes ≡ before ++ (line ++ behind) → HasNoFeed line → length line ≤ most
 
 -- what every feed keeps of its numbers
 pub record IsFeed (rest lines events taken : ℕ) (dropped : Bool) : Type 0 where

@@ -3,7 +3,7 @@ ghost use Rattle.std.specs.Prelude.{◌≡◌, ◌+◌, ◌-◌, ◌*◌, ◌<�
 ghost use Rattle.fmp_calls.specs.Arguments.{EventInBits};
 ghost use Rattle.fmp_codes.specs.Records.{processor_of};
 ghost use Rattle.fmp_text.specs.Limits.{most_bytes, most_events};
-ghost use Rattle.fmp_feed.specs.Feed.{TakesOff, Gives, IsDone, IsWanting, closed, failed, first_room, new_feed, pushed, rest_fault, too_many, want_of_memory};
+ghost use Rattle.fmp_feed.specs.Feed.{TakesOff, Gives, IsDone, IsEndOf, IsWanting, closed, failed, first_room, new_feed, pushed, rest_fault, too_many, want_of_memory};
 
 use crate::scan::next_said;
 use fmp_codes::Event;
@@ -200,6 +200,8 @@ impl EventFeed {
         ensures same { (self.new.ended ≡ self.old.ended) × (self.new.taken ≡ self.old.taken) × (self.new.dropped ≡ self.old.dropped) }
         ensures counts { IfOk result (λ found. self.new.events ≡ self.old.events + (if is_some found then 1 else 0)) }
         ensures few { self.new.events ≤ most_events }
+        // Bytes are only taken off the front.
+        ensures rest { OnOk result (IsEndOf self.old.rest self.new.rest) }
         // The event is on a processor of the names, and its arguments are within the bits of their kinds.
         ensures on { IfOk result (λ found. IfSome found (λ event. (processor_of event).number ≤ names.now.processors)) }
         ensures in_bits { IfOk result (λ found. IfSome found EventInBits) }

@@ -19,6 +19,8 @@ mod wanted;
 use arrayvec::ArrayVec;
 use fmp_codes::{Pri, Task};
 use fmp_machine::{Eventflag, EventflagSetup};
+use fmp_parts::{Digest, Part};
+use fmp_same::Same;
 use fmp_waitq::WaitQueue;
 use std::marker::Model;
 pub use wanted::Wanted;
@@ -101,5 +103,26 @@ impl Flag {
         ensures distinct { AreDistinct (map task_of self.now.waiters) }
     {
         self.queue.list()
+    }
+}
+
+impl Part for Flag {
+    ghost fits = { λ a b. Unit {0} };
+
+    fn is_same(&self, other: &Self) -> bool {
+        self.pattern == other.pattern
+            && self.queue.is_same(&other.queue)
+            && self.setup.is_same(&other.setup)
+    }
+
+    fn copy_from(&mut self, other: &Self) {
+        self.setup = other.setup;
+        self.pattern = other.pattern;
+        self.queue.copy_from(&other.queue);
+    }
+
+    fn add_to(&self, digest: &mut Digest) {
+        digest.add(u64::from(self.pattern));
+        self.queue.add_to(digest);
     }
 }

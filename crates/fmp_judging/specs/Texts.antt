@@ -57,8 +57,6 @@ pub record CountsReads {T : Type 0} (result : Result T RunFault) (first_old firs
   pub first : first_old ≤ first_new
   pub second : second_old ≤ second_new
 
--- of two readers at most one read failed
-pub record FailsOnce (first_old first_new second_old second_new : ℕ) : Type 0 where
-  pub sum : first_new + second_new ≤ first_old + second_old + 1
-  pub first : first_old ≤ first_new
-  pub second : second_old ≤ second_new
+-- Where a run ended with a failed write or flush: no read failed, or one did, and behind it only the flush, so that this is so.
+abbrev pub FlushFails : ℕ → ℕ → Type 0 → Type 0
+FlushFails old new Whole = (new ≡ old) ⊎ ((new ≡ old + 1) × Whole)

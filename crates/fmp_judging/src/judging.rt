@@ -1,7 +1,6 @@
 //! A trace that is read and judged.
-ghost use Rattle.std.specs.Prelude.{◌≡◌, ℕ, ◌+◌, ◌-◌, ◌^◌, ◌<◌, ◌≤◌, List, [], length, OnOk, IfOk, IfErr, false, if◌then◌else◌};
+ghost use Rattle.std.specs.Prelude.{◌≡◌, ℕ, ◌+◌, ◌-◌, ◌^◌, ◌<◌, List, [], OnOk, IfOk, IfErr, false, if◌then◌else◌};
 ghost use Rattle.fmp_codes.specs.declared.records.Event.{Event as AnyEvent};
-ghost use Rattle.fmp_text.specs.Limits.{most_bytes as MOST_BYTES};
 ghost use Rattle.fmp_check.specs.Checking.{Judges, PrintsAnswers};
 ghost use Rattle.fmp_devices.specs.Devices.{IsKnown, bytes_of};
 ghost use Rattle.fmp_judging.specs.Faults.{failed_read, failed_write, is_config, is_write, is_thread_fault};
@@ -63,7 +62,7 @@ pub fn judged_texts<R: Source, S: Source>(
     ensures judged { IfOk result (λ judged. Judges judged.config judged.text.items judged.verdict) }
     ensures checked { IsKnown (R.left config.old) → IsKnown (S.left trace.old) → IfOk result (λ judged. Checked (bytes_of (R.left config.old)) (bytes_of (S.left trace.old)) judged.verdict) }
     ensures answers { IsKnown (R.left config.old) → IsKnown (S.left trace.old) → (event_text : List ℕ) → Answered (bytes_of (R.left config.old)) event_text (bytes_of (S.left trace.old))
-        → length (bytes_of (S.left trace.old)) ≤ MOST_BYTES → IsYes (verdict_in result) }
+        → IsYes (verdict_in result) }
     ensures own { IsKnown (R.left config.old) → IsKnown (S.left trace.old) → IsOwn (bytes_of (R.left config.old)) (bytes_of (S.left trace.old)) → IsYes (verdict_in result) }
     ensures config_read { IsKnown (R.left config.old) → OnOk result (bytes_of (R.left config.new) ≡ []) }
     ensures trace_read { IsKnown (S.left trace.old) → OnOk result (bytes_of (S.left trace.new) ≡ []) }

@@ -1,5 +1,5 @@
 //! The kernel, which stands for a safe state of the model.
-ghost use Rattle.std.specs.Prelude.{◌≡◌, ◌≤◌, length, IfOk};
+ghost use Rattle.std.specs.Prelude.{◌≡◌, ◌≤◌, ◌↔◌, false, length, IfOk, IsTrue};
 ghost use Rattle.fmp_machine.specs.Boot as machine;
 ghost use Rattle.fmp_machine.specs.Boot.{booted};
 ghost use Rattle.fmp_setup.specs.Valid.{IsValid};
@@ -11,10 +11,12 @@ ghost use Rattle.fmp_safety.specs.Laws.{FindsNothing, TakesRequest, RunsTop};
 ghost use Rattle.fmp_queues.specs.Queues.{listed, no_queues};
 ghost use Rattle.fmp_lists.specs.Stands.{Stands};
 ghost use Rattle.fmp_lists.specs.Laws.{ListsAreRight};
+ghost use Rattle.fmp_kernel_rows.specs.Alike.{AreAlike};
 
 use fmp_codes::{Answer, Event, Record};
 use fmp_kernel_rows::Machine;
 use fmp_machine::Config;
+use fmp_parts::{Digest, Part};
 use fmp_step::{boot, step_into};
 use std::alloc::AllocError;
 use std::marker::Model;
@@ -92,5 +94,34 @@ impl Kernel {
         ensures top { RunsTop listed self.old event told.new self.new }
     {
         step_into(&mut self.machine, event, told);
+    }
+    /// Whether it is the same as another kernel, so that both answer all events alike. Where it says no, contracts may see the
+    /// same all the same.
+    pub fn is_same(&self, other: &Kernel) -> bool
+        ensures { IsTrue result → self.now ≡ other.now }
+    {
+        self.machine.is_same(&other.machine)
+    }
+
+    /// Becomes as another kernel is, in the memory that it has, and tells whether it did. It does where both have as many
+    /// processors and objects of each kind, and the same data queues, as all kernels of one configuration have.
+    pub fn copy_from(&mut self, other: &Kernel) -> bool
+        ensures copied { IsTrue result → self.new ≡ other.now }
+        ensures refused { result ≡ false → self.new ≡ self.old }
+        ensures alike { IsTrue result ↔ AreAlike self.old other.now }
+    {
+        if !self.machine.is_alike(&other.machine) {
+            return false;
+        }
+        self.machine.copy_from(&other.machine);
+        true
+    }
+
+    /// A number that is the same for kernels that are the same. Others may have the same number too, so no answer may depend
+    /// on it.
+    pub fn hash(&self) -> u64 {
+        let mut digest = Digest::new();
+        self.machine.add_to(&mut digest);
+        digest.value()
     }
 }

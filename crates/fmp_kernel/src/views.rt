@@ -2,7 +2,7 @@
 //! stands.
 ghost use Rattle.std.specs.Prelude.{◌≡◌, ◌≤◌, [], None, length};
 ghost use Rattle.fmp_machine.specs.Due.{IsNextDue};
-ghost use Rattle.fmp_machine.specs.World.{item, task, processor, handler, is_held};
+ghost use Rattle.fmp_machine.specs.World.{item, task, processor, handler, is_held, runner_of};
 ghost use Rattle.fmp_machine.specs.Ordering.{top, queue};
 ghost use Rattle.fmp_machine.specs.Arrivals.{State, numbered};
 ghost use Rattle.fmp_queues.specs.Queues.{listed};
@@ -71,6 +71,17 @@ impl Kernel {
         ensures model { (m : State) → Stands self.now m → result ≡ handler m p }
     {
         self.machine.handler(p)
+    }
+
+    /// Who makes the calls from a processor: the due handler, else the running task.
+    pub fn runner(&self, p: Proc) -> Option<Runner>
+        ensures lists { result ≡ runner_of self.now p }
+        ensures model { (m : State) → Stands self.now m → result ≡ runner_of m p }
+    {
+        match self.handler(p) {
+            Some(handler) => Some(handler),
+            None => self.running(p).map(Runner::Task),
+        }
     }
 
     /// The handlers that are due on a processor, the running one first.

@@ -1,5 +1,5 @@
 -- All objects for which tasks wait, with their wait queues.
-use Rattle.std.specs.Prelude.{ℤ, List}
+use Rattle.std.specs.Prelude.{◌≡◌, ℤ, List, length}
 use Rattle.fmp_codes.specs.declared.numbers.Object.{Object}
 use Rattle.fmp_setup.specs.declared.setup.Order.{Order}
 use Rattle.fmp_setup.specs.declared.setup.Order.TheVariants as order
@@ -24,6 +24,13 @@ pub record AllObjects : Type 0 where
   pub contents : List (List ℤ)  -- the values of each data queue, the oldest first
   pub pools : List Pool
   pub waits : WaitQueues
+
+-- as many objects of each kind, and the same data queues: the one has the places for what is in the other
+pub record AreAlike (a b : AllObjects) : Type 0 where
+  pub semaphores : length a.semaphores ≡ length b.semaphores
+  pub eventflags : length a.eventflags ≡ length b.eventflags
+  pub data_queues : a.data_queues ≡ b.data_queues
+  pub pools : length a.pools ≡ length b.pools
 
 -- those of a state
 abbrev pub objects_of : World Queues → AllObjects

@@ -1,5 +1,5 @@
 //! All data queues.
-ghost use Rattle.std.specs.Prelude.{◌≡◌, ◌≤◌, ◌<◌, ◌++◌, ◌∷◌, [], length, map, slice_index_or, slice_set, IfOk};
+ghost use Rattle.std.specs.Prelude.{◌≡◌, ◌≤◌, ◌<◌, ◌++◌, ◌∷◌, [], length, map, slice_index_or, slice_set, IfOk, IsTrue, ◌↔◌};
 ghost use Rattle.fmp_machine.specs.Objects.{no_data_queue};
 ghost use Rattle.fmp_machine.specs.World.{first, rest, item, with_item};
 ghost use Rattle.fmp_setup.specs.declared.setup.Order.TheVariants as order;
@@ -10,6 +10,7 @@ use arrayvec::ArrayVec;
 use fmp_codes::{Object, Pri, Task};
 use fmp_dtq::Dtq;
 use fmp_machine::DataQueueSetup;
+use fmp_parts::{Digest, Part, add_all, are_same, copy_all};
 use std::alloc::{AllocError, Global};
 use std::marker::Model;
 
@@ -91,6 +92,28 @@ fn leave_receivers_at(items: &mut Vec<Dtq>, index: usize, task: Task)
     }
 }
 
+/// Whether the configurations say the same of two data queues.
+fn have_same_setup(queue: &Dtq, other: &Dtq) -> bool
+    ensures { IsTrue result ↔ (queue.now.setup ≡ other.now.setup) }
+{
+    queue.setup() == other.setup()
+}
+
+/// Whether the configurations say the same of two lists of data queues.
+fn are_same_setups(queues: &[Dtq], others: &[Dtq]) -> bool
+    ensures { IsTrue result ↔ (map (λ q. q.setup) queues.now ≡ map (λ q. q.setup) others.now) }
+{
+    if queues.len() != others.len() {
+        return false;
+    }
+    for at in 0..queues.len() {
+        if !have_same_setup(&queues[at], &others[at]) {
+            return false;
+        }
+    }
+    true
+}
+
 impl DataQueues {
     /// Those of a configuration, without values and waiters.
     pub(crate) fn new(alloc: Global, setups: &[DataQueueSetup]) -> Result<Self, AllocError>
@@ -115,6 +138,13 @@ impl DataQueues {
         ensures few { result ≤ 32 }
     {
         self.items.len()
+    }
+
+    /// Whether the configurations say the same of both.
+    pub(crate) fn have_same_setups(&self, other: &Self) -> bool
+        ensures { IsTrue result ↔ (self.now.setups ≡ other.now.setups) }
+    {
+        are_same_setups(self.items.as_slice(), other.items.as_slice())
     }
 
     /// What the configuration says of one.
@@ -240,5 +270,21 @@ impl DataQueues {
             self.new ≡ record self.old { receivers = with_item self.old.receivers o.number (left_by task waiters) } }
     {
         leave_receivers_at(&mut self.items, o.index(), task);
+    }
+}
+
+impl Part for DataQueues {
+    ghost fits = { λ a b. a.setups ≡ b.setups };
+
+    fn is_same(&self, other: &Self) -> bool {
+        are_same(self.items.as_slice(), other.items.as_slice())
+    }
+
+    fn copy_from(&mut self, other: &Self) {
+        copy_all(self.items.as_mut_slice(), other.items.as_slice());
+    }
+
+    fn add_to(&self, digest: &mut Digest) {
+        add_all(self.items.as_slice(), digest);
     }
 }

@@ -9,6 +9,7 @@ use arrayvec::ArrayVec;
 use fmp_codes::{Object, Pri, Task};
 use fmp_flag::Flag;
 use fmp_machine::{Eventflag, EventflagSetup};
+use fmp_parts::{Digest, Part, add_all, are_same, copy_all};
 use std::alloc::{AllocError, Global};
 use std::marker::Model;
 
@@ -139,5 +140,21 @@ impl Eventflags {
             self.new ≡ record self.old { waiters = with_item self.old.waiters o.number (left_by task waiters) } }
     {
         leave_at(&mut self.items, o.index(), task);
+    }
+}
+
+impl Part for Eventflags {
+    ghost fits = { λ a b. length a.eventflags ≡ length b.eventflags };
+
+    fn is_same(&self, other: &Self) -> bool {
+        are_same(self.items.as_slice(), other.items.as_slice())
+    }
+
+    fn copy_from(&mut self, other: &Self) {
+        copy_all(self.items.as_mut_slice(), other.items.as_slice());
+    }
+
+    fn add_to(&self, digest: &mut Digest) {
+        add_all(self.items.as_slice(), digest);
     }
 }

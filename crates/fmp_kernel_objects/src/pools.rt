@@ -10,6 +10,7 @@ use arrayvec::ArrayVec;
 use fmp_codes::{Object, Pri, Task};
 use fmp_machine::{Order, PoolSetup};
 use fmp_mpf::Mpf;
+use fmp_parts::{Digest, Part, add_all, are_same, copy_all};
 use std::alloc::{AllocError, Global};
 use std::marker::Model;
 
@@ -164,5 +165,21 @@ impl Pools {
             self.new ≡ record self.old { waiters = with_item self.old.waiters o.number (left_by task waiters) } }
     {
         leave_at(&mut self.items, o.index(), task);
+    }
+}
+
+impl Part for Pools {
+    ghost fits = { λ a b. length a.pools ≡ length b.pools };
+
+    fn is_same(&self, other: &Self) -> bool {
+        are_same(self.items.as_slice(), other.items.as_slice())
+    }
+
+    fn copy_from(&mut self, other: &Self) {
+        copy_all(self.items.as_mut_slice(), other.items.as_slice());
+    }
+
+    fn add_to(&self, digest: &mut Digest) {
+        add_all(self.items.as_slice(), digest);
     }
 }

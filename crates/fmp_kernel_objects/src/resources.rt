@@ -1,12 +1,12 @@
 //! All objects for which tasks wait.
-ghost use Rattle.std.specs.Prelude.{◌≡◌, ◌≤◌, ◌<◌, ◌≤ℤ◌, ◌++◌, ◌∷◌, [], pos, not, length, map, take, slice_set, IfOk, IsTrue};
+ghost use Rattle.std.specs.Prelude.{◌≡◌, ◌≤◌, ◌<◌, ◌≤ℤ◌, ◌++◌, ◌∷◌, [], pos, not, length, map, take, slice_set, IfOk, IsTrue, ◌↔◌};
 ghost use Rattle.std.specs.List.{position};
 ghost use Rattle.fmp_machine.specs.Objects.{blank_semaphore, blank_eventflag, no_data_queue, blank_pool};
 ghost use Rattle.fmp_machine.specs.World.{first, rest, item, with_item};
 ghost use Rattle.fmp_waitq.specs.Queue.{task_of, left_by, joined_by, waiter_of};
 ghost use Rattle.fmp_queues.specs.Queues.{queue, place_of, place_in, changed};
 ghost use Rattle.fmp_kernel_objects.specs.Kinds.{is_handed_in};
-ghost use Rattle.fmp_kernel_objects.specs.Objects.{blank_objects, order_for};
+ghost use Rattle.fmp_kernel_objects.specs.Objects.{blank_objects, order_for, AreAlike};
 
 use crate::data_queues::DataQueues;
 use crate::eventflags::Eventflags;
@@ -15,6 +15,7 @@ use crate::semaphores::Semaphores;
 use arrayvec::ArrayVec;
 use fmp_codes::{Object, Pri, Task};
 use fmp_machine::{Config, DataQueueSetup, Eventflag, Order, QueueKind, Semaphore, Wait};
+use fmp_parts::{Digest, Part};
 use std::alloc::AllocError;
 use std::marker::Model;
 
@@ -61,6 +62,17 @@ impl Resources {
             data_queues: DataQueues::new(alloc, config.data_queues())?,
             pools: Pools::new(alloc, config.pools())?,
         })
+    }
+
+    /// Whether there are as many objects of each kind, and the same data queues, so that these become as the others are without
+    /// taking memory.
+    pub fn is_alike(&self, other: &Resources) -> bool
+        ensures { IsTrue result ↔ AreAlike self.now other.now }
+    {
+        self.semaphores.len() == other.semaphores.len()
+            && self.eventflags.len() == other.eventflags.len()
+            && self.pools.len() == other.pools.len()
+            && self.data_queues.have_same_setups(&other.data_queues)
     }
 
     // ---- waiting
@@ -264,5 +276,30 @@ impl Resources {
             self.new ≡ record self.old { pools = with_item self.old.pools m.number (record pool { handed = slice_set pool.handed block handed }) } }
     {
         self.pools.set_handed(m, block, handed);
+    }
+}
+
+impl Part for Resources {
+    ghost fits = { AreAlike };
+
+    fn is_same(&self, other: &Self) -> bool {
+        self.semaphores.is_same(&other.semaphores)
+            && self.eventflags.is_same(&other.eventflags)
+            && self.data_queues.is_same(&other.data_queues)
+            && self.pools.is_same(&other.pools)
+    }
+
+    fn copy_from(&mut self, other: &Self) {
+        self.semaphores.copy_from(&other.semaphores);
+        self.eventflags.copy_from(&other.eventflags);
+        self.data_queues.copy_from(&other.data_queues);
+        self.pools.copy_from(&other.pools);
+    }
+
+    fn add_to(&self, digest: &mut Digest) {
+        self.semaphores.add_to(digest);
+        self.eventflags.add_to(digest);
+        self.data_queues.add_to(digest);
+        self.pools.add_to(digest);
     }
 }

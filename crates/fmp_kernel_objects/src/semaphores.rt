@@ -8,6 +8,7 @@ ghost use Rattle.fmp_kernel_objects.specs.Kinds.{no_semaphore};
 use arrayvec::ArrayVec;
 use fmp_codes::{Object, Pri, Task};
 use fmp_machine::{Semaphore, SemaphoreSetup};
+use fmp_parts::{Digest, Part, add_all, are_same, copy_all};
 use fmp_sem::Sem;
 use std::alloc::{AllocError, Global};
 use std::marker::Model;
@@ -139,5 +140,21 @@ impl Semaphores {
             self.new ≡ record self.old { waiters = with_item self.old.waiters o.number (left_by task waiters) } }
     {
         leave_at(&mut self.items, o.index(), task);
+    }
+}
+
+impl Part for Semaphores {
+    ghost fits = { λ a b. length a.semaphores ≡ length b.semaphores };
+
+    fn is_same(&self, other: &Self) -> bool {
+        are_same(self.items.as_slice(), other.items.as_slice())
+    }
+
+    fn copy_from(&mut self, other: &Self) {
+        copy_all(self.items.as_mut_slice(), other.items.as_slice());
+    }
+
+    fn add_to(&self, digest: &mut Digest) {
+        add_all(self.items.as_slice(), digest);
     }
 }

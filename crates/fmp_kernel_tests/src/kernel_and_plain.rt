@@ -63,12 +63,12 @@ const HANDLERS: &str = "
 
 /// A timer, and the class of the handlers.
 #[derive(Clone, Copy)]
-struct Time {
+pub struct Time {
     timer: &'static str,
     class: &'static str,
 }
 
-const LOCAL: Time = Time {
+pub const LOCAL: Time = Time {
     timer: "",
     class: "CLASS(C1) {",
 };
@@ -88,7 +88,7 @@ const KINDS: [QueueKind; 5] = [
 ];
 
 /// The configuration of a machine with so many processors, from 1.
-fn machine(alloc: Global, processors: usize, time: Time) -> Result<Vec<u8>, AllocError> {
+pub fn machine(alloc: Global, processors: usize, time: Time) -> Result<Vec<u8>, AllocError> {
     let mut text = Vec::new(alloc);
     if let Some(classes) = CLASSES.get(processors.saturating_sub(1)) {
         text.extend_from_slice(classes.as_bytes())?;
@@ -152,7 +152,7 @@ fn same_views(kernel: &Kernel, plain: &Plain) -> bool {
         && (1..=3u8).all(|n| same_queues(kernel, plain, Object::new(n)))
 }
 
-fn same_record(a: &Record, b: &Record) -> bool {
+pub fn same_record(a: &Record, b: &Record) -> bool {
     a.event == b.event
         && a.runner == b.runner
         && a.answer == b.answer
@@ -164,7 +164,7 @@ fn same_record(a: &Record, b: &Record) -> bool {
 }
 
 /// One of so many processors, and rather one that does something.
-fn busy_processor(random: &mut RandomEvents, kernel: &Kernel, processors: usize) -> Proc
+pub fn busy_processor(random: &mut RandomEvents, kernel: &Kernel, processors: usize) -> Proc
     requires some { 0 < processors }
     requires most { processors ≤ 8 }
     ensures { result.number ≤ processors }
@@ -176,7 +176,7 @@ fn busy_processor(random: &mut RandomEvents, kernel: &Kernel, processors: usize)
     Proc::from_index(random.below(processors))
 }
 
-fn standing(kernel: &Kernel, p: Proc) -> Standing {
+pub fn standing(kernel: &Kernel, p: Proc) -> Standing {
     if kernel.handler(p).is_some() {
         Standing::Handler
     } else if kernel.held(p) {

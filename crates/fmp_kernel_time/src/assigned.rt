@@ -13,11 +13,14 @@ ghost use Rattle.fmp_kernel_time.specs.Starting.{first_cyclic, first_alarm};
 use crate::counting::{count_down, follow, least, set_left};
 use crate::expired::{objects_among, tasks_among};
 use crate::handlers::{
-    assign_alarm_at, assign_cyclic_at, first_alarms, first_cyclics, first_timers,
+    assign_alarm_at, assign_cyclic_at, copy_alarms, copy_cyclics, first_alarms, first_cyclics,
+    first_timers,
 };
 use arrayvec::ArrayVec;
 use fmp_codes::{Object, Proc, Task};
 use fmp_machine::{Alarm, Config, Cyclic, TaskRecord, Timer};
+use fmp_parts::{Digest, Part};
+use fmp_same::{Same, add_each, are_equal};
 use fmp_task::Tasks;
 use fmp_time::{Item, Timers};
 use std::marker::Model;
@@ -264,5 +267,32 @@ impl Assigned {
         ensures { result.items ≡ expired self.now.cyclics_left self.now.cyclics }
     {
         objects_among(self.cyclics.len(), self.timers.due_cyclics().as_slice())
+    }
+}
+
+impl Part for Assigned {
+    ghost fits = { λ a b. Unit {0} };
+
+    fn is_same(&self, other: &Self) -> bool {
+        self.tasks.is_same(&other.tasks)
+            && self.timers.is_same(&other.timers)
+            && are_equal(self.cyclics.as_slice(), other.cyclics.as_slice())
+            && are_equal(self.alarms.as_slice(), other.alarms.as_slice())
+            && self.timer.is_same(&other.timer)
+    }
+
+    fn copy_from(&mut self, other: &Self) {
+        self.timer = other.timer;
+        self.tasks.copy_from(&other.tasks);
+        copy_cyclics(&mut self.cyclics, &other.cyclics);
+        copy_alarms(&mut self.alarms, &other.alarms);
+        self.timers.copy_from(&other.timers);
+    }
+
+    fn add_to(&self, digest: &mut Digest) {
+        self.tasks.add_to(digest);
+        add_each(self.cyclics.as_slice(), digest);
+        add_each(self.alarms.as_slice(), digest);
+        self.timers.add_to(digest);
     }
 }

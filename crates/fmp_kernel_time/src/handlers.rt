@@ -72,3 +72,19 @@ pub(crate) fn assign_alarm_at(alarms: &mut ArrayVec<Alarm, 32>, index: usize, p:
         alarm.assigned = p;
     }
 }
+
+/// Cyclic handlers become as others are.
+pub(crate) fn copy_cyclics(cyclics: &mut ArrayVec<Cyclic, 32>, others: &ArrayVec<Cyclic, 32>)
+    ensures { cyclics.new.items ≡ others.now.items }
+{
+    cyclics.clear();
+    cyclics.try_extend_from_slice(others.as_slice()).unwrap();
+}
+
+/// Alarms become as others are.
+pub(crate) fn copy_alarms(alarms: &mut ArrayVec<Alarm, 32>, others: &ArrayVec<Alarm, 32>)
+    ensures { alarms.new.items ≡ others.now.items }
+{
+    alarms.clear();
+    alarms.try_extend_from_slice(others.as_slice()).unwrap();
+}

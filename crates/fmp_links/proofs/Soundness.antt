@@ -263,6 +263,30 @@ list_at-replicate zero i = refl
 list_at-replicate (suc count) zero = refl
 list_at-replicate (suc count) (suc i) = list_at-replicate count i
 
+-- the link of an item that stands nowhere is free
+pub sound_free : {items : ℕ} {n p w : List ℕ} {q : List (List ℕ)} → IsSound items n p w q → (t v : ℕ) → t < items → slice_index w t ≡ 0 → IsSound items (set n t v) p w q
+sound_free {items} {n} {p} {w} {q} s t v low free = record {
+  chained = λ j h. frame (slice_index n) (slice_index p) (slice_index (set n t v)) (slice_index p) (items + j) (list_at q j) (items + j)
+      (λ k g. get_or-set_other n t k v 0 (apart j k g)) (λ k g. refl) (s.chained j h);
+  apart = s.apart;
+  stands = s.stands;
+  next_count = length-set n t v ∙ s.next_count;
+  prev_count = s.prev_count;
+  place_count = s.place_count;
+}
+  where
+    apart : (j k : ℕ) → has k ((items + j) ∷ list_at q j) ≡ true → k ≡ t → ⊥
+    apart j k g f =
+        ⊎_elim (λ (a : k ≡ items + j). omega (arith, a, f, low))
+        (λ (a : has k (list_at q j) ≡ true). let x = nowhere s t free j in let y : has t (list_at q j) ≡ true = subst (λ (z : ℕ). has z (list_at q j) ≡ true) f a in cc)
+        (in_ring k (items + j) (list_at q j) g)
+
+-- an item is taken out, and its link is its own
+pub sound_out : (items : ℕ) (n p w : List ℕ) (q : List (List ℕ)) (i t : ℕ) → IsSound items n p w q → slice_index w t ≡ suc i → t < items →
+    IsSound items (set (set n (slice_index p t) (slice_index n t)) t t) (set p (slice_index n t) (slice_index p t)) (set w t 0) (take_out q t)
+sound_out items n p w q i t s at low =
+    sound_free (sound_remove items n p w q i t s at) t t low (get_or-set_same w t 0 0 (omega (arith, low, s.place_count)))
+
 -- each head links to itself
 pub sound_new : (items count : ℕ) (n p w : List ℕ) → length n ≡ items + count → length p ≡ items + count → length w ≡ items →
     ((k : ℕ) → k < items + count → slice_index n k ≡ k) → ((k : ℕ) → k < items + count → slice_index p k ≡ k) → ((t : ℕ) → slice_index w t ≡ 0) →

@@ -4,11 +4,13 @@ ghost use Rattle.std.specs.Option.{option_eq};
 ghost use Rattle.fmp_links.specs.Lists.{has, list_at, first_of, push_last, insert_before, take_out, rotated, AreDisjoint};
 ghost use Rattle.fmp_links.specs.Rings.{item_at};
 
+use fmp_parts::{Digest, Part};
 use std::marker::Model;
 
 /// Lists of the items below `ITEMS`, as many as there are nodes beyond the items. Each item stands in at most one, once.
 #[derive(Drop)]
 pub struct Links<const NODES: usize, const ITEMS: usize> {
+    /// Of an item that stands in no list the item itself, so that equal lists have equal links, however they came to be.
     next: [u16; NODES],
     prev: [u16; NODES],
     /// One more than the list in which an item stands, or 0.
@@ -98,6 +100,7 @@ impl<const NODES: usize, const ITEMS: usize> Links<NODES, ITEMS> {
         self.next[ahead as usize] = behind;
         self.prev[behind as usize] = ahead;
         self.place[item] = 0;
+        self.next[item] = item as u16;
     }
 
     /// An item stands in no list any more, whether or not it stood in one.
@@ -160,5 +163,27 @@ impl<const NODES: usize, const ITEMS: usize> Links<NODES, ITEMS> {
     {
         let node = node as usize;
         if node < ITEMS { Some(node) } else { None }
+    }
+}
+
+impl<const NODES: usize, const ITEMS: usize> Part for Links<NODES, ITEMS> {
+    ghost fits = { λ a b. Unit {0} };
+
+    fn is_same(&self, other: &Self) -> bool {
+        self.next == other.next
+    }
+
+    fn copy_from(&mut self, other: &Self) {
+        self.next = other.next;
+        self.prev = other.prev;
+        self.place = other.place;
+    }
+
+    fn add_to(&self, digest: &mut Digest) {
+        for item in 0..ITEMS {
+            if self.place[item] != 0 {
+                digest.add(u64::from(self.place[item]) << 16 | u64::from(self.next[item]));
+            }
+        }
     }
 }

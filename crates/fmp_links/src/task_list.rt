@@ -7,6 +7,7 @@ ghost use Rattle.fmp_links.specs.Tasks.{has_task, without, inserted, AreDistinct
 use crate::links::Links;
 use arrayvec::ArrayVec;
 use fmp_codes::Task;
+use fmp_parts::{Digest, Part};
 use std::marker::Model;
 
 /// A list of tasks, none of them twice.
@@ -100,5 +101,31 @@ impl TaskList {
             }
         }
         tasks
+    }
+}
+
+impl Part for TaskList {
+    ghost fits = { λ a b. Unit {0} };
+
+    fn is_same(&self, other: &Self) -> bool {
+        self.links.is_same(&other.links)
+    }
+
+    fn copy_from(&mut self, other: &Self) {
+        self.links.copy_from(&other.links);
+    }
+
+    /// Adds the tasks, the first one first.
+    fn add_to(&self, digest: &mut Digest) {
+        let mut here = self.first();
+        for _ in 0..64usize {
+            match here {
+                Some(task) => {
+                    digest.add(u64::from(task.number));
+                    here = self.next(task);
+                }
+                None => return,
+            }
+        }
     }
 }

@@ -19,6 +19,8 @@ use crate::marks::{first_free, is_marked, no_marks, with_mark};
 use arrayvec::ArrayVec;
 use fmp_codes::{Pri, Task};
 use fmp_machine::PoolSetup;
+use fmp_parts::{Digest, Part};
+use fmp_same::Same;
 use fmp_waitq::WaitQueue;
 pub use operations::Given;
 use std::marker::Model;
@@ -118,5 +120,26 @@ impl Mpf {
         ensures distinct { AreDistinct (map task_of self.now.waiters) }
     {
         self.queue.list()
+    }
+}
+
+impl Part for Mpf {
+    ghost fits = { λ a b. Unit {0} };
+
+    fn is_same(&self, other: &Self) -> bool {
+        self.handed == other.handed
+            && self.queue.is_same(&other.queue)
+            && self.setup.is_same(&other.setup)
+    }
+
+    fn copy_from(&mut self, other: &Self) {
+        self.setup = other.setup;
+        self.handed = other.handed;
+        self.queue.copy_from(&other.queue);
+    }
+
+    fn add_to(&self, digest: &mut Digest) {
+        digest.add(self.handed);
+        self.queue.add_to(digest);
     }
 }

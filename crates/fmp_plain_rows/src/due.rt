@@ -29,6 +29,13 @@ impl Due {
         self.runners.as_slice().first().copied()
     }
 
+    /// All of them.
+    pub(crate) fn as_slice(&self) -> &[Runner]
+        ensures { result.now ≡ self.now }
+    {
+        self.runners.as_slice()
+    }
+
     /// Adds a handler behind the others.
     pub(crate) fn add(&mut self, handler: Runner)
         requires { length self.old < 64 }

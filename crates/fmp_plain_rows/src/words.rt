@@ -1,6 +1,7 @@
 //! The words of the definitions, on the plain machine.
-ghost use Rattle.std.specs.Prelude.{◌≡◌, ◌-◌, ◌^◌};
+ghost use Rattle.std.specs.Prelude.{◌≡◌, ◌-◌, ◌^◌, []};
 ghost use Rattle.fmp_machine.specs.Arrivals.{Arrivals, numbered};
+ghost use Rattle.fmp_machine.specs.World.{item};
 
 use crate::groups::Group;
 use crate::locks::{free, holds};
@@ -18,6 +19,16 @@ impl Machine {
         ensures { result.items ≡ numbered.ready self.now.order self.now.tasks p priority }
     {
         self.members(Group::ReadyAt(p, priority))
+    }
+
+    /// The handlers that are due on a processor, the running one first.
+    pub fn due(&self, p: Proc) -> &[Runner]
+        ensures { result.now ≡ item [] self.now.due p.number }
+    {
+        match self.due.as_slice().get(p.index()) {
+            None => &[],
+            Some(due) => due.as_slice(),
+        }
     }
 }
 

@@ -21,6 +21,7 @@ ghost use Rattle.fmp_ready.specs.Kept.{tasks_of, IsKept};
 use arrayvec::ArrayVec;
 use fmp_codes::{Pri, Proc, Task};
 use fmp_links::Links;
+use fmp_parts::{Digest, Part};
 use std::marker::Model;
 
 /// A list of tasks for each processor and priority. No task stands in two lists.
@@ -144,6 +145,24 @@ impl ReadyQueues {
         ensures { (priority : AnyPri) → bit_at result (priority.number - 1) ≡ bit_of (list_at self.now.lists (list_number processor priority)) }
     {
         self.words[processor.index()]
+    }
+}
+
+impl Part for ReadyQueues {
+    ghost fits = { λ a b. Unit {0} };
+
+    fn is_same(&self, other: &Self) -> bool {
+        self.links.is_same(&other.links)
+    }
+
+    fn copy_from(&mut self, other: &Self) {
+        self.links.copy_from(&other.links);
+        self.words = other.words;
+        self.tops = other.tops;
+    }
+
+    fn add_to(&self, digest: &mut Digest) {
+        self.links.add_to(digest);
     }
 }
 

@@ -24,8 +24,10 @@ use Rattle.fmp_scripts.specs.Scripts.{Steps, most_steps}
 use Rattle.fmp_scripts.specs.Lines.{said_in}
 use Rattle.fmp_scripts.specs.Texts.{Open, Reading, nothing_read, took, with_line, at_end, after_line, fault_at, scripts_from, scripts_in}
 use Rattle.fmp_scripts.specs.ScriptGrammar.{IsLine, SpellsEnd, SpellsHead, SpellsScripts}
+use Rattle.fmp_scripts.specs.ScriptFaults.{LeaveOpen}
 use Rattle.fmp_scripts.specs.FirstFaults.{HaveNoFault, FaultInLine, AreOpen, FaultAtEnd, FirstFault}
 use Rattle.fmp_scripts.proofs.Read.{scripts_from-cut}
+use Rattle.fmp_scripts.proofs.ScriptFaults.{line_fault, script_of}
 use Rattle.fmp_scripts.proofs.SpelledLines.{LineSays, end_read, line_is_spelled}
 use Rattle.fmp_scripts.proofs.SpelledScripts.{reading, opened, last_line, opening_parts, scripts_in-spelled, text_is_spelled}
 
@@ -110,6 +112,16 @@ ended names n done o =
     scripts_from-cut names n (reading done (Some o)) (codes "end") [] (no_feed (codes "end") refl)
     ∙ ap (λ (s : Result Reading TextKind). after_line (n + 1) s (λ next. scripts_from names (n + 1) next [] [])) read
 
+-- an open script spells scripts where it is ended
+leaves_open : (names : NameLists) (before : List (List ℕ)) (done : List Steps) (unclosed : Option Open) → After names before done unclosed → length (lines_text before) + 4 ≤ most_bytes
+    → LeaveOpen names before done (script_of unclosed)
+leaves_open names before done None after fits = whole names before done after (omega (arith, fits))
+leaves_open names before done (Some o) after fits =
+    let more : List ℕ = codes "end\n" in
+    let long : length more ≡ 4 = refl in
+    text_is_spelled names (lines_text before ++ more) (done ++ o.script ∷ [])
+    (read_within names (lines_text before ++ more) (omega (arith, fits, long, length-append (lines_text before) more)) ∙ after.reads more ∙ ended names (length before) done o)
+
 no_faults : (names : NameLists) (before : List (List ℕ)) (done : List Steps) (unclosed : Option Open) → After names before done unclosed → HaveNoFault names before
 no_faults names before done unclosed after = record {
   complete = by unclosed after;
@@ -118,15 +130,8 @@ no_faults names before done unclosed after = record {
 }
   where
     by : (unclosed : Option Open) → After names before done unclosed → length (lines_text before) + 4 ≤ most_bytes → (more : List ℕ) × (scripts : List Steps) × SpellsScripts names (lines_text before ++ more) scripts
-    by None after fits = ([], done, subst (λ (t : List ℕ). SpellsScripts names t done) (sym (append-nil (lines_text before))) (whole names before done after (omega (arith, fits))))
-    by (Some o) after fits =
-        let more : List ℕ = codes "end" ++ (10 ∷ []) in
-        let long : length more ≡ 4 = refl in (
-          more,
-          done ++ o.script ∷ [],
-          text_is_spelled names (lines_text before ++ more) (done ++ o.script ∷ [])
-              (read_within names (lines_text before ++ more) (omega (arith, fits, long, length-append (lines_text before) more)) ∙ after.reads more ∙ ended names (length before) done o),
-        )
+    by None after fits = ([], done, subst (λ (t : List ℕ). SpellsScripts names t done) (sym (append-nil (lines_text before))) (leaves_open names before done None after fits))
+    by (Some o) after fits = (codes "end\n", done ++ o.script ∷ [], leaves_open names before done (Some o) after fits)
 
 module _ (names : NameLists) (before : List (List ℕ)) (line : List ℕ) where
   -- one line more, which is no end
@@ -219,6 +224,7 @@ module _ (names : NameLists) (valid : AreValid names) (before : List (List ℕ))
           apart = apart-cons before line after.apart here;
           number = refl;
           faultless = no_faults names before done unclosed after;
+          kind = λ fits. (done, script_of unclosed, leaves_open names before done unclosed after fits, line_fault names (length before + 1) (reading done unclosed) line kind valid read);
           never = λ more scripts s. no_fault scripts (record { kind = kind; line = length before + 1 })
               (sym (scripts_in-spelled names (lines_text before ++ (line ++ (10 ∷ more))) scripts valid s) ∙ told more s.short);
           told = told;

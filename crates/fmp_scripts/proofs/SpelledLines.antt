@@ -50,18 +50,18 @@ word_begins (b ∷ word) rest words some =
     stops-cons (is_of Blank) b (word ++ rest) (not_blank-argument b (argument-word b (and_parts (is_of Word b) (list_all (is_of Word) word) words).0))
 
 -- blanks, a word, and what follows it
-first_word : (before word rest text : List ℕ) → AreBlank before → list_all (is_of Word) word ≡ true → 1 ≤ length word → prefix_len (is_of Word) rest ≡ 0 → text ≡ before ++ (word ++ rest)
+pub first_word_of : (before word rest text : List ℕ) → AreBlank before → list_all (is_of Word) word ≡ true → 1 ≤ length word → prefix_len (is_of Word) rest ≡ 0 → text ≡ before ++ (word ++ rest)
     → (prefix Word (after Blank text) ≡ word) × (after Word (after Blank text) ≡ rest)
-first_word before word rest text blank words some stops parts =
+first_word_of before word rest text blank words some stops parts =
     let here : after Blank text ≡ word ++ rest = ap (after Blank) parts ∙ (prefix-append Blank before (word ++ rest) blank (word_begins word rest words some)).1 in
     let whole = prefix-append Word word rest words stops in
     (ap (prefix Word) here ∙ whole.0, ap (after Word) here ∙ whole.1)
 
-blanks_no_word : (rest : List ℕ) → AreBlank rest → prefix_len (is_of Word) rest ≡ 0
+pub blanks_no_word : (rest : List ℕ) → AreBlank rest → prefix_len (is_of Word) rest ≡ 0
 blanks_no_word rest blank = stops-all (is_of Word) rest (list_all-weaker (is_of Blank) (λ b. not (is_of Word b)) not-word rest blank)
 
 -- a line that begins with a word is not to be skipped
-word_stays : (text : List ℕ) → 1 ≤ length (prefix Word (after Blank text)) → is_skipped text ≡ false
+pub word_stays : (text : List ℕ) → 1 ≤ length (prefix Word (after Blank text)) → is_skipped text ≡ false
 unfolding is_of
 word_stays text some =
     elim (cases_Bool (is_skipped text)) [
@@ -119,8 +119,8 @@ head_says names text f valid s =
     let identifier = function_name names f name valid s.is_name in
     let words = identifier_words name identifier in
     let parts : text ≡ p.before ++ (codes "script" ++ rest) = p.parts ∙ ap (λ (l : List ℕ). p.before ++ l) (append_assoc (codes "script") (s.between ++ name) p.behind ∙ ap (λ (l : List ℕ). codes "script" ++ l) (append_assoc s.between name p.behind)) in
-    let first = first_word p.before (codes "script") rest text p.before_blank script_words (omega arith) (blanks_stop s.between (name ++ p.behind) s.between_blank s.apart) parts in
-    let second = first_word s.between name p.behind rest s.between_blank words (identifier_bytes name identifier).0 (blanks_no_word p.behind p.behind_blank) refl in
+    let first = first_word_of p.before (codes "script") rest text p.before_blank script_words (omega arith) (blanks_stop s.between (name ++ p.behind) s.between_blank s.apart) parts in
+    let second = first_word_of s.between name p.behind rest s.between_blank words (identifier_bytes name identifier).0 (blanks_no_word p.behind p.behind_blank) refl in
     let word = first.0 in let follows = first.1 in let inner = second.0 in let behind = second.1 in
     let blank = p.behind_blank in let number = number_of-name_of names Function f name valid s.is_name in
     record {
@@ -135,7 +135,7 @@ head_says names text f valid s =
 end_says : (names : NameLists) (text : List ℕ) → SpellsEnd text → IsSaying names true text said.Closes
 unfolding said_by ends
 end_says names text p =
-    let first = first_word p.before (codes "end") p.behind text p.before_blank end_words (omega arith) (blanks_no_word p.behind p.behind_blank) p.parts in
+    let first = first_word_of p.before (codes "end") p.behind text p.before_blank end_words (omega arith) (blanks_no_word p.behind p.behind_blank) p.parts in
     let word = first.0 in let follows = first.1 in let blank = p.behind_blank in
     record {
       line = ap (list_all (is_of Line)) p.parts ∙ list_all-both (is_of Line) p.before (codes "end" ++ p.behind) (line_of_blanks p.before p.before_blank)
@@ -227,7 +227,7 @@ named_parts names rest f e =
     record { identifier = both.0; blank = both.1; is_name = name_of-number_of names Function f (prefix Word (after Blank rest)) (ap (number_of names Function) same ∙ number) }
 
 -- a text by its blanks, its first word, and what follows
-by_word : (text word : List ℕ) → prefix Word (after Blank text) ≡ word → text ≡ prefix Blank text ++ (word ++ after Word (after Blank text))
+pub by_word : (text word : List ℕ) → prefix Word (after Blank text) ≡ word → text ≡ prefix Blank text ++ (word ++ after Word (after Blank text))
 by_word text word is =
     sym (prefix-after Blank text) ∙ ap (λ (r : List ℕ). prefix Blank text ++ r) (sym (prefix-after Word (after Blank text)) ∙ ap (λ (w : List ℕ). w ++ after Word (after Blank text)) is)
 

@@ -1,5 +1,5 @@
--- Where the first fault of a script text stands: how the lines before it can go on, and which texts have the same fault.
-use Rattle.std.specs.Prelude.{◌≡◌, ◌<◌, ◌≤◌, ℕ, ◌+◌, ◌⊎◌, List, ◌∷◌, ◌++◌, length, Err, All}
+-- Where the first fault of a script text stands, and of which kind it is: how the lines before it can go on, and which texts have the same fault.
+use Rattle.std.specs.Prelude.{◌≡◌, ◌<◌, ◌≤◌, ℕ, ◌+◌, ◌⊎◌, List, ◌∷◌, ◌++◌, length, Option, Err, All}
 use Rattle.fmp_names.specs.Names.{NameLists}
 use Rattle.fmp_text.specs.Limits.{most_bytes}
 use Rattle.fmp_text.specs.declared.fault.TextFault.{TextFault}
@@ -8,6 +8,7 @@ use Rattle.fmp_text.specs.FirstFaults.{lines_text, AreApart}
 use Rattle.fmp_text.specs.TextGrammar.{IsRest}
 use Rattle.fmp_scripts.specs.Scripts.{Steps}
 use Rattle.fmp_scripts.specs.ScriptGrammar.{IsLine, SpellsEnd, SpellsHead, SpellsScripts}
+use Rattle.fmp_scripts.specs.ScriptFaults.{LeaveOpen, ScriptFault}
 use Rattle.fmp_scripts.specs.Texts.{scripts_in}
 
 -- these whole lines have no fault. They can go on so that the text spells scripts, where there is room for `end` and a line feed; and however a text goes
@@ -18,7 +19,7 @@ pub record HaveNoFault (names : NameLists) (lines : List (List ℕ)) : Type 0 wh
       → (length lines < fault.line) ⊎ (fault.kind ≡ CutShort)
 
 -- the fault stands in a whole line: those before it have none, no text that goes on from this line spells scripts, and each that does, within the limit,
--- has this fault
+-- has this fault. Its kind is that of the table, behind the scripts that the lines before it say and the one that they leave open
 pub record FaultInLine (names : NameLists) (text : List ℕ) (fault : TextFault) : Type 0 where
   pub before : List (List ℕ)
   pub line : List ℕ
@@ -28,6 +29,7 @@ pub record FaultInLine (names : NameLists) (text : List ℕ) (fault : TextFault)
   pub number : fault.line ≡ length before + 1
   pub faultless : HaveNoFault names before
   pub never : (more : List ℕ) (scripts : List Steps) → SpellsScripts names (lines_text before ++ (line ++ (10 ∷ more))) scripts → ⊥
+  pub kind : length (lines_text before) + 4 ≤ most_bytes → (done : List Steps) × (unclosed : Option Steps) × LeaveOpen names before done unclosed × ScriptFault names done unclosed line fault.kind
   pub told : (more : List ℕ) → length (lines_text before ++ (line ++ (10 ∷ more))) ≤ most_bytes → scripts_in names (lines_text before ++ (line ++ (10 ∷ more))) ≡ Err fault
 
 -- the lines leave a script open that begins in line n: those before it spell scripts, and none behind it is an `end`

@@ -4,3 +4,4 @@ pub mod Texts  -- Reading a script text, up to its first fault.
 pub mod ScriptGrammar  -- The grammar of script texts, apart from how they are read: which texts spell which scripts.
 pub mod Views  -- What contracts see of scripts and of a reader.
 pub mod FirstFaults  -- Where the first fault of a script text stands: how the lines before it can go on, and which texts have the same fault.
+pub mod ScriptFaults  -- What is wrong with a line of a script text, apart from how it is read: rows of faults, each where none above it is there.

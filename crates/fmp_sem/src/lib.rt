@@ -16,6 +16,8 @@ mod operations;
 use arrayvec::ArrayVec;
 use fmp_codes::{Pri, Task};
 use fmp_machine::{Semaphore, SemaphoreSetup};
+use fmp_parts::{Digest, Part};
+use fmp_same::Same;
 use fmp_waitq::WaitQueue;
 pub use operations::Signal;
 use std::marker::Model;
@@ -98,5 +100,26 @@ impl Sem {
         ensures distinct { AreDistinct (map task_of self.now.waiters) }
     {
         self.queue.list()
+    }
+}
+
+impl Part for Sem {
+    ghost fits = { λ a b. Unit {0} };
+
+    fn is_same(&self, other: &Self) -> bool {
+        self.count == other.count
+            && self.queue.is_same(&other.queue)
+            && self.setup.is_same(&other.setup)
+    }
+
+    fn copy_from(&mut self, other: &Self) {
+        self.setup = other.setup;
+        self.count = other.count;
+        self.queue.copy_from(&other.queue);
+    }
+
+    fn add_to(&self, digest: &mut Digest) {
+        digest.add(u64::from(self.count));
+        self.queue.add_to(digest);
     }
 }

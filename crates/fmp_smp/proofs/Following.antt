@@ -23,14 +23,15 @@ use Rattle.fmp_smp.specs.Rounds.{Rounds, first_ticked, ticked, rounds_of, is_ove
 use Rattle.fmp_smp.specs.Seeds.{state_at, number_at, cpu_of, cpus_of, movers, drawn, event_of, event_drawn, IsInOrderOf, CanMove, Moves, Goes, GoesOn}
 use Rattle.fmp_smp.proofs.Moving.{choice_own, told_event, order_more}
 use Rattle.fmp_smp.proofs.Shares.{share}
-use Rattle.fmp_world.specs.Ends as ends
-use Rattle.fmp_world.specs.Ends.{is_of_clock, taken}
-use Rattle.fmp_world.specs.Histories.{state_after, IsRunOf}
-use Rattle.fmp_world.specs.Positions.{is_tick_of, is_taken}
-use Rattle.fmp_world.specs.Scripted.{choice}
+use Rattle.fmp_histories.specs.Counted as history
+use Rattle.fmp_world.specs.Ends.{is_of_clock}
+use Rattle.fmp_histories.specs.Counted.{taken}
+use Rattle.fmp_histories.specs.Histories.{state_after, IsRunOf}
+use Rattle.fmp_histories.specs.Positions.{is_tick_of, is_taken}
+use Rattle.fmp_histories.specs.Scripted.{choice}
 use Rattle.fmp_world.specs.Turns.{opening, told_after}
 use Rattle.fmp_world.specs.Views.{History}
-use Rattle.fmp_world.proofs.Histories.{run_more}
+use Rattle.fmp_histories.proofs.Histories.{run_more}
 use Rattle.fmp_world.proofs.Receipts.{taken_more}
 use Rattle.rand_xoshiro.specs.SplitMix64.{mix_u64, next_state}
 
@@ -87,8 +88,8 @@ made_by w r Clock e can does = let is : e ≡ event.Tick (next_of r) = cc in (rw
 -- the record of a tick that was taken, or of anything else
 abbrev Counts : Rounds → Record → Type 0
 Counts r made =
-    ((is_taken_tick made ≡ false) × ((n : ℕ) → ends.is_taken_tick n made ≡ false))
-    ⊎ ((is_taken_tick made ≡ true) × ((n : ℕ) → ends.is_taken_tick n made ≡ ((next_of r).number == n)) × (is_over r ≡ false))
+    ((is_taken_tick made ≡ false) × ((n : ℕ) → history.is_taken_tick n made ≡ false))
+    ⊎ ((is_taken_tick made ≡ true) × ((n : ℕ) → history.is_taken_tick n made ≡ ((next_of r).number == n)) × (is_over r ≡ false))
 
 and_true : (b c : Bool) → c ≡ true → (b && c) ≡ b
 and_true true c is = is

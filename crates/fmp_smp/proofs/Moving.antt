@@ -14,12 +14,12 @@ use Rattle.fmp_smp.specs.Seeds.{number_at, event_drawn, IsInOrderOf, Moves}
 use Rattle.fmp_world.specs.declared.seats.Receipt.{Receipt}
 use Rattle.fmp_world.specs.declared.seats.Turn.TheVariants.{Made}
 use Rattle.fmp_world.specs.Ends.{is_of_clock, is_of_cpu}
-use Rattle.fmp_world.specs.Histories.{state_after}
-use Rattle.fmp_world.specs.Positions.{is_taken, is_tick_of}
-use Rattle.fmp_world.specs.Scripted.{choice, next_call, asked_at, position_of}
+use Rattle.fmp_histories.specs.Histories.{state_after}
+use Rattle.fmp_histories.specs.Positions.{is_taken, is_tick_of}
+use Rattle.fmp_histories.specs.Scripted.{choice, next_call, asked_at, position_of}
 use Rattle.fmp_world.specs.Turns.{told_after, Turns}
 use Rattle.fmp_world.specs.Views.{History, Seat, ClockSeat}
-use Rattle.fmp_world.proofs.Histories.{step_event}
+use Rattle.fmp_histories.proofs.Histories.{step_event}
 
 -- ---- what a processor does is its own, and no tick
 

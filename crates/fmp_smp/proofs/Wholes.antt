@@ -28,11 +28,11 @@ use Rattle.fmp_smp.proofs.Following.{Follows}
 use Rattle.fmp_smp.proofs.Shares.{share, share_all, share_within}
 use Rattle.fmp_world.specs.declared.finishing.SmpRun.{SmpRun}
 use Rattle.fmp_world.specs.Ends.{TicksWithin, TicksAre, EndsQuiet, IsWhole}
-use Rattle.fmp_world.specs.Histories.{events_of, state_after, IsRunOf, is_idle}
-use Rattle.fmp_world.specs.Scripted.{choice, next_call}
+use Rattle.fmp_histories.specs.Histories.{events_of, state_after, IsRunOf, is_idle}
+use Rattle.fmp_histories.specs.Scripted.{choice, next_call}
 use Rattle.fmp_world.specs.Turns.{is_full}
 use Rattle.fmp_world.specs.Views.{History, Seat, ClockSeat}
-use Rattle.fmp_world.proofs.Histories.{count_after}
+use Rattle.fmp_histories.proofs.Histories.{count_after}
 use Rattle.fmp_world.proofs.Judging.{fullness}
 
 -- ---- who has nothing to do is idle

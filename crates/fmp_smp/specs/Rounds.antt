@@ -12,7 +12,7 @@ use Rattle.fmp_setup.specs.Setup.{Setup}
 use Rattle.fmp_world.specs.declared.seats.Turn.{Turn}
 use Rattle.fmp_world.specs.declared.seats.Turn.TheVariants.{Made, Nothing, Full}
 use Rattle.fmp_world.specs.Ends.{is_of_clock}
-use Rattle.fmp_world.specs.Positions.{is_taken}
+use Rattle.fmp_histories.specs.Positions.{is_taken}
 use Rattle.fmp_world.specs.Turns.{Ticks, Turns}
 use Rattle.fmp_world.specs.Views.{History, Seat, ClockSeat}
 

@@ -12,7 +12,7 @@ use Rattle.fmp_smp.specs.Rounds.{Rounds, rounds_of, is_over, next_of, after_reco
 use Rattle.fmp_world.specs.declared.seats.Turn.{Turn}
 use Rattle.fmp_world.specs.declared.seats.Turn.TheVariants.{Made}
 use Rattle.fmp_world.specs.Ends.{AreSeats}
-use Rattle.fmp_world.specs.Scripted.{choice}
+use Rattle.fmp_histories.specs.Scripted.{choice}
 use Rattle.fmp_world.specs.Turns.{is_full, told_after}
 use Rattle.fmp_world.specs.Views.{History, Seat, ClockSeat}
 use Rattle.rand_xoshiro.specs.SplitMix64.{mix_u64, next_state}

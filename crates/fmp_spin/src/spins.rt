@@ -8,6 +8,8 @@ ghost use Rattle.fmp_spin.specs.Locks.{freed};
 use crate::holder::{all_free, free_all, is_at};
 use arrayvec::ArrayVec;
 use fmp_codes::{Object, Proc};
+use fmp_parts::{Digest, Part};
+use fmp_same::{add_each, are_equal};
 use std::marker::Model;
 
 /// The spin locks, in the order of their numbers, with the processor that holds each. There are at most 32.
@@ -75,5 +77,24 @@ impl Spins {
         ensures { self.new ≡ map (freed p) self.old }
     {
         free_all(p, self.holders.as_mut_slice());
+    }
+}
+
+impl Part for Spins {
+    ghost fits = { λ a b. Unit {0} };
+
+    fn is_same(&self, other: &Self) -> bool {
+        are_equal(self.holders.as_slice(), other.holders.as_slice())
+    }
+
+    fn copy_from(&mut self, other: &Self) {
+        self.holders.clear();
+        self.holders
+            .try_extend_from_slice(other.holders.as_slice())
+            .unwrap();
+    }
+
+    fn add_to(&self, digest: &mut Digest) {
+        add_each(self.holders.as_slice(), digest);
     }
 }

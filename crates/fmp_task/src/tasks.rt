@@ -6,6 +6,8 @@ use crate::resting::all_resting;
 use arrayvec::ArrayVec;
 use fmp_codes::Task;
 use fmp_machine::{TaskRecord, TaskSetup};
+use fmp_parts::{Digest, Part};
+use fmp_same::{add_each, are_equal};
 use std::marker::Model;
 
 /// The records of the tasks, in the order of their numbers. There are at most 64.
@@ -62,5 +64,24 @@ impl Tasks {
         if let Some(place) = self.records.get_mut(t.index()) {
             *place = changed;
         }
+    }
+}
+
+impl Part for Tasks {
+    ghost fits = { λ a b. Unit {0} };
+
+    fn is_same(&self, other: &Self) -> bool {
+        are_equal(self.records.as_slice(), other.records.as_slice())
+    }
+
+    fn copy_from(&mut self, other: &Self) {
+        self.records.clear();
+        self.records
+            .try_extend_from_slice(other.records.as_slice())
+            .unwrap();
+    }
+
+    fn add_to(&self, digest: &mut Digest) {
+        add_each(self.records.as_slice(), digest);
     }
 }

@@ -3,7 +3,6 @@ ghost use Rattle.std.specs.Prelude.{◌≡◌, [], IfOk};
 ghost use Rattle.fmpsim_run.specs.Runs.{IsAnswered};
 
 use fmp_check::Verdict;
-use fmp_text::MOST_BYTES;
 use fmpsim_run::{MemSink, MemSource, RunFault, run_calls, run_check, run_states};
 use std::alloc::Global;
 use std::process::Abort;
@@ -191,9 +190,6 @@ fn verdict_on_own(alloc: Global, config: &[u8], events: &[u8]) -> Result<Verdict
     ensures { IfOk result (λ verdict. verdict ≡ Verdict.Yes) }
 {
     let trace = run(alloc, config, events)?;
-    if trace.bytes().len() > MOST_BYTES {
-        return Err(RunFault::Memory);
-    }
     run_check(
         alloc,
         &mut MemSource::new(config),

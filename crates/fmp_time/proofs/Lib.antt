@@ -12,3 +12,4 @@ pub mod Effects  -- What each change of the lists of entries and of the waits sh
 pub mod Waits  -- The waits stay those that have ticks left.
 pub mod Served  -- What is served, by marks.
 pub mod Dues  -- Which items have no ticks left, over all lists.
+pub mod Showing  -- Lists of entries that show the same.

@@ -29,6 +29,10 @@ pub record AreDisjoint (q : List (List Entry)) : Type 0 where
   pub one : (i j k : ℕ) → has_entry k (list_at q i) ≡ true → has_entry k (list_at q j) ≡ true → i ≡ j
   pub small : (i k : ℕ) → has_entry k (list_at q i) ≡ true → k < 128
 
+-- what is left of an item in the list of a number, from 0
+abbrev pub left_by : ℕ × ℕ → Left
+left_by e = record { processor = as_proc (e.0 + 1); ticks = e.1 }
+
 abbrev pub ticks_of : Left → ℕ
 ticks_of l = l.ticks
 

@@ -1,13 +1,14 @@
 //! Difference lists, one for each processor: items in ascending ticks left, of which each stores what it adds to the sum of
 //! those before it. So a tick lowers one number, and an item that goes hands on what it added to the one behind it.
-ghost use Rattle.std.specs.Prelude.{◌≡◌, ℕ, ◌^◌, ◌<◌, ◌≤◌, ◌||◌, false, true, is_some, Some, [], length, replicate, slice_index, slice_index_or, slice_set};
+ghost use Rattle.std.specs.Prelude.{◌≡◌, ℕ, ◌^◌, ◌<◌, ◌≤◌, ◌||◌, false, true, is_some, Some, [], length, replicate, slice_index, slice_index_or, slice_set, IsTrue};
 ghost use Rattle.std.specs.Option.{option_map};
 ghost use Rattle.fmp_links.specs.Lists as lists;
 ghost use Rattle.fmp_time.specs.Differences.{list_at, has_entry, sorted_in, take_out, ticks_in, least_of, lowered, due, not_due, entries_from, sum_of, spot_in, rest_in, first_adding, zeros_of, rest_of, items_of, items_given, IsLeastIn};
-ghost use Rattle.fmp_time.specs.Left.{left_in, ticks_of, is_over, AreDisjoint};
+ghost use Rattle.fmp_time.specs.Left.{left_in, left_by, ticks_of, is_over, AreDisjoint};
 
 use arrayvec::ArrayVec;
 use fmp_links::Links;
+use fmp_parts::{Digest, Part};
 use std::marker::Model;
 
 /// For each processor its items in ascending ticks left.
@@ -107,6 +108,57 @@ impl Differences {
     {
         let list = self.links.place(item)?;
         Some(ticks_at(&self.links, &self.more, list, item))
+    }
+
+    /// The list in which an item stands, and its ticks left.
+    fn at(&self, item: usize) -> Option<(usize, u64)>
+        requires { item < 128 }
+        ensures { left_in self.now item ≡ option_map left_by result }
+    {
+        let list = self.links.place(item)?;
+        Some((list, ticks_at(&self.links, &self.more, list, item)))
+    }
+
+    /// Whether an item stands in the same list of both, with the same ticks left, or in none.
+    fn has_same_left(&self, other: &Differences, item: usize) -> bool
+        requires { item < 128 }
+        ensures { IsTrue result → left_in self.now item ≡ left_in other.now item }
+    {
+        match (self.at(item), other.at(item)) {
+            (Some((list, ticks)), Some((place, left))) => list == place && ticks == left,
+            (None, None) => true,
+            _ => false,
+        }
+    }
+
+    /// Whether each item stands in the same list of both, with the same ticks left, or in none. Which of those with equal ticks
+    /// left comes first does not matter: it shows nowhere.
+    pub fn has_same_lefts(&self, other: &Differences) -> bool
+        ensures { IsTrue result → (k : ℕ) → k < 128 → left_in self.now k ≡ left_in other.now k }
+    {
+        for item in 0..128usize {
+            if !self.has_same_left(other, item) {
+                return false;
+            }
+        }
+        true
+    }
+
+    /// Becomes as others are.
+    pub fn copy_from(&mut self, other: &Differences)
+        ensures { self.new ≡ other.now }
+    {
+        self.more = other.more;
+        self.links.copy_from(&other.links);
+    }
+
+    /// Adds to a digest the ticks left of all items that stand in a list, whatever the order of those with equal ticks left.
+    pub fn add_to(&self, digest: &mut Digest) {
+        for item in 0..128usize {
+            if let Some(ticks) = self.left(item) {
+                digest.add(ticks << 7 ^ item as u64);
+            }
+        }
     }
 
     /// The least ticks left in a list.

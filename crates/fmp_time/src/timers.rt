@@ -12,6 +12,7 @@ use crate::serving::{marked_objects, marked_waits, marks_of, serve_handlers, ser
 use arrayvec::ArrayVec;
 use fmp_codes::{Object, Proc, Task};
 use fmp_links::TaskList;
+use fmp_parts::{Digest, Part};
 use std::marker::Model;
 
 /// For each item that counts its processor and its ticks left, and the waits that count in the order in which they began.
@@ -168,6 +169,24 @@ impl Timers {
             }
             None => ArrayVec::new(),
         }
+    }
+}
+
+impl Part for Timers {
+    ghost fits = { λ a b. Unit {0} };
+
+    fn is_same(&self, other: &Self) -> bool {
+        self.waits.is_same(&other.waits) && self.differences.has_same_lefts(&other.differences)
+    }
+
+    fn copy_from(&mut self, other: &Self) {
+        self.differences.copy_from(&other.differences);
+        self.waits.copy_from(&other.waits);
+    }
+
+    fn add_to(&self, digest: &mut Digest) {
+        self.differences.add_to(digest);
+        self.waits.add_to(digest);
     }
 }
 

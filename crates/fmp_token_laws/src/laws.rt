@@ -1,7 +1,8 @@
 //! Laws of the grammar of tokens.
-ghost use Rattle.std.specs.Prelude.{◌≡◌, ℕ, List, map};
+ghost use Rattle.std.specs.Prelude.{◌≡◌, ℕ, List, ◌∷◌, ◌++◌, map};
 ghost use Rattle.fmp_tokens.specs.declared.tokens.End.TheVariants.{Done};
-ghost use Rattle.fmp_tokens.specs.Lexing.{lexed_text};
+ghost use Rattle.fmp_tokens.specs.Lexing.{Lexeme, lexed_text};
+ghost use Rattle.fmp_token_laws.specs.Cuts.{IsCutBehind};
 ghost use Rattle.fmp_token_laws.specs.Tokens.{Glyph, glyph_of, SpellsTokens};
 
 /// A text that is spelled by tokens is read as these tokens, to its end.
@@ -14,4 +15,10 @@ pub fn spelled_tokens_are_read()
 pub fn read_tokens_are_spelled()
     ensures { (text : List ℕ) → (lexed_text text).end ≡ Done
         → SpellsTokens (map glyph_of (lexed_text text).lexemes) text }
+{}
+
+/// A text can be cut before each of its tokens: its beginning has just those that stand before. Where the cut is in a directive, its end ends that.
+pub fn texts_are_cut_before_tokens()
+    ensures { (text : List ℕ) (before : List Lexeme) (token : Lexeme) (rest : List Lexeme)
+        → (lexed_text text).lexemes ≡ before ++ (token ∷ rest) → IsCutBehind text before }
 {}

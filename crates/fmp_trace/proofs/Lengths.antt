@@ -1,7 +1,10 @@
 -- How long the line of a record can be, whatever numbers it tells: no number has more than 64 digits.
-use Rattle.std.proofs.Common.{◌≡◌, ℕ, zero, suc, ◌+◌, ◌*◌, ◌/◌, ◌%◌, ◌≤◌, ℤ, pos, negsuc, false, eqb, inl, inr, List, [], ◌∷◌, ◌++◌, length, Option, Some, None, refl, arith, length-append}
+use Rattle.std.proofs.Common.{◌≡◌, ℕ, zero, suc, ◌+◌, ◌*◌, ◌/◌, ◌%◌, ◌≤◌, ℤ, pos, negsuc, false, eqb, inl, inr, List, [], ◌∷◌, ◌++◌, length, Option, Some, None, refl, ap, arith, length-append}
 use Rattle.std.specs.Prelude.{codes, decimal}
+use Rattle.std.specs.List.{sum_by}
 use Rattle.std.specs.Fmt.{signed_decimal, digits, digits_onto, digit_glyph}
+use Rattle.std.proofs.lemmas.Fmt.{decimal_digit}
+use Rattle.std.proofs.lemmas.List.Sums.{sum_by-cons}
 use Rattle.std.proofs.lemmas.Bool.{cases_Bool, cond_both, and_parts, leb-true}
 use Rattle.fmp_codes.specs.Codes as code
 use Rattle.fmp_codes.specs.Records.{processor_of, Ascend}
@@ -38,7 +41,8 @@ use Rattle.fmp_calls.specs.declared.kinds.Value.{Value}
 use Rattle.fmp_calls.specs.declared.kinds.Value.TheVariants as values
 use Rattle.fmp_names.specs.Names.{NameLists, AreValid, name_of, is_name}
 use Rattle.fmp_names.proofs.Placed.{object_name}
-use Rattle.fmp_trace.specs.Lines.{event_text, runner_text, code_text, answer_text, release_text, releases_text, lost_text, run_change_text, request_lead, requests_from, head_text, tail_text, core_text, line_text, most_line_bytes}
+use Rattle.fmp_trace.specs.Lines.{event_text, runner_text, code_text, answer_text, release_text, releases_text, lost_text, run_change_text, request_lead, requests_from, head_text, tail_text, core_text, line_text, lines_from, most_line_bytes}
+use Rattle.fmp_trace.specs.Fits.{FitsNames, AllFit}
 use Rattle.fmp_trace.specs.Values.{named, object_text, mode_text, value_text, separator, arguments_from, behind_name, call_text}
 
 -- the text has at most so many bytes
@@ -125,6 +129,15 @@ requests_few i (p ∷ ps) =
 pub ascend_few : (most least : ℕ) (ps : List Proc) → least ≤ most → Ascend most least ps → least + length ps ≤ most
 ascend_few most least [] low up = omega (arith, low)
 ascend_few most least (p ∷ ps) low up = omega (arith, up.0, up.1, ascend_few most p.number ps up.1 up.2)
+
+-- of processors below the tenth
+digits_few_in : (most : ℕ) → most ≤ 9 → (i least : ℕ) (ps : List Proc) → Ascend most least ps → length (requests_from i ps) ≤ 6 * length ps
+digits_few_in most low i least [] up = omega arith
+digits_few_in most low i least (p ∷ ps) up =
+    let one = ap (λ (xs : List ℕ). length xs) (decimal_digit p.number (omega (arith, up.1, low))) in
+    let digit = has {most = 1} {text = decimal p.number} (omega (arith, one)) in
+    let here = join (join (has (lead_few i)) digit) (has (digits_few_in most low (i + 1) p.number ps up.2)) in
+    omega (arith, here.few)
 
 -- ---- names and calls
 
@@ -227,13 +240,29 @@ module _ (names : NameLists) (valid : AreValid names) where
   run_few (Some None) = omega arith
   run_few (Some (Some t)) = omega (arith, named_few objects.Task t.number)
 
-  pub line_few : (n : ℕ) (r : Record) → length r.releases ≤ 64 → length r.requests ≤ 8 → length (line_text names n r) ≤ most_line_bytes
+  -- a line, where its requests have at most so many bytes
+  line_with : (most n : ℕ) (r : Record) → length (requests_from 0 r.requests) ≤ most → length (line_text names n r) ≤ 690 + (143 * length r.releases + most)
   unfolding line_text core_text head_text tail_text
-  line_few n r releases requests =
+  line_with most n r requests =
       let blank = has {most = 1} {text = codes " "} (omega arith) in
       let processor = join (join (has (decimal_few n)) (has {most = 2} {text = codes " P"} (omega arith))) (has (decimal_few (processor_of r.event).number)) in
       let runner = join (join (join processor blank) (has (runner_few r.runner))) blank in
       let answer = join (join (join runner (has (event_few r.event))) blank) (has (answer_few r.answer)) in
       let run = join (join (has (releases_few r.releases)) (has (lost_few r.lost))) (has (run_few r.run_change)) in
-      let line = join (join answer (join run (has (requests_few 0 r.requests)))) (has {most = 1} {text = codes "\n"} (omega arith)) in
-      omega (arith, line.few, releases, requests)
+      let line = join (join answer (join run (has requests))) (has {most = 1} {text = codes "\n"} (omega arith)) in
+      omega (arith, line.few)
+
+  pub line_few : (n : ℕ) (r : Record) → length r.releases ≤ 64 → length r.requests ≤ 8 → length (line_text names n r) ≤ most_line_bytes
+  line_few n r releases requests = omega (arith, line_with (69 * length r.requests) n r (requests_few 0 r.requests), releases, requests)
+
+  -- a line that fits the names has few bytes but for its releases
+  fitting_few : (n : ℕ) (r : Record) → FitsNames names r → length (line_text names n r) ≤ 738 + 143 * length r.releases
+  fitting_few n r fits =
+      let few = ascend_few names.processors 0 r.requests (omega arith) fits.requests in
+      let most = valid.most in
+      omega (arith, line_with (6 * length r.requests) n r (digits_few_in names.processors (omega (arith, most)) 0 0 r.requests fits.requests), few, most)
+
+  pub lines_few : (n : ℕ) (rs : List Record) → AllFit names rs → length (lines_from names n rs) ≤ 738 * length rs + 143 * sum_by (λ (x : Record). length x.releases) rs
+  lines_few n [] fit = omega arith
+  lines_few n (r ∷ rs) fit =
+      omega (arith, fitting_few n r fit.0, lines_few (n + 1) rs fit.1, length-append (line_text names n r) (lines_from names (n + 1) rs), sum_by-cons (λ (x : Record). length x.releases) r rs)

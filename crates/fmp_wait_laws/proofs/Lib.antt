@@ -11,5 +11,6 @@ pub mod Ticks  -- A tick ends the waits of which it takes the last tick.
 pub mod Woken  -- An accepted call that wakes up a task that sleeps, or breaks off a wait, releases it.
 pub mod Steps  -- What the record of a step tells follows from the step, and so along a run.
 pub mod Booted  -- At boot nobody waits. So the records of every run tell the waits, and each release fits.
+pub mod Fewer  -- All releases together are no more than the events: each ends a wait that an event of its own began.
 pub mod Refused  -- Records that no run has, which the laws refuse.
 pub mod Worked  -- Records that the laws accept: of releases by a signal, by force and by a tick.

@@ -1,5 +1,6 @@
 //! The laws of waits and releases.
-ghost use Rattle.std.specs.Prelude.{List};
+ghost use Rattle.std.specs.Prelude.{◌≤◌, List, length};
+ghost use Rattle.std.specs.List.{sum_by};
 ghost use Rattle.fmp_codes.specs.declared.records.Event.{Event};
 ghost use Rattle.fmp_setup.specs.Setup.{Setup};
 ghost use Rattle.fmp_setup.specs.Valid.{IsValid};
@@ -24,4 +25,10 @@ pub fn waits_are_told()
 /// task up or breaks off its wait releases it.
 pub fn releases_end_waits()
     ensures { (c : Setup) (events : List Event) → IsValid c → AreOn c.processors events → EachReleaseFits c nobody_waits (answers numbered (booted c) events) }
+{}
+
+/// All releases that the records of such a run tell of are no more than its events: each ends a wait that an event of its own began.
+pub fn releases_are_few()
+    ensures { (c : Setup) (events : List Event) → IsValid c → AreOn c.processors events
+        → sum_by (λ r. length r.releases) (answers numbered (booted c) events) ≤ length events }
 {}

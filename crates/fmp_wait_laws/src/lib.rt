@@ -8,4 +8,4 @@
 
 mod laws;
 
-pub use laws::{releases_end_waits, waits_are_told};
+pub use laws::{releases_are_few, releases_end_waits, waits_are_told};

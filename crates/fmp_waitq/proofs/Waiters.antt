@@ -143,6 +143,12 @@ module _ (r : List ℕ) (ts : List Task) (t : Task) (n : ℕ) (count : length r 
   agree : (u : Task) → has_task u ts ≡ true → rank_in (set r (t.number - 1) n) u ≡ rank_in r u
   agree u e = other u (λ (f : u.number ≡ t.number). let too : has_task t ts ≡ true = ap (λ (m : ℕ). list_any (λ (v : Task). m == v.number) ts) (sym f) ∙ e in let bad : true ≡ false = sym too ∙ out in cc)
 
+  pub free_ranks : map (waiter_in (set r (t.number - 1) n)) ts ≡ map (waiter_in r) ts
+  free_ranks = ranks_agree r (set r (t.number - 1) n) ts agree
+
+  pub free_flat : (o : Order) → IsFlat o r ts → IsFlat o (set r (t.number - 1) n) ts
+  free_flat o h = record { flat = λ e u g. agree u g ∙ h.flat e u g }
+
   pub joined_last : spot_in (rank_in r) n ts ≡ None → map (waiter_in (set r (t.number - 1) n)) (ts ++ t ∷ []) ≡ put_ranked (record { task = t; rank = n }) (map (waiter_in r) ts)
   joined_last e =
       let s = set r (t.number - 1) n in

@@ -20,6 +20,7 @@ use arrayvec::ArrayVec;
 use fmp_codes::{Pri, Task};
 use fmp_links::TaskList;
 use fmp_machine::Order;
+use fmp_parts::{Digest, Part};
 use std::marker::Model;
 
 /// The waiters of one queue in their order. No task is there twice.
@@ -27,7 +28,7 @@ use std::marker::Model;
 pub struct WaitQueue {
     order: Order,
     tasks: TaskList,
-    /// For each task its rank, while it waits.
+    /// For each task its rank, while it waits, and else 0, so that equal queues have equal ranks, however they came to be.
     ranks: [u8; 64],
 }
 
@@ -83,7 +84,25 @@ impl WaitQueue {
         ensures waiters { self.new ≡ record self.old { waiters = left_by task self.old.waiters } }
         ensures there { result ≡ has_waiter task self.old.waiters }
     {
+        let there = self.take_out(task);
+        self.forget(task);
+        there
+    }
+
+    /// A task goes, and its rank stays.
+    fn take_out(&mut self, task: Task) -> bool
+        ensures waiters { self.new ≡ record self.old { waiters = left_by task self.old.waiters } }
+        ensures there { result ≡ has_waiter task self.old.waiters }
+    {
         self.tasks.remove(task)
+    }
+
+    /// The rank of a task that does not wait becomes 0.
+    fn forget(&mut self, task: Task)
+        requires { has_waiter task self.old.waiters ≡ false }
+        ensures { self.new ≡ self.old }
+    {
+        self.ranks[task.index()] = 0;
     }
 
     /// A task that is there leaves its place and joins anew, with this priority.
@@ -115,6 +134,25 @@ impl WaitQueue {
         ensures distinct { AreDistinct (map task_of self.now.waiters) }
     {
         self.tasks.list()
+    }
+}
+
+impl Part for WaitQueue {
+    ghost fits = { λ a b. Unit {0} };
+
+    fn is_same(&self, other: &Self) -> bool {
+        self.order == other.order && self.tasks.is_same(&other.tasks) && self.ranks == other.ranks
+    }
+
+    fn copy_from(&mut self, other: &Self) {
+        self.order = other.order;
+        self.tasks.copy_from(&other.tasks);
+        self.ranks = other.ranks;
+    }
+
+    /// Adds the tasks, which tell their ranks.
+    fn add_to(&self, digest: &mut Digest) {
+        self.tasks.add_to(digest);
     }
 }
 

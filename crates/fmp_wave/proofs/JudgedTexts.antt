@@ -1,30 +1,46 @@
 -- What was drawn of a trace that was read and judged is what a run draws of its two texts.
-use Rattle.std.proofs.Common.{◌≡◌, ℕ, List, Err, subst, sym, inl, inr}
+use Rattle.std.proofs.Common.{◌≡◌, ℕ, false, List, ◌++◌, Err, refl, sym, subst, inl}
+use Rattle.std.proofs.lemmas.Bool.{true≢false}
 use Rattle.fmp_setup.specs.Setup.{Setup}
 use Rattle.fmp_check.specs.declared.checking.Verdict.{Verdict}
+use Rattle.fmp_check.specs.declared.checking.Verdict.TheVariants.{Yes, No}
 use Rattle.fmp_check.specs.Checking.{Judges}
+use Rattle.fmp_devices.specs.Devices.{BeginsWith}
 use Rattle.fmp_judging.specs.declared.fault.RunFault.{RunFault}
 use Rattle.fmp_judging.specs.declared.fault.RunFault.TheVariants as run
+use Rattle.fmp_judging.specs.Faults.{is_write}
 use Rattle.fmp_judging.specs.Texts.{SaysConfig}
 use Rattle.fmp_judging.specs.Traces.{IsYes}
-use Rattle.fmp_wave.specs.Runs.{Drawn, IsBegunBy, IsDrawnBy, IsLate, LeavesBy, LeavesDrawn}
+use Rattle.fmp_wave.specs.Runs.{Drawn, Draws, IsDrawnBy, LeavesDrawn}
 
 module _ (config_text trace_text old new text : List ℕ) (c : Setup) (says : SaysConfig config_text c) (same : text ≡ trace_text) where
-  pub drawn_of_texts : (verdict : Verdict) → Judges c text verdict → IsDrawnBy c text old new verdict → Drawn config_text trace_text old new verdict
-  drawn_of_texts verdict judges drawn = record {
+  is_drawn_by : (verdict : Verdict) (wave : List ℕ) → (verdict ≡ Yes → Draws c text wave) → (verdict ≡ Yes → new ≡ old ++ wave) → ((n : ℕ) → verdict ≡ No n → new ≡ old) → IsDrawnBy c text old new verdict
+  is_drawn_by Yes wave draws whole none = (wave, draws refl, whole refl)
+  is_drawn_by (No n) wave draws whole none = none n refl
+
+  pub drawn_of_texts : (verdict : Verdict) (wave : List ℕ) → Judges c text verdict → (verdict ≡ Yes → Draws c text wave) → (verdict ≡ Yes → new ≡ old ++ wave) → ((n : ℕ) → verdict ≡ No n → new ≡ old)
+      → Drawn config_text trace_text old new verdict
+  drawn_of_texts verdict wave judges draws whole none = record {
     config = c;
     says = says;
     judges = subst (λ (t : List ℕ). Judges c t verdict) same judges;
-    drawn = subst (λ (t : List ℕ). IsDrawnBy c t old new verdict) same drawn;
+    drawn = subst (λ (t : List ℕ). IsDrawnBy c t old new verdict) same (is_drawn_by verdict wave draws whole none);
   }
 
-  pub leaves_of_texts : (fault : RunFault) → LeavesBy c text old new fault → LeavesDrawn config_text trace_text old new fault
-  leaves_of_texts run.Write begun = (c, says, subst (λ (t : List ℕ). IsBegunBy c t old new) same begun)
-  leaves_of_texts run.Memory (inl nothing) = inl nothing
-  leaves_of_texts run.Memory (inr begun) = inr (c, says, subst (λ (t : List ℕ). IsBegunBy c t old new) same begun)
-  leaves_of_texts _ nothing = nothing
+  -- a write failed
+  pub begun_of_texts : (wave : List ℕ) → Draws c text wave → BeginsWith old wave new → LeavesDrawn config_text trace_text old new run.Write
+  begun_of_texts wave draws begun = (c, says, (wave, subst (λ (t : List ℕ). Draws c t wave) same draws, begun))
 
--- want of memory, or a write that failed, is no answer but yes
-pub late_is_yes : (fault : RunFault) → IsLate fault → IsYes (Err fault)
-late_is_yes fault (inl memory) = subst (λ (f : RunFault). IsYes (Err f)) (sym memory) tt
-late_is_yes fault (inr write) = subst (λ (f : RunFault). IsYes (Err f)) (sym write) tt
+-- nothing was written before any other fault
+pub nothing_left : (config_text trace_text old new : List ℕ) (fault : RunFault) → is_write fault ≡ false → new ≡ old → LeavesDrawn config_text trace_text old new fault
+nothing_left config_text trace_text old new run.Write other none = absurd (true≢false other)
+nothing_left config_text trace_text old new run.Memory other none = inl none
+nothing_left config_text trace_text old new (run.Config fault) other none = none
+nothing_left config_text trace_text old new (run.Text fault) other none = none
+nothing_left config_text trace_text old new run.Read other none = none
+nothing_left config_text trace_text old new run.Start other none = none
+nothing_left config_text trace_text old new run.Disagree other none = none
+
+-- a write that failed is no answer but yes
+pub only_write : (fault : RunFault) → fault ≡ run.Write → IsYes (Err fault)
+only_write fault is = subst (λ (f : RunFault). IsYes (Err f)) (sym is) tt

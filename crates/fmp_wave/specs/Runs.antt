@@ -1,5 +1,5 @@
 -- What a run that draws a trace does.
-use Rattle.std.specs.Prelude.{◌≡◌, ◌⊎◌, ℕ, List, ◌++◌, map}
+use Rattle.std.specs.Prelude.{◌≡◌, ◌⊎◌, ℕ, List, ◌++◌, map, Result, Ok, Err}
 use Rattle.fmp_codes.specs.declared.records.Record.{Record}
 use Rattle.fmp_setup.specs.Setup.{Setup}
 use Rattle.fmp_check.specs.declared.checking.Verdict.{Verdict}
@@ -11,6 +11,7 @@ use Rattle.fmp_judging.specs.declared.fault.RunFault.TheVariants as run
 use Rattle.fmp_devices.specs.Devices.{BeginsWith}
 use Rattle.fmp_judging.specs.Texts.{SaysConfig}
 use Rattle.fmp_wave.specs.Waves.{wave_of}
+use Rattle.fmp_wave.specs.declared.run.Judged.{Judged}
 
 -- the text is what the machine answers to its own events, and this is their waveform
 pub record Draws (c : Setup) (text wave : List ℕ) : Type 0 where
@@ -39,18 +40,13 @@ pub record Drawn (config_text trace_text old new : List ℕ) (verdict : Verdict)
 abbrev pub IsBegun : List ℕ → List ℕ → List ℕ → List ℕ → Type 0
 IsBegun config_text trace_text old new = (config : Setup) × SaysConfig config_text config × IsBegunBy config trace_text old new
 
--- what was written after old, where drawing the text ends with this fault
-abbrev pub LeavesBy : Setup → List ℕ → List ℕ → List ℕ → RunFault → Type 0
-LeavesBy c text old new run.Write = IsBegunBy c text old new
-LeavesBy c text old new run.Memory = (new ≡ old) ⊎ IsBegunBy c text old new
-LeavesBy c text old new other = new ≡ old
-
--- the same where a run ends with this fault
+-- what was written after old, where a run ends with this fault
 abbrev pub LeavesDrawn : List ℕ → List ℕ → List ℕ → List ℕ → RunFault → Type 0
 LeavesDrawn config_text trace_text old new run.Write = IsBegun config_text trace_text old new
 LeavesDrawn config_text trace_text old new run.Memory = (new ≡ old) ⊎ IsBegun config_text trace_text old new
 LeavesDrawn config_text trace_text old new other = new ≡ old
 
--- memory ran out, or a write failed
-abbrev pub IsLate : RunFault → Type 0
-IsLate fault = (fault ≡ run.Memory) ⊎ (fault ≡ run.Write)
+-- the verdict on a trace that was drawn
+abbrev pub verdict_in : Result Judged RunFault → Result Verdict RunFault
+verdict_in (Ok judged) = Ok judged.verdict
+verdict_in (Err fault) = Err fault

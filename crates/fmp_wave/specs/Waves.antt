@@ -45,3 +45,16 @@ start_text lists s = header_text lists s ++ start_begin ++ values_text lists s +
 -- the whole waveform of a machine at these events
 abbrev pub wave_of : Setup → List Event → List ℕ
 wave_of c events = start_text c.names (shown_of (booted c)) ++ events_text c.names 1 (booted c) events
+
+-- what is shown of a state, and the waveform up to it
+pub record Picture : Type 0 where
+  pub shown : Shown
+  pub wave : List ℕ
+
+-- before the first event
+abbrev pub start_of : Setup → Picture
+start_of c = let s = shown_of (booted c) in record { shown = s; wave = start_text c.names s }
+
+-- behind event n, which led to this state
+abbrev pub behind : Picture → NameLists → ℕ → Event → State → Picture
+behind d names n e w = record { shown = shown_of w; wave = d.wave ++ change_text names n e d.shown (shown_of w) }

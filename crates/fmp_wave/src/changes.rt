@@ -3,18 +3,14 @@ ghost use Rattle.std.specs.Prelude.{◌≡◌, ◌++◌, length, not, IfOk, OnOk
 ghost use Rattle.std.specs.Str.{bytes_eq};
 ghost use Rattle.fmp_trace.specs.Lines.{runner_text, running_text};
 ghost use Rattle.fmp_wave.specs.Changes as spec;
-ghost use Rattle.fmp_wave.specs.Shown.{shown_of};
 ghost use Rattle.fmp_wave.specs.Waves as waves;
 
 use crate::signal::Signal;
-use crate::snapshot::{ShownProcessor, Snapshot, TaskState, shown_processor, shown_task};
+use crate::snapshot::{ShownProcessor, Snapshot, TaskState, number_of};
 use crate::values::{
-    number_of, put_bit_value, put_due_value, put_number_value, put_running_value, put_state_value,
-    state_word,
+    put_bit_value, put_due_value, put_number_value, put_running_value, put_state_value, state_word,
 };
-use arrayvec::ArrayVec;
 use fmp_codes::{Event, Proc, Runner, Task};
-use fmp_kernel::Kernel;
 use fmp_names::Names;
 use fmp_trace::{put_number, put_runner, put_running};
 use std::alloc::{AllocError, Global};
@@ -183,28 +179,25 @@ fn put_processor_changes(
     put_due_change(out, texts, names, p, old.due, new.due)
 }
 
-/// Adds the lines of those signals of processors that changed, and answers what is shown of the processors now.
+/// Adds the lines of those signals of processors that changed.
 fn put_processors_changes(
     out: &mut Vec<u8>,
     texts: &mut Texts,
     names: &Names,
     old: &Snapshot,
-    kernel: &Kernel,
-) -> Result<ArrayVec<ShownProcessor, 8>, AllocError>
-    ensures shown { IfOk result (λ shown. shown.items ≡ (shown_of kernel.now).processors) }
-    ensures lines { OnOk result (out.new.items ≡ out.old.items ++ spec.processors_changes names.now old.now (shown_of kernel.now) (length kernel.now.processors)) }
+    new: &Snapshot,
+) -> Result<(), AllocError>
+    ensures { OnOk result (out.new.items ≡ out.old.items ++ spec.processors_changes names.now old.now new.now (length new.now.processors)) }
 {
-    let mut shown = ArrayVec::new();
-    for index in 0..kernel.processors() {
+    for index in 0..new.processor_count() {
         let p = Proc::from_index(index);
-        let new = shown_processor(kernel, p);
-        put_processor_changes(out, texts, names, p, old.processor(p), new)?;
-        shown.push(new);
+        put_processor_changes(out, texts, names, p, old.processor(p), new.processor(p))?;
     }
-    Ok(shown)
+    Ok(())
 }
 
 /// Adds the line of a task, if its state changed.
+#[inline(always)]
 fn put_state_change(
     out: &mut Vec<u8>,
     t: Task,
@@ -219,38 +212,28 @@ fn put_state_change(
     Ok(())
 }
 
-/// Adds the lines of the tasks whose states changed, and answers what is shown of the tasks now.
-fn put_tasks_changes(
-    out: &mut Vec<u8>,
-    old: &Snapshot,
-    kernel: &Kernel,
-) -> Result<ArrayVec<TaskState, 64>, AllocError>
-    ensures shown { IfOk result (λ shown. shown.items ≡ (shown_of kernel.now).tasks) }
-    ensures lines { OnOk result (out.new.items ≡ out.old.items ++ spec.tasks_changes old.now (shown_of kernel.now) (length kernel.now.tasks)) }
+/// Adds the lines of the tasks whose states changed.
+fn put_tasks_changes(out: &mut Vec<u8>, old: &Snapshot, new: &Snapshot) -> Result<(), AllocError>
+    ensures { OnOk result (out.new.items ≡ out.old.items ++ spec.tasks_changes old.now new.now (length new.now.tasks)) }
 {
-    let mut shown = ArrayVec::new();
-    for index in 0..kernel.task_count() {
+    for index in 0..new.task_count() {
         let t = Task::from_index(index);
-        let new = shown_task(kernel, t);
-        put_state_change(out, t, old.task(t), new)?;
-        shown.push(new);
+        put_state_change(out, t, old.task(t), new.task(t))?;
     }
-    Ok(shown)
+    Ok(())
 }
 
-/// Adds the lines of the signals that changed, in the order of their declarations, and answers what is shown now.
+/// Adds the lines of the signals that changed, in the order of their declarations.
 #[tactic(auto, unfolding(crate::specs::Changes::changes_text))]
 pub(crate) fn put_changes(
     out: &mut Vec<u8>,
     texts: &mut Texts,
     names: &Names,
     old: &Snapshot,
-    kernel: &Kernel,
-) -> Result<Snapshot, AllocError>
-    ensures shown { IfOk result (λ shown. shown ≡ shown_of kernel.now) }
-    ensures lines { OnOk result (out.new.items ≡ out.old.items ++ spec.changes_text names.now old.now (shown_of kernel.now)) }
+    new: &Snapshot,
+) -> Result<(), AllocError>
+    ensures { OnOk result (out.new.items ≡ out.old.items ++ spec.changes_text names.now old.now new.now) }
 {
-    let processors = put_processors_changes(out, texts, names, old, kernel)?;
-    let tasks = put_tasks_changes(out, old, kernel)?;
-    Ok(Snapshot::new(processors, tasks))
+    put_processors_changes(out, texts, names, old, new)?;
+    put_tasks_changes(out, old, new)
 }

@@ -3,7 +3,8 @@
 //! [`run_wave`] reads a configuration and a trace, and draws the trace where it is the machine's own: an event is a unit of
 //! time. What is drawn is stated in `specs/Waves` as a function of the events, over the model's states: which signals there are
 //! (`Signals`), how they are declared (`Headers`), what each state shows (`Shown`), the value of each signal (`Values`), and the lines
-//! of those that changed (`Changes`). docs/FORMATS.md has its form. The events are played on the kernel, which stands for those states.
+//! of those that changed (`Changes`). docs/FORMATS.md has its form. It is drawn while the trace is judged, of the plain machine that judges,
+//! and kept until the verdict is known.
 //!
 //! That a viewer shows it is only tested, by a reader written from the standard (`tests/program/waves.py`).
 #![tactic(auto)]

@@ -1,77 +1,70 @@
 //! The run that draws a trace.
-ghost use Rattle.std.specs.Prelude.{◌≡◌, ◌≢◌, ℕ, ◌+◌, ◌-◌, ◌^◌, ◌<◌, ◌≤◌, List, ◌++◌, [], length, map, OnOk, OnErr, IfOk, IfErr, Ok, Err, false, if◌then◌else◌};
-ghost use Rattle.fmp_codes.specs.declared.records.Record.{Record as AnyRecord};
-ghost use Rattle.fmp_text.specs.Limits.{most_bytes as MOST_BYTES};
-ghost use Rattle.fmp_check.specs.Checking.{Judges};
-ghost use Rattle.fmp_trace.specs.Prints.{PrintsWithin};
-ghost use Rattle.fmp_judging.specs.Traces.{FirstTraceFault, IsOwn, IsYes};
+ghost use Rattle.std.specs.Prelude.{◌≡◌, ◌≢◌, ℕ, ◌+◌, ◌-◌, ◌^◌, ◌<◌, List, ◌++◌, [], OnOk, OnErr, IfOk, IfErr, Ok, Err, false, if◌then◌else◌};
+ghost use Rattle.fmp_codes.specs.declared.records.Event.{Event as AnyEvent};
+ghost use Rattle.fmp_check.specs.Checking.{Judges, PrintsAnswers};
+ghost use Rattle.fmp_judging.specs.Traces.{FirstTraceFault, IsFirstOfTrace, IsOwn, IsYes};
 ghost use Rattle.fmp_devices.specs.Devices.{BeginsWith, IsKnown, bytes_of};
-ghost use Rattle.fmp_judging.specs.Faults.{failed_write, is_thread_fault};
+ghost use Rattle.fmp_judging.specs.Faults.{failed_read, failed_write, is_config, is_thread_fault, is_write};
 ghost use Rattle.fmp_judging.specs.Texts.{Answered, CountsReads, FirstConfigFault};
-ghost use Rattle.fmp_wave.specs.Runs.{Drawn, IsDrawnBy, IsLate, LeavesBy, LeavesDrawn};
-ghost use Rattle.fmp_wave.specs.Waves.{wave_of};
+ghost use Rattle.fmp_wave.specs.Runs.{Drawn, Draws, LeavesDrawn, verdict_in};
 
 use crate::drawing::Drawing;
-use fmp_check::Verdict;
-use fmp_devices::{Sink, Source, write_all};
-use fmp_judging::{Judged, RunFault, judged_texts, pass_on};
+use fmp_check::{Verdict, check_watched};
+use fmp_devices::{Sink, Source, read_up_to, write_out};
+use fmp_judging::{RunFault, config_from};
 use fmp_machine::Config;
-use fmp_text::{TextFault, TextKind};
-use fmp_trace::{event_of, next_line};
 use std::alloc::Global;
 
-/// Draws the events of a text that is the machine's own.
-fn draw<W: Sink>(alloc: Global, config: &Config, text: &[u8], wave: &mut W) -> Result<(), RunFault>
-    requires calls { W.failures wave.old < 2 ^ 64 - 1 }
-    requires short { length text.now ≤ MOST_BYTES }
-    ensures known { IsKnown (W.written wave.old) → IsKnown (W.written wave.new) }
-    ensures drawn { IsKnown (W.written wave.old) → (records : List AnyRecord) → PrintsWithin config.now.names text.now records
-        → OnOk result (bytes_of (W.written wave.new) ≡ bytes_of (W.written wave.old) ++ wave_of config.now (map (λ r. r.event) records)) }
-    ensures begun { IsKnown (W.written wave.old) → (records : List AnyRecord) → PrintsWithin config.now.names text.now records
-        → OnErr result (BeginsWith (bytes_of (W.written wave.old)) (wave_of config.now (map (λ r. r.event) records)) (bytes_of (W.written wave.new))) }
-    ensures kinds { (records : List AnyRecord) → PrintsWithin config.now.names text.now records → IfErr result IsLate }
-    ensures no_thread_fault { IfErr result (λ fault. is_thread_fault fault ≡ false) }
-    ensures writes { W.failures wave.new ≡ W.failures wave.old + (if failed_write result then 1 else 0) }
-{
-    let names = config.names();
-    names.validity();
-    let mut drawing = Drawing::new(alloc, config)?;
-    write_all(wave, drawing.piece())?;
-    let mut number: u32 = 1;
-    let mut rest = text;
-    while let Some((line, after)) = next_line(rest) {
-        let Some(event) = event_of(names, line) else {
-            return Err(RunFault::Text(TextFault {
-                kind: TextKind::BadWord,
-                line: number,
-            }));
-        };
-        drawing.play(names, number, event)?;
-        write_all(wave, drawing.piece())?;
-        number += 1;
-        rest = after;
-    }
-    Ok(())
+/// A trace that was read, the verdict on it, and what was drawn of it.
+#[derive(Drop)]
+struct Judged {
+    text: Vec<u8>,
+    verdict: Verdict,
+    wave: Vec<u8>,
 }
 
-/// Draws a trace that was judged to be the machine's own, and holds none of it back.
-fn draw_judged<W: Sink>(alloc: Global, judged: &Judged, wave: &mut W) -> Result<(), RunFault>
-    requires calls { W.failures wave.old < 2 ^ 64 - 1 }
-    requires judged { Judges judged.now.config judged.now.text.items judged.now.verdict }
-    ensures known { IsKnown (W.written wave.old) → IsKnown (W.written wave.new) }
-    ensures drawn { IsKnown (W.written wave.old) → OnOk result (IsDrawnBy judged.now.config judged.now.text.items (bytes_of (W.written wave.old)) (bytes_of (W.written wave.new)) judged.now.verdict) }
-    ensures passed { OnOk result (judged.now.verdict ≡ Verdict.Yes → W.buffered wave.new ≡ []) }
-    ensures none_held { W.buffered wave.old ≡ [] → result ≢ Err RunFault.Write → W.buffered wave.new ≡ [] }
-    ensures leaves { IsKnown (W.written wave.old) → IfErr result (LeavesBy judged.now.config judged.now.text.items (bytes_of (W.written wave.old)) (bytes_of (W.written wave.new))) }
-    ensures kinds { IfErr result IsLate }
+/// Reads a trace to its end, and judges and draws it in one walk. What was drawn is kept.
+fn drawn_by<S: Source>(alloc: Global, config: &Config, trace: &mut S) -> Result<Judged, RunFault>
+    requires { S.failures trace.old < 2 ^ 64 - 1 }
+    ensures text { IsKnown (S.left trace.old) → IfOk result (λ judged. judged.text.items ≡ bytes_of (S.left trace.old)) }
+    ensures judged { IfOk result (λ judged. Judges config.now judged.text.items judged.verdict) }
+    ensures drawn { IfOk result (λ judged. judged.verdict ≡ Verdict.Yes → Draws config.now judged.text.items judged.wave.items) }
+    ensures answers { IsKnown (S.left trace.old) → (events : List AnyEvent) → PrintsAnswers config.now (bytes_of (S.left trace.old)) events → IsYes (verdict_in result) }
+    ensures read { IsKnown (S.left trace.old) → OnOk result (bytes_of (S.left trace.new) ≡ []) }
+    ensures fault { IsKnown (S.left trace.old) → IfErr result (IsFirstOfTrace config.now.names (bytes_of (S.left trace.old))) }
+    ensures kinds { IfErr result (λ fault. (is_config fault ≡ false) × (is_write fault ≡ false)) }
     ensures no_thread_fault { IfErr result (λ fault. is_thread_fault fault ≡ false) }
+    ensures count { S.failures trace.new ≡ S.failures trace.old + (if failed_read result then 1 else 0) }
+{
+    let text = read_up_to(alloc, trace, fmp_text::MOST_BYTES)?;
+    let mut drawing = Drawing::new(alloc, config)?;
+    match check_watched(alloc, config, text.as_slice(), &mut drawing) {
+        Ok(verdict) => Ok(Judged {
+            text,
+            verdict,
+            wave: drawing.into_wave(),
+        }),
+        Err(fault) => Err(RunFault::Text(fault)),
+    }
+}
+
+/// Writes what was drawn of a trace that is the machine's own, and holds none of it back.
+fn write_drawn<W: Sink>(judged: &Judged, wave: &mut W) -> Result<(), RunFault>
+    requires calls { W.failures wave.old < 2 ^ 64 - 1 }
+    ensures known { IsKnown (W.written wave.old) → IsKnown (W.written wave.new) }
+    ensures yes { IsKnown (W.written wave.old) → OnOk result (judged.now.verdict ≡ Verdict.Yes → bytes_of (W.written wave.new) ≡ bytes_of (W.written wave.old) ++ judged.now.wave.items) }
+    ensures no { IsKnown (W.written wave.old) → OnOk result ((n : ℕ) → judged.now.verdict ≡ Verdict.No n → bytes_of (W.written wave.new) ≡ bytes_of (W.written wave.old)) }
+    ensures begun { IsKnown (W.written wave.old) → OnErr result ((judged.now.verdict ≡ Verdict.Yes) × BeginsWith (bytes_of (W.written wave.old)) judged.now.wave.items (bytes_of (W.written wave.new))) }
+    ensures passed { OnOk result (judged.now.verdict ≡ Verdict.Yes → W.buffered wave.new ≡ []) }
+    ensures none_held { W.buffered wave.old ≡ [] → OnOk result (W.buffered wave.new ≡ []) }
+    ensures kinds { IfErr result (λ fault. fault ≡ RunFault.Write) }
     ensures writes { W.failures wave.new ≡ W.failures wave.old + (if failed_write result then 1 else 0) }
 {
     match judged.verdict {
         Verdict::No(_) => Ok(()),
         Verdict::Yes => {
-            let drawn = draw(alloc, &judged.config, judged.text.as_slice(), wave);
-            pass_on(drawn, wave)
+            write_out(wave, judged.wave.as_slice())?;
+            Ok(())
         }
     }
 }
@@ -100,7 +93,7 @@ pub fn run_wave<R: Source, S: Source, W: Sink>(
 
     // A trace that answers some events, as `run_calls` writes it, is drawn.
     ensures answers { IsKnown (R.left config.old) → IsKnown (S.left trace.old) → (event_text : List ℕ) → Answered (bytes_of (R.left config.old)) event_text (bytes_of (S.left trace.old))
-        → length (bytes_of (S.left trace.old)) ≤ MOST_BYTES → IsYes result }
+        → IsYes result }
 
     // So is any that is the machine's own, as those of processors that follow scripts.
     ensures own { IsKnown (R.left config.old) → IsKnown (S.left trace.old) → IsOwn (bytes_of (R.left config.old)) (bytes_of (S.left trace.old)) → IsYes result }
@@ -124,7 +117,9 @@ pub fn run_wave<R: Source, S: Source, W: Sink>(
     ensures reads { CountsReads result (R.failures config.old) (R.failures config.new) (S.failures trace.old) (S.failures trace.new) }
     ensures writes { W.failures wave.new ≡ W.failures wave.old + (if failed_write result then 1 else 0) }
 {
-    let judged = judged_texts(alloc, config, trace)?;
-    draw_judged(alloc, &judged, wave)?;
+    let configuration = config_from(alloc, config)?;
+    configuration.names().validity();
+    let judged = drawn_by(alloc, &configuration, trace)?;
+    write_drawn(&judged, wave)?;
     Ok(judged.verdict)
 }

@@ -1,11 +1,13 @@
 //! What a waveform shows of a state.
 ghost use Rattle.std.specs.Prelude.{◌≡◌, ◌≤◌, [], length};
 ghost use Rattle.fmp_wave.specs.Shown as spec;
+ghost use Rattle.fmp_wave.specs.Values as values;
 
 use arrayvec::ArrayVec;
 use fmp_codes::{Proc, Runner, Task};
-use fmp_kernel::Kernel;
 use fmp_machine::TaskRecord;
+use fmp_plain_rows::Machine;
+use fmp_words::Words;
 use std::marker::Model;
 
 /// The state of a task, as a waveform tells it: what a task waits for is not shown.
@@ -76,76 +78,104 @@ impl Model for Snapshot {
     ghost view = { λ a. record { processors = a.processors.items; tasks = a.tasks.items } };
 }
 
-/// The state of a task that could run: it does, or it is ready.
-fn ready_state(t: Task, running: Option<Task>) -> TaskState
-    ensures { result ≡ spec.ready_state t running }
+/// The number of the task that runs, or 0.
+#[inline(always)]
+pub(crate) fn number_of(running: Option<Task>) -> u8
+    ensures { result ≡ values.number_of running }
 {
     match running {
-        None => TaskState::Ready,
-        Some(other) => {
-            if other.number == t.number {
-                TaskState::Running
-            } else {
-                TaskState::Ready
-            }
-        }
+        None => 0,
+        Some(task) => task.number,
     }
 }
 
-/// The state of a task, where this task runs on its processor.
+/// The state of a task that could run: it does, or it is ready.
+#[inline(always)]
+fn ready_state(t: Task, running: Option<Task>) -> TaskState
+    ensures { result ≡ spec.ready_state t running }
+{
+    if number_of(running) == t.number {
+        TaskState::Running
+    } else {
+        TaskState::Ready
+    }
+}
+
+/// The state of a task, where this task runs on its processor. All that it may be is found first, since a choice between values
+/// costs less than a jump for each of 64 tasks.
+#[inline(always)]
 fn task_state(t: Task, task: &TaskRecord, running: Option<Task>) -> TaskState
     ensures { result ≡ spec.task_state t task.now running }
 {
-    match (task.active, task.wait.is_some(), task.suspended) {
-        (false, _, _) => TaskState::Dormant,
-        (true, true, true) => TaskState::WaitingSuspended,
-        (true, true, false) => TaskState::Waiting,
-        (true, false, true) => TaskState::Suspended,
-        (true, false, false) => ready_state(t, running),
+    let ready = ready_state(t, running);
+    let (waiting, idle) = if task.suspended {
+        (TaskState::WaitingSuspended, TaskState::Suspended)
+    } else {
+        (TaskState::Waiting, ready)
+    };
+    let active = if task.wait.is_some() { waiting } else { idle };
+    if task.active {
+        active
+    } else {
+        TaskState::Dormant
     }
 }
 
 /// What is shown of a task.
-pub(crate) fn shown_task(kernel: &Kernel, t: Task) -> TaskState
-    ensures { result ≡ spec.shown_task kernel.now t }
+#[inline(always)]
+fn shown_task(machine: &Machine, t: Task) -> TaskState
+    ensures { result ≡ spec.shown_task machine.now t }
 {
-    let task = kernel.task(t);
-    task_state(t, &task, kernel.running(task.assigned))
+    let task = machine.task(t);
+    task_state(t, &task, machine.processor(task.assigned).running)
 }
 
 /// What is shown of a processor.
-pub(crate) fn shown_processor(kernel: &Kernel, p: Proc) -> ShownProcessor
-    ensures { result ≡ spec.shown_processor kernel.now p }
+#[inline(always)]
+fn shown_processor(machine: &Machine, p: Proc) -> ShownProcessor
+    ensures { result ≡ spec.shown_processor machine.now p }
 {
-    let processor = kernel.processor(p);
+    let processor = machine.processor(p);
     ShownProcessor {
         running: processor.running,
         locked: processor.locked,
         disabled: processor.disabled,
         latch: processor.latch,
-        due: kernel.handler(p),
+        due: machine.handler(p),
     }
 }
 
+/// What is shown of all processors.
+fn shown_processors(machine: &Machine) -> ArrayVec<ShownProcessor, 8>
+    ensures { result.items ≡ (spec.shown_of machine.now).processors }
+{
+    let mut shown = ArrayVec::new();
+    for index in 0..machine.processor_count() {
+        shown.push(shown_processor(machine, Proc::from_index(index)));
+    }
+    shown
+}
+
+/// What is shown of all tasks.
+fn shown_tasks(machine: &Machine) -> ArrayVec<TaskState, 64>
+    ensures { result.items ≡ (spec.shown_of machine.now).tasks }
+{
+    let mut shown = ArrayVec::new();
+    for index in 0..machine.task_count() {
+        shown.push(shown_task(machine, Task::from_index(index)));
+    }
+    shown
+}
+
 impl Snapshot {
-    /// What is shown before anything is: nothing.
-    pub(crate) fn blank() -> Snapshot
-        ensures { result ≡ record { processors = []; tasks = [] } }
+    /// What is shown of a machine's state.
+    pub(crate) fn of(machine: &Machine) -> Snapshot
+        ensures { result ≡ spec.shown_of machine.now }
     {
         Snapshot {
-            processors: ArrayVec::new(),
-            tasks: ArrayVec::new(),
+            processors: shown_processors(machine),
+            tasks: shown_tasks(machine),
         }
-    }
-
-    /// What was shown of each processor and of each task.
-    pub(crate) fn new(
-        processors: ArrayVec<ShownProcessor, 8>,
-        tasks: ArrayVec<TaskState, 64>,
-    ) -> Snapshot
-        ensures { result ≡ record { processors = processors.items; tasks = tasks.items } }
-    {
-        Snapshot { processors, tasks }
     }
 
     /// How many processors there are.
@@ -165,6 +195,7 @@ impl Snapshot {
     }
 
     /// What is shown of a processor: nothing where there is none.
+    #[inline(always)]
     pub(crate) fn processor(&self, p: Proc) -> ShownProcessor
         ensures { result ≡ spec.on_processor self.now p }
     {
@@ -176,6 +207,7 @@ impl Snapshot {
     }
 
     /// What is shown of a task: where there is none it is dormant.
+    #[inline(always)]
     pub(crate) fn task(&self, t: Task) -> TaskState
         ensures { result ≡ spec.state_of self.now t }
     {

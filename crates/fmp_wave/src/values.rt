@@ -3,7 +3,7 @@ ghost use Rattle.std.specs.Prelude.{◌≡◌, ◌++◌, length, OnOk};
 ghost use Rattle.fmp_wave.specs.Values as spec;
 
 use crate::signal::{Signal, put_identifier};
-use crate::snapshot::{ShownProcessor, Snapshot, TaskState};
+use crate::snapshot::{ShownProcessor, Snapshot, TaskState, number_of};
 use fmp_codes::{Proc, Runner, Task};
 use fmp_names::Names;
 use fmp_trace::{put_runner, put_running};
@@ -59,16 +59,6 @@ pub(crate) fn put_running_value(
     out.push(b's')?;
     put_running(out, names, running)?;
     put_value_end(out, Signal::Running, p.number)
-}
-
-/// The number of the task that runs, or 0.
-pub(crate) fn number_of(running: Option<Task>) -> u8
-    ensures { result ≡ spec.number_of running }
-{
-    match running {
-        None => 0,
-        Some(task) => task.number,
-    }
 }
 
 /// Adds the seven bits of a number, the highest first.

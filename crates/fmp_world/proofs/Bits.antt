@@ -15,8 +15,8 @@ use Rattle.fmp_calls.specs.Arguments.{CallInBits, EventInBits}
 use Rattle.fmp_setup.specs.Setup.{Setup}
 use Rattle.fmp_scripts.specs.Scripts.{Steps, script_of, script_of_option, AreInBits}
 use Rattle.fmp_machine.specs.World.{runner_of}
-use Rattle.fmp_world.specs.Histories.{events_of, state_after}
-use Rattle.fmp_world.specs.Scripted.{function_of, last_of, next_call, is_asked, choice, Scripted, IsScripted}
+use Rattle.fmp_histories.specs.Histories.{events_of, state_after}
+use Rattle.fmp_histories.specs.Scripted.{function_of, last_of, next_call, is_asked, choice, Scripted, IsScripted}
 
 abbrev CallFits : Option Call → Type 0
 CallFits None = Unit {0}

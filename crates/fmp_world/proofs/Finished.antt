@@ -17,8 +17,8 @@ use Rattle.fmp_safety.specs.Runs.{IsSafeThroughout}
 use Rattle.fmp_safety.proofs.Booted.{runs_safe}
 use Rattle.fmp_headline.specs.Headline.{HeadlineThroughout}
 use Rattle.fmp_headline.proofs.Along.{headline_throughout}
-use Rattle.fmp_world.specs.Histories.{events_of, IsRunOf}
-use Rattle.fmp_world.specs.Scripted.{Scripted}
+use Rattle.fmp_histories.specs.Histories.{events_of, IsRunOf}
+use Rattle.fmp_histories.specs.Scripted.{Scripted}
 use Rattle.fmp_world.proofs.Bits.{events_fit}
 use Rattle.fmp_world.specs.Views.{ClockSeat, History, Seat}
 

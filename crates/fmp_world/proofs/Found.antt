@@ -14,10 +14,11 @@ use Rattle.fmp_codes.specs.declared.records.Record.{Record}
 use Rattle.fmp_world.specs.declared.findings.Findings.{Findings}
 use Rattle.fmp_world.specs.declared.seats.Receipt.{Receipt}
 use Rattle.fmp_world.specs.Ends as ends
+use Rattle.fmp_histories.specs.Counted as history
 use Rattle.fmp_world.specs.Ends.{is_of_cpu, is_of_clock, receipts_from, AreSeats}
 use Rattle.fmp_world.specs.Findings.{seat_of, is_of_seat, told_of, receipts_at, told_at, receipt, is_taken_tick, counted, Begin, ArePassed, AreTaken, Finds, Takes, AllPassed}
-use Rattle.fmp_world.specs.Histories.{events_of}
-use Rattle.fmp_world.specs.Positions.{is_taken}
+use Rattle.fmp_histories.specs.Histories.{events_of}
+use Rattle.fmp_histories.specs.Positions.{is_taken}
 use Rattle.fmp_world.specs.Views.{Seat, ClockSeat}
 use Rattle.fmp_world.proofs.Receipts.{told_too, untold, receipts_same, taken_more}
 
@@ -143,14 +144,14 @@ module _ (h : List Record) (r : Record) where
   ]
 
   counted_at : (e : Event) → r.event ≡ e → (counts : List ℕ) (k : ℕ) → k < 8 → length counts ≡ 8
-      → slice_index (counted counts r) k ≡ slice_index counts k + cond (ends.is_taken_tick (k + 1) r) 1 0
+      → slice_index (counted counts r) k ≡ slice_index counts k + cond (history.is_taken_tick (k + 1) r) 1 0
   counted_at (event.Call p c) is counts k small long = rw is (omega arith)
   counted_at (event.Ipi p) is counts k small long = rw is (omega arith)
   counted_at (event.Tick p) is counts k small long = rw is (tick_counts p (is_taken r.answer) counts k small long)
 
   taken_too : (counts : List ℕ) → AreTaken counts h → length counts ≡ 8 → AreTaken (counted counts r) (h ++ r ∷ [])
   taken_too counts taken long k small =
-      counted_at r.event refl counts k small long ∙ ap (λ n. n + cond (ends.is_taken_tick (k + 1) r) 1 0) (taken k small) ∙ sym (taken_more (k + 1) h r)
+      counted_at r.event refl counts k small long ∙ ap (λ n. n + cond (history.is_taken_tick (k + 1) r) 1 0) (taken k small) ∙ sym (taken_more (k + 1) h r)
 
   counted_long : (b : Bool) (counts : List ℕ) (at n : ℕ) → length (cond b (slice_set counts at n) counts) ≡ length counts
   counted_long true counts at n = length-set counts at n

@@ -10,7 +10,8 @@ use Rattle.fmp_codes.specs.declared.records.Record.{Record}
 use Rattle.std.proofs.lemmas.Bool.Decides.{nat_tests}
 use Rattle.fmp_world.specs.Turns.{is_full}
 use Rattle.fmp_world.specs.Views.{Seat, ClockSeat, History}
-use Rattle.fmp_world.specs.Ends.{taken, TicksWithin, TicksAre, EndsQuiet, AreSeats, IsWhole}
+use Rattle.fmp_world.specs.Ends.{TicksWithin, TicksAre, EndsQuiet, AreSeats, IsWhole}
+use Rattle.fmp_histories.specs.Counted.{taken}
 
 -- what is known of each i below n, and of n
 pub within_more : (n ticks : ℕ) (h : List Record) → TicksWithin n ticks h → taken (n + 1) h ≤ ticks → TicksWithin (n + 1) ticks h

@@ -1,5 +1,3 @@
-pub mod Histories  -- A history that is one event longer.
-pub mod Advancing  -- Script positions along a history.
 pub mod Runs  -- What a history keeps, with one event more.
 pub mod Played  -- Moves, and the records that they make again.
 pub mod Receipts  -- The receipts of a history that is one record longer.

@@ -13,9 +13,9 @@ use Rattle.fmp_machine.specs.Arrivals.{numbered}
 use Rattle.fmp_machine.specs.Step.{step}
 use Rattle.fmp_world.specs.declared.history.Move.{Move}
 use Rattle.fmp_world.specs.declared.history.Move.TheVariants.{Turn, Tick}
-use Rattle.fmp_world.specs.Histories.{state_after}
+use Rattle.fmp_histories.specs.Histories.{state_after}
 use Rattle.fmp_world.specs.Moves.{mover_of, moved, recorded, played_one, played_from, added_by, AreMade}
-use Rattle.fmp_world.specs.Scripted.{IsScripted}
+use Rattle.fmp_histories.specs.Scripted.{IsScripted}
 use Rattle.fmp_world.proofs.Runs.{choice_on, choice_scripted}
 
 module _ (c : Setup) (s : List Steps) where

@@ -16,13 +16,13 @@ use Rattle.fmp_machine.specs.Boot.{booted}
 use Rattle.fmp_machine.specs.World.{World}
 use Rattle.fmp_queues.specs.Queues.{Queues}
 use Rattle.fmp_lists.specs.Stands.{Stands}
-use Rattle.fmp_world.specs.Histories.{state_after}
-use Rattle.fmp_world.specs.Positions.{task_position, handler_position}
-use Rattle.fmp_world.specs.Places.{moved_tasks, moved_handlers}
-use Rattle.fmp_world.specs.Scripted.{choice, next_call, asked_at, position_of, Scripted, IsScripted}
+use Rattle.fmp_histories.specs.Histories.{state_after}
+use Rattle.fmp_histories.specs.Positions.{task_position, handler_position}
+use Rattle.fmp_histories.specs.Places.{moved_tasks, moved_handlers}
+use Rattle.fmp_histories.specs.Scripted.{choice, next_call, asked_at, position_of, Scripted, IsScripted}
 use Rattle.fmp_world.specs.Kept.{Keeps}
-use Rattle.fmp_world.proofs.Histories.{step_event, after_more, run_more}
-use Rattle.fmp_world.proofs.Advancing.{tasks_moved, handlers_moved}
+use Rattle.fmp_histories.proofs.Histories.{step_event, after_more, run_more}
+use Rattle.fmp_histories.proofs.Advancing.{tasks_moved, handlers_moved}
 
 zeros : (n i : ℕ) → slice_index (replicate n 0) i ≡ 0
 zeros zero i = refl

@@ -1,6 +1,5 @@
 -- How a run ends, and what its judge asks.
-use Rattle.std.specs.Prelude.{◌≡◌, ℕ, ◌+◌, ◌<◌, ◌≤◌, ◌==◌, ◌↔◌, ◌⊎◌, Bool, true, false, ◌&&◌, List, [], ◌∷◌, length, slice_index_or, if◌then◌else◌, All}
-use Rattle.std.specs.List.{count_by}
+use Rattle.std.specs.Prelude.{◌≡◌, ℕ, ◌+◌, ◌<◌, ◌≤◌, ◌==◌, ◌↔◌, ◌⊎◌, Bool, true, false, List, [], ◌∷◌, length, slice_index_or, if◌then◌else◌, All}
 use Rattle.fmp_codes.specs.Numbers.{as_proc}
 use Rattle.fmp_codes.specs.declared.records.Event.{Event}
 use Rattle.fmp_codes.specs.declared.records.Event.TheVariants as event
@@ -15,9 +14,9 @@ use Rattle.fmp_headline.specs.Headline.{HeadlineThroughout}
 use Rattle.fmp_world.specs.declared.seats.Receipt.{Receipt}
 use Rattle.fmp_world.specs.declared.finishing.Ended.{Ended}
 use Rattle.fmp_world.specs.declared.finishing.Ended.TheVariants.{Quiet, Limit}
-use Rattle.fmp_world.specs.Histories.{events_of, state_after, IsRunOf, IsQuiet}
-use Rattle.fmp_world.specs.Positions.{is_tick_of, is_taken}
-use Rattle.fmp_world.specs.Scripted.{Scripted}
+use Rattle.fmp_histories.specs.Histories.{events_of, state_after, IsRunOf, IsQuiet}
+use Rattle.fmp_histories.specs.Counted.{taken}
+use Rattle.fmp_histories.specs.Scripted.{Scripted}
 use Rattle.fmp_world.specs.Views.{History, Seat, ClockSeat}
 
 -- a call or an interrupt of the processor of this number
@@ -29,13 +28,6 @@ is_of_cpu n (event.Ipi p) = p.number == n
 abbrev pub is_of_clock : Event → Bool
 is_of_clock (event.Tick p) = true
 is_of_clock other = false
-
-abbrev pub is_taken_tick : ℕ → Record → Bool
-is_taken_tick n r = is_tick_of n r.event && is_taken r.answer
-
--- how many ticks the processor of this number has taken
-abbrev pub taken : ℕ → List Record → ℕ
-taken n h = count_by (is_taken_tick n) h
 
 -- the receipts of the records whose events pass the test, where the first record has this number
 abbrev pub receipts_from : (Event → Bool) → ℕ → List Record → List Receipt

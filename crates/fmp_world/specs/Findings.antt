@@ -7,7 +7,8 @@ use Rattle.fmp_codes.specs.declared.records.Record.{Record}
 use Rattle.fmp_world.specs.declared.findings.Findings.{Findings}
 use Rattle.fmp_world.specs.declared.seats.Receipt.{Receipt}
 use Rattle.fmp_world.specs.Ends as ends
-use Rattle.fmp_world.specs.Positions.{is_taken}
+use Rattle.fmp_histories.specs.Counted as history
+use Rattle.fmp_histories.specs.Positions.{is_taken}
 use Rattle.fmp_world.specs.Views.{Seat, ClockSeat}
 
 -- the place of the seat that is told an event: its processor's, or behind the eight of those the clock's
@@ -57,7 +58,7 @@ abbrev pub ArePassed : List ℕ → List Record → Type 0
 ArePassed counts h = (k : ℕ) → k < 9 → slice_index counts k ≡ length (told_at k h)
 
 abbrev pub AreTaken : List ℕ → List Record → Type 0
-AreTaken counts h = (k : ℕ) → k < 8 → slice_index counts k ≡ ends.taken (k + 1) h
+AreTaken counts h = (k : ℕ) → k < 8 → slice_index counts k ≡ history.taken (k + 1) h
 
 -- this was found in the records
 pub record Finds (f : Findings) (cpus : List Seat) (clock : ClockSeat) (h : List Record) : Type 0 where

@@ -10,17 +10,10 @@ use Rattle.fmp_machine.specs.World.{World}
 use Rattle.fmp_queues.specs.Queues.{Queues}
 use Rattle.fmp_lists.specs.Stands.{Stands}
 use Rattle.fmp_world.specs.declared.history.Move.{Move}
-use Rattle.fmp_world.specs.Histories.{IsRunOf, state_after}
-use Rattle.fmp_world.specs.Positions.{task_position, handler_position}
-use Rattle.fmp_world.specs.Scripted.{Scripted}
+use Rattle.fmp_histories.specs.Histories.{IsRunOf, state_after}
+use Rattle.fmp_histories.specs.Counted.{TasksAre, HandlersAre}
+use Rattle.fmp_histories.specs.Scripted.{Scripted}
 use Rattle.fmp_world.specs.Views.{History}
-
--- the positions of all tasks, and of the handlers on all processors, counted over the history
-abbrev pub TasksAre : List ℕ → List Record → Type 0
-TasksAre ps h = (i : ℕ) → i < 64 → slice_index ps i ≡ task_position (i + 1) h
-
-abbrev pub HandlersAre : List ℕ → List Record → Type 0
-HandlersAre ps h = (i : ℕ) → i < 8 → slice_index ps i ≡ handler_position (i + 1) h
 
 -- the history is a run of the machine, the kernel stands for its end, and its scripts made it
 pub record Keeps (c : Setup) (scripts : List Steps) (k : World Queues) (tasks handlers : List ℕ) (h : List Record) : Type 0 where

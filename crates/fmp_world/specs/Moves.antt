@@ -10,8 +10,8 @@ use Rattle.fmp_machine.specs.Arrivals.{numbered}
 use Rattle.fmp_machine.specs.Step.{step}
 use Rattle.fmp_world.specs.declared.history.Move.{Move}
 use Rattle.fmp_world.specs.declared.history.Move.TheVariants.{Turn, Tick}
-use Rattle.fmp_world.specs.Histories.{state_after}
-use Rattle.fmp_world.specs.Scripted.{choice}
+use Rattle.fmp_histories.specs.Histories.{state_after}
+use Rattle.fmp_histories.specs.Scripted.{choice}
 use Rattle.fmp_world.specs.Views.{History}
 
 -- the processor of a move

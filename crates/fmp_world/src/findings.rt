@@ -4,15 +4,15 @@ ghost use Rattle.std.specs.Prelude.{◌≡◌, ◌+◌, ◌≤◌, ◌<◌, ◌^
 ghost use Rattle.fmp_codes.specs.Records.{AreOn};
 ghost use Rattle.fmp_codes.specs.declared.records.Record.{Record};
 ghost use Rattle.fmp_world.specs.Views.{Seat, ClockSeat};
-ghost use Rattle.fmp_world.specs.Histories.{events_of};
+ghost use Rattle.fmp_histories.specs.Histories.{events_of};
 ghost use Rattle.fmp_world.specs.Ends.{AreSeats};
 ghost use Rattle.fmp_world.specs.Findings as spec;
 
 use crate::equality::is_same;
-use crate::positions::{is_taken, processor_of};
 use crate::replay::Replay;
 use crate::seats::{Cpu, Receipt, Seats};
 use fmp_codes::{Answer, Event, Proc, Record};
+use fmp_histories::{is_taken, processor_of};
 
 /// What was found in the records so far.
 #[derive(Drop)]

@@ -1,16 +1,15 @@
 //! A history that is a run of the machine, kept as the moves that made it.
 ghost use Rattle.std.specs.Prelude.{◌≡◌, ◌+◌, ◌≤◌, ◌<◌, ◌^◌, [], length, IfOk, Some, None, ℕ, IsTrue, true, ◌↔◌, is_some};
-ghost use Rattle.fmp_world.specs.Histories.{state_after, is_idle, IsQuiet};
+ghost use Rattle.fmp_histories.specs.Histories.{state_after, is_idle, IsQuiet};
 ghost use Rattle.fmp_world.specs.Kept.{IsKnown};
-ghost use Rattle.fmp_world.specs.Scripted as scripted;
+ghost use Rattle.fmp_histories.specs.Scripted as scripted;
 ghost use Rattle.fmp_world.specs.Moves as moves;
 ghost use Rattle.fmp_world.specs.Turns.{AddsRecord, opening, is_full, told_after};
 
-use crate::choice::{asked_at, runner_of};
-use crate::positions::{advance_handler, advance_task};
 use crate::replay::Replay;
 use crate::seats::Receipt;
 use fmp_codes::{Event, Proc, Record, Runner};
+use fmp_histories::{advance_handler, advance_task, asked_at};
 use fmp_kernel::Kernel;
 use fmp_machine::{Config, Timer};
 use fmp_scripts::Scripts;
@@ -137,7 +136,7 @@ impl<'a> History<'a> {
     fn is_idle(&self, p: Proc) -> bool
         ensures { result ≡ is_idle (state_after self.now.config self.now.records) p }
     {
-        runner_of(&self.kernel, p).is_none() && !self.kernel.pending(p)
+        self.kernel.runner(p).is_none() && !self.kernel.pending(p)
     }
 
     // Whether it is of this configuration, these scripts and this many turns.
@@ -154,7 +153,7 @@ impl<'a> History<'a> {
         if self.kernel.pending(p) && !self.kernel.held(p) {
             return Some(Event::Ipi(p));
         }
-        let runner = runner_of(&self.kernel, p)?;
+        let runner = self.kernel.runner(p)?;
         let position = self.position(runner, p);
         Some(Event::Call(p, asked_at(self.config, self.scripts, runner, position)))
     }

@@ -12,12 +12,10 @@
 //! history is whole, and the receipts of the seats are its events.
 #![tactic(auto)]
 
-mod choice;
 mod equality;
 mod findings;
 mod finishing;
 mod history;
-mod positions;
 mod replay;
 mod seats;
 mod world;

@@ -1,8 +1,8 @@
 //! The world: a history whose turns and ticks are told to seats.
 ghost use Rattle.std.specs.Prelude.{◌≡◌, ◌+◌, ◌≤◌, ◌<◌, [], ◌∷◌, ◌++◌, length, IfOk, Some, None, List, MatchOption, IsTrue, ◌↔◌, is_some};
 ghost use Rattle.fmp_codes.specs.declared.records.Record.{Record};
-ghost use Rattle.fmp_world.specs.Histories.{state_after, IsQuiet};
-ghost use Rattle.fmp_world.specs.Scripted as scripted;
+ghost use Rattle.fmp_histories.specs.Histories.{state_after, IsQuiet};
+ghost use Rattle.fmp_histories.specs.Scripted as scripted;
 ghost use Rattle.fmp_world.specs.Views.{Seat, ClockSeat};
 ghost use Rattle.fmp_world.specs.Turns.{Turns, Ticks, opening, IsOpening};
 

@@ -1,6 +1,6 @@
 //! fmpsim: reads a configuration and another text from files, or that text from standard input. Writes the trace of the
 //! machine's answers to events or of processors that follow scripts, or whether and where a trace is what the machine answers,
-//! or the waveform of a trace.
+//! or the waveform of a trace, or a page that shows it.
 //! Or it lists what may be written in these texts.
 #![tactic(auto)]
 
@@ -82,14 +82,14 @@ fn judged<R: Files + Print + AllocGlobal>(
     judge(alloc, &mut config, &mut trace, &mut sink, asked)
 }
 
-/// Writes what is asked of a trace. Of one that is not the machine's there is no waveform, and that is told.
+/// Writes what is asked of a trace. Of one that is not the machine's there is neither waveform nor page, and that is told.
 fn trace<R: Files + Print + Eprint + AllocGlobal>(
     rt: &R,
     paths: &Paths<'_>,
     asked: Asked,
 ) -> Result<Status, RunFault> {
     let verdict = judged(rt, paths, asked)?;
-    if let (Asked::Waveform, Verdict::No(line)) = (asked, verdict) {
+    if let (Asked::Waveform | Asked::Page, Verdict::No(line)) = (asked, verdict) {
         let path = paths.text;
         let _ = eprintln!(rt; "fmpsim: {path}: no {line}: see fmpsim check --show");
     }

@@ -15,7 +15,7 @@ use Rattle.std.proofs.lemmas.Result.{IfOk-weaker}
 use Rattle.clap.specs.declared.error.Error.{Error}
 use Rattle.fmpsim_cli.specs.declared.Request.{Request}
 use Rattle.fmpsim_cli.specs.declared.Request.TheVariants as request
-use Rattle.fmpsim_cli.specs.Cli.{AsksFor, IsCalls, IsCheck, IsWave, calls_line, check_line, choice_rule, flag_rule, found_by, rows_in, wave_line}
+use Rattle.fmpsim_cli.specs.Cli.{AsksFor, IsCalls, IsCheck, IsView, IsWave, calls_line, check_line, choice_rule, flag_rule, found_by, rows_in, view_line, wave_line}
 
 -- a parse of a command line that is known
 pub rows_found : (a line : App) (words : List Text) (m : ArgMatches) → a ≡ line → is_simple line ≡ true → HasMatchesOf a words m → rows_in m ≡ found_by line words
@@ -70,6 +70,17 @@ wave_asked r word words named asks = IfOk-weaker r _ _ go asks
   where
     go : (x : Request) → IsWave (found_by wave_line words) x → AsksFor word words x
     go (request.Calls p t) h = absurd h
-    go (request.Trace p a) h = inr (named, h)
+    go (request.Trace p a) h = inr (inl (named, h))
+    go (request.Smp x) h = absurd h
+    go (request.List x) h = absurd h
+
+-- what `view` is asked for, behind its name
+pub view_asked : (r : Result Request Error) (word : Option Text) (words : List Text) → word ≡ Some (codes "view")
+    → IfOk r (IsView (found_by view_line words)) → IfOk r (AsksFor word words)
+view_asked r word words named asks = IfOk-weaker r _ _ go asks
+  where
+    go : (x : Request) → IsView (found_by view_line words) x → AsksFor word words x
+    go (request.Calls p t) h = absurd h
+    go (request.Trace p a) h = inr (inr (named, h))
     go (request.Smp x) h = absurd h
     go (request.List x) h = absurd h

@@ -9,7 +9,7 @@ use Rattle.fmp_context.specs.declared.text.TextForm.{TextForm}
 use Rattle.fmp_context.specs.declared.text.TextForm.TheVariants as form
 use Rattle.fmp_smp_command.specs.Smp.{Asks, IsFlag, found_in, path_rule}
 use Rattle.fmpsim_cli.specs.declared.Asked.{Asked}
-use Rattle.fmpsim_cli.specs.declared.Asked.TheVariants.{Verdict, Differences, Waveform}
+use Rattle.fmpsim_cli.specs.declared.Asked.TheVariants.{Verdict, Differences, Waveform, Page}
 use Rattle.fmpsim_cli.specs.declared.Paths.{Paths}
 use Rattle.fmpsim_cli.specs.declared.Request.{Request}
 use Rattle.fmpsim_cli.specs.declared.Request.TheVariants as request
@@ -56,6 +56,13 @@ wave_line = with_rule
     (path_rule (codes "TRACE")))
     (flag_rule (codes "context"))
 
+abbrev pub view_line : App
+view_line = with_rule
+    (with_rule
+    (with_rule (new_app (codes "view")) (path_rule (codes "CFG")))
+    (path_rule (codes "TRACE")))
+    (flag_rule (codes "context"))
+
 abbrev pub list_line : App
 list_line = with_rule (new_app (codes "list")) name_rule
 
@@ -99,12 +106,18 @@ pub record AsksWave (rows : List Row) (p : Paths) (a : Asked) : Type 0 where
   pub paths : NamesPaths rows (codes "TRACE") form.Trace p
   pub asked : a ≡ Waveform
 
+-- the page is asked for
+pub record AsksView (rows : List Row) (p : Paths) (a : Asked) : Type 0 where
+  pub paths : NamesPaths rows (codes "TRACE") form.Trace p
+  pub asked : a ≡ Page
+
 -- what is asked for by the words behind the program's name, of which the first names the command
 abbrev pub AsksFor : Option Text → List Text → Request → Type 0
 AsksFor name words (request.Calls p t) = (name ≡ Some (codes "calls")) × AsksCalls (found_by calls_line words) p t
 AsksFor name words (request.Trace p a) =
     ((name ≡ Some (codes "check")) × AsksCheck (found_by check_line words) p a)
-    ⊎ ((name ≡ Some (codes "wave")) × AsksWave (found_by wave_line words) p a)
+    ⊎ (((name ≡ Some (codes "wave")) × AsksWave (found_by wave_line words) p a)
+    ⊎ ((name ≡ Some (codes "view")) × AsksView (found_by view_line words) p a))
 AsksFor name words (request.Smp r) = (name ≡ Some (codes "smp")) × Asks (found_in words) r
 AsksFor name words (request.List id) =
     (name ≡ Some (codes "list")) × (option_map (λ s. s.now) id ≡ first_of (codes "NAME") (found_by list_line words))
@@ -121,3 +134,7 @@ IsCheck rows _ = ⊥
 abbrev pub IsWave : List Row → Request → Type 0
 IsWave rows (request.Trace p a) = AsksWave rows p a
 IsWave rows _ = ⊥
+
+abbrev pub IsView : List Row → Request → Type 0
+IsView rows (request.Trace p a) = AsksView rows p a
+IsView rows _ = ⊥

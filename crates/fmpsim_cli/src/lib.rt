@@ -6,8 +6,8 @@
 ghost use Rattle.std.specs.Prelude.{◌≡◌, ◌≤◌, IfOk, Some, codes, drop, false, length, map, true, option_map, slice_get};
 ghost use Rattle.clap.specs.Words.{app_of, first_of, rule_of};
 ghost use Rattle.fmp_smp_command.specs.Smp.{IsOptional};
-ghost use Rattle.fmpsim_cli.specs.Cli.{AsksFor, IsCalls, IsCheck, IsWave, NamesPaths, asked_by, found_by, rows_in, told_by};
-ghost use Rattle.fmpsim_cli.specs.Cli.{calls_line, check_line, choice_rule, flag_rule, list_line, name_rule, wave_line};
+ghost use Rattle.fmpsim_cli.specs.Cli.{AsksFor, IsCalls, IsCheck, IsView, IsWave, NamesPaths, asked_by, found_by, rows_in, told_by};
+ghost use Rattle.fmpsim_cli.specs.Cli.{calls_line, check_line, choice_rule, flag_rule, list_line, name_rule, view_line, wave_line};
 
 use clap::error::ErrorKind;
 use clap::{Arg, ArgAction, ArgMatches, Command, Error};
@@ -118,6 +118,28 @@ Exit status:
   4  want of memory
   5  the trace is not the machine's own: the first line that differs is told on standard error";
 
+const VIEW_ABOUT: &str = "Writes a page that shows a trace in a browser";
+
+const VIEW_HELP: &str = "\
+CFG is a configuration, and TRACE a trace as `fmpsim calls` or `fmpsim smp` writes it. The machine
+of the configuration answers the events of the trace, and one HTML file is written to
+standard output, which a browser opens from the disk, without a network:
+
+  fmpsim view machine.cfg trace.txt > timeline.html
+
+The page has lanes of processors, tasks and objects over the lines of the trace, and beside them
+what each line changed, why it could happen and what came of it. It holds the trace, so that
+who gets the page can save and replay it. Of a trace that is not the machine's own nothing is
+written.
+
+Exit status:
+  0  done
+  1  a fault in a text, told on standard error with its line
+  2  the command line is wrong
+  3  a file could not be read, or the output not be written
+  4  want of memory
+  5  the trace is not the machine's own: the first line that differs is told on standard error";
+
 const LIST_ABOUT: &str = "Lists the service calls, the statements and the faults";
 
 const LIST_HELP: &str = "\
@@ -166,6 +188,8 @@ pub enum Asked {
     Differences(Shown),
     /// Its waveform.
     Waveform,
+    /// A page that shows it in a browser.
+    Page,
 }
 
 /// What the command line asks for.
@@ -278,6 +302,22 @@ fn wave_command<'a>(alloc: Global) -> Result<Command<'a>, AllocError>
     Ok(three)
 }
 
+fn view_command<'a>(alloc: Global) -> Result<Command<'a>, AllocError>
+    ensures { IfOk result (λ c. app_of c ≡ view_line) }
+{
+    let config = path(alloc, "CFG", "Path of the configuration");
+    let trace = path(alloc, "TRACE", "Path of the trace");
+    let context = context(alloc);
+    let start = Command::new(alloc, "view")
+        .about(VIEW_ABOUT)
+        .after_help(VIEW_HELP)
+        .bin_name("fmpsim view")?;
+    let one = start.arg(config)?;
+    let two = one.arg(trace)?;
+    let three = two.arg(context)?;
+    Ok(three)
+}
+
 /// The name of what is to be listed, which may be left out.
 fn name<'a>(alloc: Global) -> Arg<'a>
     ensures local { result.global ≡ false }
@@ -310,6 +350,7 @@ fn whole_command<'a>(alloc: Global) -> Result<Command<'a>, AllocError> {
         .subcommand(calls_command(alloc)?)?
         .subcommand(check_command(alloc)?)?
         .subcommand(wave_command(alloc)?)?
+        .subcommand(view_command(alloc)?)?
         .subcommand(smp_command(alloc)?)?
         .subcommand(list_command(alloc)?)
 }
@@ -380,6 +421,16 @@ fn parse_wave<'a>(alloc: Global, words: &'a [String]) -> Result<Request<'a>, Err
     Ok(Request::Trace(paths, Asked::Waveform))
 }
 
+/// What `view` is asked for.
+fn parse_view<'a>(alloc: Global, words: &'a [String]) -> Result<Request<'a>, Error>
+    ensures { IfOk result (IsView (found_by view_line (map (λ w. w.bytes.items) words.now))) }
+{
+    let command = view_command(alloc)?;
+    let matches = command.try_get_matches_from(words)?;
+    let paths = named_paths(&matches, "TRACE", TextForm::Trace);
+    Ok(Request::Trace(paths, Asked::Page))
+}
+
 /// The name behind `list`, if there is one.
 fn listed_name<'a>(alloc: Global, words: &'a [String]) -> Result<Option<&'a str>, Error>
     ensures { IfOk result (λ r. option_map (λ s. s.now) r
@@ -427,6 +478,9 @@ pub fn parse<'a>(alloc: Global, words: &'a [String]) -> Result<Request<'a>, Erro
     }
     if is_named(command, "wave") {
         return parse_wave(alloc, behind(words));
+    }
+    if is_named(command, "view") {
+        return parse_view(alloc, behind(words));
     }
     if is_named(command, "smp") {
         return Ok(Request::Smp(parse_smp(alloc, behind(words))?));

@@ -5,9 +5,9 @@ ghost use Rattle.fmp_setup.specs.Setup.{Setup};
 ghost use Rattle.fmp_text.specs.TextGrammar.{SpellsText};
 ghost use Rattle.fmp_devices.specs.Devices.{IsKnown, bytes_of};
 ghost use Rattle.fmp_judging.specs.Faults.{failed_write, is_config, is_thread_fault};
-ghost use Rattle.fmp_judging.specs.Texts.{CountsReads, FailsOnce, FirstConfigFault, SaysConfig};
-ghost use Rattle.fmpsim_run.specs.Details.{AreStatesTold, LeavesStates};
-ghost use Rattle.fmpsim_run.specs.Runs.{FirstTextFault, IsAnswered, IsNoFaultOfText, LeavesOut};
+ghost use Rattle.fmp_judging.specs.Texts.{CountsReads, FirstConfigFault, FlushFails, SaysConfig};
+ghost use Rattle.fmpsim_run.specs.Details.{AreStatesTold, LeavesStates, states_of};
+ghost use Rattle.fmpsim_run.specs.Runs.{FirstTextFault, HasShortLines, IsAnswered, IsNoFaultOfText, IsPrefix, IsWantOfMemory, LeavesOut, trace_of};
 
 use fmp_devices::{Sink, Source};
 use fmpsim_cli::Told;
@@ -58,9 +58,18 @@ pub fn answer<R: Source, S: Source, W: Sink>(
     // No thread was started.
     ensures no_thread_fault { IfErr result (λ fault. is_thread_fault fault ≡ false) }
 
-    // Which calls of the devices failed. The flush behind a failed read may fail too, and is told then.
+    // Memory is wanting before the first line is written, or not at all, where no line of the events has more than 32 KiB and no
+    // state is told.
+    ensures early { told ≡ Told.Line → IsKnown (S.left events.old) → IsKnown (W.written trace.old) → HasShortLines (bytes_of (S.left events.old))
+        → IfErr result (λ fault. IsWantOfMemory fault → bytes_of (W.written trace.new) ≡ bytes_of (W.written trace.old)) }
+
+    // Which calls of the devices failed. Where a write or a flush did, no read failed; or one of the events did, and behind it the
+    // flush alone: then what is written of some prefix of the events is out, each line whole.
     ensures reads { result ≢ Err RunFault.Write → CountsReads result (R.failures config.old) (R.failures config.new) (S.failures events.old) (S.failures events.new) }
-    ensures most { FailsOnce (R.failures config.old) (R.failures config.new) (S.failures events.old) (S.failures events.new) }
+    ensures lines_flush { told ≡ Told.Line → result ≡ Err RunFault.Write → (R.failures config.new ≡ R.failures config.old) × FlushFails (S.failures events.old) (S.failures events.new)
+        (IsKnown (R.left config.old) → IsKnown (S.left events.old) → IsKnown (W.written trace.old) → IsPrefix trace_of (bytes_of (R.left config.old)) (bytes_of (S.left events.old)) (bytes_of (W.written trace.old)) (bytes_of (W.written trace.new))) }
+    ensures states_flush { told ≡ Told.State → result ≡ Err RunFault.Write → (R.failures config.new ≡ R.failures config.old) × FlushFails (S.failures events.old) (S.failures events.new)
+        (IsKnown (R.left config.old) → IsKnown (S.left events.old) → IsKnown (W.written trace.old) → IsPrefix states_of (bytes_of (R.left config.old)) (bytes_of (S.left events.old)) (bytes_of (W.written trace.old)) (bytes_of (W.written trace.new))) }
     ensures writes { W.failures trace.new ≡ W.failures trace.old + (if failed_write result then 1 else 0) }
 {
     match told {

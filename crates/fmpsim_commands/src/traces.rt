@@ -1,10 +1,10 @@
-//! What `fmpsim check` and `fmpsim wave` do.
-ghost use Rattle.std.specs.Prelude.{◌≡◌, ◌≢◌, ℕ, List, [], length, ◌++◌, ◌+◌, ◌-◌, ◌^◌, ◌<◌, ◌≤◌, false, OnOk, IfOk, IfErr, Err, if◌then◌else◌};
-ghost use Rattle.fmp_text.specs.Limits.{most_bytes as MOST_BYTES};
+//! What `fmpsim check`, `fmpsim wave` and `fmpsim view` do.
+ghost use Rattle.std.specs.Prelude.{◌≡◌, ◌≢◌, ℕ, List, [], ◌++◌, ◌+◌, ◌-◌, ◌^◌, ◌<◌, false, OnOk, IfOk, IfErr, Err, if◌then◌else◌};
 ghost use Rattle.fmp_devices.specs.Devices.{IsKnown, bytes_of};
 ghost use Rattle.fmp_judging.specs.Faults.{failed_write, is_thread_fault};
 ghost use Rattle.fmp_judging.specs.Texts.{Answered, CountsReads, FirstConfigFault};
 ghost use Rattle.fmp_judging.specs.Traces.{Checked, FirstTraceFault, IsOwn, IsYes};
+ghost use Rattle.fmp_view.specs.Runs.{LeavesShown, Shown};
 ghost use Rattle.fmp_wave.specs.Runs.{Drawn, LeavesDrawn};
 ghost use Rattle.fmpsim_run.specs.Checks.{IsCheckBegun, verdict_text};
 ghost use Rattle.fmpsim_run.specs.Reports.{IsReported, IsReportBegun};
@@ -14,6 +14,7 @@ ghost use Rattle.fmp_world.specs.declared.finishing.Ended.{Ended as AnyEnded};
 
 use fmp_check::Verdict;
 use fmp_devices::{Sink, Source};
+use fmp_view::run_view;
 use fmp_wave::run_wave;
 use fmpsim_cli::Asked;
 use fmpsim_run::{RunFault, run_check, run_report};
@@ -52,9 +53,16 @@ pub fn judge<R: Source, S: Source, W: Sink>(
         → IfErr result (LeavesDrawn (bytes_of (R.left config.old)) (bytes_of (S.left trace.old)) (bytes_of (W.written output.old)) (bytes_of (W.written output.new))) }
     ensures none_held { asked ≡ Asked.Waveform → W.buffered output.old ≡ [] → result ≢ Err RunFault.Write → W.buffered output.new ≡ [] }
 
+    // The page, of such a trace.
+    ensures page { asked ≡ Asked.Page → IsKnown (R.left config.old) → IsKnown (S.left trace.old) → IsKnown (W.written output.old)
+        → IfOk result (Shown (bytes_of (R.left config.old)) (bytes_of (S.left trace.old)) (bytes_of (W.written output.old)) (bytes_of (W.written output.new))) }
+    ensures page_left { asked ≡ Asked.Page → IsKnown (R.left config.old) → IsKnown (S.left trace.old) → IsKnown (W.written output.old)
+        → IfErr result (LeavesShown (bytes_of (R.left config.old)) (bytes_of (S.left trace.old)) (bytes_of (W.written output.old)) (bytes_of (W.written output.new))) }
+    ensures page_none_held { asked ≡ Asked.Page → W.buffered output.old ≡ [] → result ≢ Err RunFault.Write → W.buffered output.new ≡ [] }
+
     // Both texts were read to their ends, and nothing that was written is held back.
     ensures known { IsKnown (W.written output.old) → IsKnown (W.written output.new) }
-    ensures passed { asked ≢ Asked.Waveform → OnOk result (W.buffered output.new ≡ []) }
+    ensures passed { asked ≢ Asked.Waveform → asked ≢ Asked.Page → OnOk result (W.buffered output.new ≡ []) }
     ensures drawn_passed { IfOk result (λ verdict. verdict ≡ Verdict.Yes → W.buffered output.new ≡ []) }
     ensures config_read { IsKnown (R.left config.old) → OnOk result (bytes_of (R.left config.new) ≡ []) }
     ensures trace_read { IsKnown (S.left trace.old) → OnOk result (bytes_of (S.left trace.new) ≡ []) }
@@ -62,16 +70,16 @@ pub fn judge<R: Source, S: Source, W: Sink>(
     // A trace that answers some events, as `answer` writes it, is judged with yes, and so is one of processors that follow
     // scripts, as `play` writes it.
     ensures answers { IsKnown (R.left config.old) → IsKnown (S.left trace.old) → (event_text : List ℕ) → Answered (bytes_of (R.left config.old)) event_text (bytes_of (S.left trace.old))
-        → length (bytes_of (S.left trace.old)) ≤ MOST_BYTES → IsYes result }
+        → IsYes result }
     ensures plays { IsKnown (R.left config.old) → IsKnown (S.left trace.old) → (script_text : List ℕ) (ticks turns : ℕ) (ended : AnyEnded)
-        → Played (bytes_of (R.left config.old)) script_text ticks turns (bytes_of (S.left trace.old)) ended → length (bytes_of (S.left trace.old)) ≤ MOST_BYTES → IsYes result }
+        → Played (bytes_of (R.left config.old)) script_text ticks turns (bytes_of (S.left trace.old)) ended → IsYes result }
 
     // A fault of a text is its first one.
     ensures config_fault { IsKnown (R.left config.old) → IfErr result (FirstConfigFault (bytes_of (R.left config.old))) }
     ensures text_fault { IsKnown (R.left config.old) → IsKnown (S.left trace.old) → IfErr result (FirstTraceFault (bytes_of (R.left config.old)) (bytes_of (S.left trace.old))) }
 
-    // After a fault that is no failed write nothing is out, but of a waveform perhaps a beginning.
-    ensures unwritten { asked ≢ Asked.Waveform → IsKnown (W.written output.old)
+    // After a fault that is no failed write nothing is out, but of a waveform or a page perhaps a beginning.
+    ensures unwritten { asked ≢ Asked.Waveform → asked ≢ Asked.Page → IsKnown (W.written output.old)
         → IfErr result (λ fault. fault ≢ RunFault.Write → bytes_of (W.written output.new) ≡ bytes_of (W.written output.old)) }
 
     // No thread was started.
@@ -85,5 +93,6 @@ pub fn judge<R: Source, S: Source, W: Sink>(
         Asked::Verdict => run_check(alloc, config, trace, output),
         Asked::Differences(shown) => run_report(alloc, config, trace, output, shown),
         Asked::Waveform => run_wave(alloc, config, trace, output),
+        Asked::Page => run_view(alloc, config, trace, output),
     }
 }

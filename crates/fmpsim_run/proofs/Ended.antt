@@ -13,6 +13,7 @@ use Rattle.fmp_text.proofs.SpelledTexts.{reading_of-spelled, text_is_spelled}
 use Rattle.fmp_text.specs.TextGrammar.{SpellsText}
 use Rattle.fmp_text.specs.declared.fault.TextFault.{TextFault}
 use Rattle.fmp_text.specs.Events.{IsFirst, IsMemory, reading_by_line}
+use Rattle.fmp_feed.proofs.Told.{never_memory}
 use Rattle.fmp_judging.proofs.Grammars.{one_config, only_memory}
 use Rattle.fmpsim_run.proofs.ByLine.{line_by_line, whole_by_line}
 use Rattle.fmp_judging.specs.declared.fault.RunFault.{RunFault}
@@ -20,10 +21,10 @@ use Rattle.fmpsim_run.specs.declared.stream.Detail.{Detail}
 use Rattle.fmpsim_run.specs.declared.stream.Detail.TheVariants as detail
 use Rattle.fmp_judging.specs.declared.fault.RunFault.TheVariants as run
 use Rattle.fmp_judging.specs.Faults.{is_config, is_text, is_write}
-use Rattle.fmp_judging.specs.Texts.{FirstConfigFault, SaysConfig}
-use Rattle.fmpsim_run.specs.Runs.{FirstEventFault, FirstTextFault, IsAnswered, IsNoFaultOfText, LeavesWritten, Writing, trace_of}
+use Rattle.fmp_judging.specs.Texts.{FirstConfigFault, FlushFails, SaysConfig}
+use Rattle.fmpsim_run.specs.Runs.{FirstEventFault, FirstTextFault, IsAnswered, IsNoFaultOfText, IsPrefix, IsPrefixOut, IsWantOfMemory, LeavesWritten, Writing, trace_of}
 use Rattle.fmpsim_run.specs.Details.{AreStatesTold, detail_of, states_of}
-use Rattle.fmpsim_run.specs.Streams.{IsAllOut, Leaves}
+use Rattle.fmpsim_run.specs.Streams.{IsAllOut, IsAmple, Leaves}
 
 -- without a fault all events are answered, and the text spells them
 pub answered : (config_text event_text old new : List ℕ) (c : Setup) → SaysConfig config_text c → IsValid c
@@ -89,14 +90,15 @@ module _ (config_text event_text old : List ℕ) where
 
   -- a fault behind a right configuration
   module _ (c : Setup) (says : SaysConfig config_text c) where
-    pub leaves_out : (d : Detail) (new : List ℕ) (fault : RunFault) → is_config fault ≡ false → Leaves d c (reading_by_line c.names event_text) old new fault
+    pub leaves_out : (d : Detail) (new : List ℕ) (fault : RunFault) → is_config fault ≡ false → Leaves d c event_text (reading_by_line c.names event_text) old new fault
         → LeavesWritten (detail_of d) config_text event_text old new fault
     leaves_out d new (run.Config fault) config left = absurd (false≢true (sym config))
-    leaves_out d new (run.Text fault) config left = (c, says, left)
+    leaves_out d new (run.Text fault) config (inl left) = (c, says, inl left)
+    leaves_out d new (run.Text fault) config (inr left) = (c, says, inr (left.0, left.1.0))
     leaves_out d new run.Read config left = inr (c, says, left)
     leaves_out d new run.Write config left = (detail_of d c (reading_by_line c.names event_text).events, record { config = c; says = says; prints = refl }, left)
     leaves_out d new run.Memory config (inl none) = inl none
-    leaves_out d new run.Memory config (inr left) = inr (c, says, left)
+    leaves_out d new run.Memory config (inr left) = inr (c, says, left.0)
     leaves_out d new run.Start config left = inr (c, says, left)
     leaves_out d new run.Disagree config left = inr (c, says, left)
 
@@ -111,7 +113,7 @@ module _ (config_text event_text old : List ℕ) where
 
     -- the same of a result
     pub leaves_result : {T : Type 0} (d : Detail) (new : List ℕ) (r : Result T RunFault) → IfErr r (λ fault. is_config fault ≡ false)
-        → IfErr r (Leaves d c (reading_by_line c.names event_text) old new) → IfErr r (LeavesWritten (detail_of d) config_text event_text old new)
+        → IfErr r (Leaves d c event_text (reading_by_line c.names event_text) old new) → IfErr r (LeavesWritten (detail_of d) config_text event_text old new)
     leaves_result d new (Ok done) config left = tt
     leaves_result d new (Err fault) config left = leaves_out d new fault config left
 
@@ -128,6 +130,30 @@ module _ (config_text event_text old : List ℕ) where
         → OnOk r (IsAllOut detail.State c (reading_by_line c.names event_text) old new) → OnOk r (AreStatesTold config_text event_text old new)
     states_result new (Ok done) valid all = states_told config_text event_text old new c says valid all
     states_result new (Err fault) valid all = tt
+
+-- a read of the events failed, and the flush behind it, or none did
+pub flush_result : {K L M : Type 0} (config_text event_text old : List ℕ) (c : Setup) → (K → SaysConfig config_text c) → (d : Detail) (new : List ℕ) (n m : ℕ)
+    → FlushFails n m (L → M → IsPrefixOut (detail_of d) c (reading_by_line c.names event_text).events old new) → FlushFails n m (K → L → M → IsPrefix (detail_of d) config_text event_text old new)
+flush_result config_text event_text old c says d new n m (inl none) = inl none
+flush_result config_text event_text old c says d new n m (inr (one, out)) = inr (one, λ configs reads writes. inr (c, says configs, out reads writes))
+
+-- where the room that was taken is enough, nothing is out after want of memory
+module _ (c : Setup) (event_text old : List ℕ) (valid : AreValid c.names) (ample : IsAmple detail.Line event_text) where
+  early : (new : List ℕ) (fault : RunFault) → is_config fault ≡ false → Leaves detail.Line c event_text (reading_by_line c.names event_text) old new fault → IsWantOfMemory fault → new ≡ old
+  early new (run.Config fault) config left want = absurd (false≢true (sym config))
+  early new (run.Text fault) config (inl before) want = absurd (never_memory c.names valid event_text fault before.first want.0)
+  early new (run.Text fault) config (inr (memory, out)) want = absurd (out.1 ample)
+  early new run.Read config left want = absurd want
+  early new run.Write config left want = absurd want
+  early new run.Memory config (inl none) want = none
+  early new run.Memory config (inr out) want = absurd (out.1 ample)
+  early new run.Start config left want = absurd want
+  early new run.Disagree config left want = absurd want
+
+  pub early_result : {T : Type 0} (new : List ℕ) (r : Result T RunFault) → IfErr r (λ fault. is_config fault ≡ false)
+      → IfErr r (Leaves detail.Line c event_text (reading_by_line c.names event_text) old new) → IfErr r (λ fault. IsWantOfMemory fault → new ≡ old)
+  early_result new (Ok done) config left = tt
+  early_result new (Err fault) config left = early new fault config left
 
 -- Texts that are right in all have no fault.
 module _ (config_text event_text : List ℕ) (c : Setup) (events : List Event) (says : SaysConfig config_text c) (spells : SpellsText c.names event_text events) where

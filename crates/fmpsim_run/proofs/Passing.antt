@@ -7,7 +7,8 @@ use Rattle.fmp_text.specs.Events.{Reading}
 use Rattle.fmp_devices.specs.Devices.{BeginsWith}
 use Rattle.fmp_judging.specs.declared.fault.RunFault.{RunFault}
 use Rattle.fmp_judging.specs.declared.fault.RunFault.TheVariants as run
-use Rattle.fmp_judging.specs.Faults.{is_config}
+use Rattle.fmp_judging.specs.Faults.{failed_read, is_config}
+use Rattle.fmp_judging.specs.Texts.{FlushFails}
 use Rattle.fmpsim_run.specs.declared.stream.Detail.{Detail}
 use Rattle.fmpsim_run.specs.Details.{detail_of}
 use Rattle.fmpsim_run.specs.Runs.{IsPrefixOut, IsStopped}
@@ -30,33 +31,39 @@ pub if_err_passed : (P : RunFault → Type 0) (ended result : Ended) → P run.W
 if_err_passed P ended result write (inl is) holds = rw is holds
 if_err_passed P ended result write (inr is) holds = rw is write
 
-module _ (d : Detail) (c : Setup) (whole : Reading) (old : List ℕ) where
+module _ (d : Detail) (c : Setup) (text : List ℕ) (whole : Reading) (old : List ℕ) where
   out_begun : (new : List ℕ) → IsPrefixOut (detail_of d) c whole.events old new → BeginsWith old (detail_of d c whole.events) new
   out_begun new (n, text) = prefix_begun d c whole.events n old new text
 
   -- whatever is left behind a fault of the events is a beginning of what is written of them
-  leaves_begun : (new : List ℕ) (fault : RunFault) → is_config fault ≡ false → Leaves d c whole old new fault → BeginsWith old (detail_of d c whole.events) new
+  leaves_begun : (new : List ℕ) (fault : RunFault) → is_config fault ≡ false → Leaves d c text whole old new fault → BeginsWith old (detail_of d c whole.events) new
   leaves_begun new (run.Config fault) config left = absurd (false≢true (sym config))
   leaves_begun new (run.Text fault) config (inl before) = all_begun d c whole.events old new before.text
-  leaves_begun new (run.Text fault) config (inr (memory, out)) = out_begun new out
+  leaves_begun new (run.Text fault) config (inr (memory, out)) = out_begun new out.0
   leaves_begun new run.Read config out = out_begun new out
   leaves_begun new run.Write config begun = begun
   leaves_begun new run.Memory config (inl none) = (0, none ∙ sym (append-nil old))
-  leaves_begun new run.Memory config (inr out) = out_begun new out
+  leaves_begun new run.Memory config (inr out) = out_begun new out.0
   leaves_begun new run.Start config out = out_begun new out
   leaves_begun new run.Disagree config out = out_begun new out
 
-  ended_begun : (new : List ℕ) (ended : Ended) → OnOk ended (IsAllOut d c whole old new) → IfErr ended (λ fault. is_config fault ≡ false) → IfErr ended (Leaves d c whole old new)
+  ended_begun : (new : List ℕ) (ended : Ended) → OnOk ended (IsAllOut d c whole old new) → IfErr ended (λ fault. is_config fault ≡ false) → IfErr ended (Leaves d c text whole old new)
       → BeginsWith old (detail_of d c whole.events) new
   ended_begun new (Ok done) all config left = all_out_begun d c whole old new all
   ended_begun new (Err fault) all config left = leaves_begun new fault config left
 
   pub leaves_passed : (new : List ℕ) (ended result : Ended) → Passes ended result → OnOk ended (IsAllOut d c whole old new) → IfErr ended (λ fault. is_config fault ≡ false)
-      → IfErr ended (Leaves d c whole old new) → IfErr result (Leaves d c whole old new)
+      → IfErr ended (Leaves d c text whole old new) → IfErr result (Leaves d c text whole old new)
   leaves_passed new ended result (inl is) all config left = rw is left
   leaves_passed new ended result (inr is) all config left = rw is (ended_begun new ended all config left)
 
--- a count that rises by one where this is so rises by one at most
-pub once_at_most : (b : Bool) (n m : ℕ) → m ≡ n + cond b 1 0 → (n ≤ m) × (m ≤ n + 1)
-once_at_most true n m e = (omega arith, omega arith)
-once_at_most false n m e = (omega arith, omega arith)
+-- where a read failed and the flush behind it failed too, this is so that is so where a read failed
+pub flush_fails : (Whole : Type 0) (n m : ℕ) (ended : Ended) → m ≡ n + cond (failed_read ended) 1 0 → (ended ≡ Err run.Read → Whole) → FlushFails n m Whole
+flush_fails Whole n m (Err run.Read) e whole = inr (e, whole refl)
+flush_fails Whole n m (Err (run.Config fault)) e whole = inl (omega (arith, e))
+flush_fails Whole n m (Err (run.Text fault)) e whole = inl (omega (arith, e))
+flush_fails Whole n m (Err run.Write) e whole = inl (omega (arith, e))
+flush_fails Whole n m (Err run.Memory) e whole = inl (omega (arith, e))
+flush_fails Whole n m (Err run.Start) e whole = inl (omega (arith, e))
+flush_fails Whole n m (Err run.Disagree) e whole = inl (omega (arith, e))
+flush_fails Whole n m (Ok done) e whole = inl (omega (arith, e))

@@ -5,27 +5,28 @@ use Rattle.fmp_codes.specs.declared.records.Record.{Record}
 use Rattle.fmp_setup.specs.Setup.{Setup}
 use Rattle.fmp_scripts.specs.ScriptGrammar.{SpellsScripts}
 use Rattle.fmp_scripts.specs.Scripts.{Steps, AreInBits}
-use Rattle.fmp_names.specs.Names.{NameLists}
-use Rattle.fmp_text.specs.Limits.{most_bytes}
+use Rattle.fmp_names.specs.Names.{AreValid, NameLists}
+use Rattle.fmp_setup.specs.Valid.{IsValid}
 use Rattle.fmp_trace.specs.Lines.{lines_from}
 use Rattle.fmp_smp.specs.Rounds.{TicksInTurn}
 use Rattle.fmp_smp.specs.Seeds.{IsInOrderOf}
 use Rattle.fmp_world.specs.declared.finishing.Ended.{Ended}
 use Rattle.fmp_world.specs.declared.seats.Receipt.{Receipt}
 use Rattle.fmp_world.specs.Ends.{IsSmpRun}
-use Rattle.fmp_world.specs.Histories.{events_of}
+use Rattle.fmp_histories.specs.Histories.{events_of}
 use Rattle.fmp_devices.specs.Devices.{BeginsWith}
 use Rattle.fmp_judging.specs.declared.fault.RunFault.{RunFault}
 use Rattle.fmp_judging.specs.Faults.{is_read}
 use Rattle.fmp_judging.specs.Texts.{CountsReads, SaysConfig}
 use Rattle.fmp_judging.specs.Traces.{IsOwn}
+use Rattle.fmp_judging.proofs.Yes.{own_trace}
 use Rattle.fmpsim_run.specs.Scripted.{IsPlayBegun, IsPlayed, IsPlayedInOrder, Played}
 
 -- the trace of a run of at most 1,000,000 turns
 abbrev pub played : (config_text script_text : List ℕ) (ticks turns : ℕ) (c : Setup) (scripts : List Steps) (h : List Record) (receipts : List (List Receipt)) (ended : Ended)
-    → SaysConfig config_text c → SpellsScripts c.names script_text scripts → AreInBits scripts → turns ≤ 1000000
+    → SaysConfig config_text c → IsValid c → AreValid c.names → SpellsScripts c.names script_text scripts → AreInBits scripts → turns ≤ 1000000
     → IsSmpRun c scripts ticks turns h receipts ended → TicksInTurn c ticks h → Played config_text script_text ticks turns (lines_from c.names 1 h) ended
-played config_text script_text ticks turns c scripts h receipts ended says spells fit few is ticked = record {
+played config_text script_text ticks turns c scripts h receipts ended says valid names_valid spells fit few is ticked = record {
   config = c;
   scripts = scripts;
   records = h;
@@ -35,18 +36,14 @@ played config_text script_text ticks turns c scripts h receipts ended says spell
   run = is;
   ticked = ticked;
   prints = refl;
-  answers = λ short. record {
-    on = is.run.on;
-    in_bits = is.in_bits fit;
-    few = omega (arith, length-map h (λ (r : Record). r.event), is.within, few);
-    short = short;
-    prints = ap (lines_from c.names 1) is.run.answers;
-  };
+  answers =
+      let many : length (events_of h) ≤ 1000000 = omega (arith, length-map h (λ (r : Record). r.event), is.within, few) in
+      own_trace c (lines_from c.names 1 h) (events_of h) valid names_valid is.run.on (is.in_bits fit) many (ap (lines_from c.names 1) is.run.answers);
 }
 
 -- that trace is one of the machine's own
-abbrev pub played_is_own : (config_text script_text trace : List ℕ) (ticks turns : ℕ) (ended : Ended) → Played config_text script_text ticks turns trace ended → length trace ≤ most_bytes → IsOwn config_text trace
-played_is_own config_text script_text trace ticks turns ended p short = record { config = p.config; events = events_of p.records; says = p.says; prints = p.answers short }
+abbrev pub played_is_own : (config_text script_text trace : List ℕ) (ticks turns : ℕ) (ended : Ended) → Played config_text script_text ticks turns trace ended → IsOwn config_text trace
+played_is_own config_text script_text trace ticks turns ended p = record { config = p.config; events = events_of p.records; says = p.says; prints = p.answers }
 
 -- what was written, where these names and records are that run's
 module _ (config_text script_text : List ℕ) (ticks turns : ℕ) (c : Setup) (h : List Record) (ended : Ended) (run : Played config_text script_text ticks turns (lines_from c.names 1 h) ended)

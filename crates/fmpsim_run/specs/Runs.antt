@@ -3,6 +3,7 @@ use Rattle.std.specs.Prelude.{◌≡◌, ◌⊎◌, ℕ, List, ◌++◌, take, S
 use Rattle.fmp_codes.specs.declared.records.Event.{Event}
 use Rattle.fmp_text.specs.declared.fault.TextFault.{TextFault}
 use Rattle.fmp_text.specs.Events.{IsFirst, IsMemory, Reading, reading_by_line}
+use Rattle.fmp_feed.specs.Feed.{HasLinesWithin}
 use Rattle.fmp_setup.specs.Setup.{Setup}
 use Rattle.fmp_machine.specs.Boot.{booted}
 use Rattle.fmp_machine.specs.Arrivals.{numbered}
@@ -66,6 +67,17 @@ LeavesWritten writing config_text event_text old new other = IsPrefix writing co
 -- the same of the trace
 abbrev pub LeavesOut : List ℕ → List ℕ → List ℕ → List ℕ → RunFault → Type 0
 LeavesOut config_text event_text old new fault = LeavesWritten trace_of config_text event_text old new fault
+
+-- no line of this text has more than 32 KiB
+abbrev pub HasShortLines : List ℕ → Type 0
+HasShortLines text = HasLinesWithin 32768 text
+
+-- a run ended for want of memory
+abbrev pub IsWantOfMemory : RunFault → Type 0
+IsWantOfMemory (run.Config fault) = fault.kind ≡ config_kind.Memory
+IsWantOfMemory (run.Text fault) = IsMemory fault
+IsWantOfMemory run.Memory = Unit {0}
+IsWantOfMemory other = ⊥
 
 -- a fault of the events is the first one of their reading, or want of memory
 abbrev pub FirstEventFault : Reading → RunFault → Type 0

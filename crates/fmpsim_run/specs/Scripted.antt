@@ -1,5 +1,5 @@
 -- What a run of processors that follow scripts does.
-use Rattle.std.specs.Prelude.{◌≡◌, ◌≤◌, ℕ, List, ◌++◌, length}
+use Rattle.std.specs.Prelude.{◌≡◌, ℕ, List, ◌++◌}
 use Rattle.fmp_codes.specs.declared.records.Record.{Record}
 use Rattle.fmp_setup.specs.Setup.{Setup}
 use Rattle.fmp_scripts.specs.ScriptGrammar.{SpellsScripts}
@@ -8,14 +8,13 @@ use Rattle.fmp_smp.specs.declared.fault.SmpFault.{SmpFault}
 use Rattle.fmp_smp.specs.declared.fault.SmpFault.TheVariants as smp
 use Rattle.fmp_smp.specs.Rounds.{TicksInTurn}
 use Rattle.fmp_smp.specs.Seeds.{IsInOrderOf}
-use Rattle.fmp_text.specs.Limits.{most_bytes}
 use Rattle.fmp_check.specs.Checking.{PrintsAnswers}
 use Rattle.fmp_trace.specs.Lines.{lines_from}
 use Rattle.fmp_world.specs.declared.finishing.Ended.{Ended}
 use Rattle.fmp_world.specs.declared.finishing.Ended.TheVariants as ended
 use Rattle.fmp_world.specs.declared.seats.Receipt.{Receipt}
 use Rattle.fmp_world.specs.Ends.{IsSmpRun}
-use Rattle.fmp_world.specs.Histories.{events_of}
+use Rattle.fmp_histories.specs.Histories.{events_of}
 use Rattle.fmp_judging.specs.declared.fault.RunFault.{RunFault}
 use Rattle.fmp_judging.specs.declared.fault.RunFault.TheVariants as run
 use Rattle.fmp_devices.specs.Devices.{BeginsWith}
@@ -35,8 +34,8 @@ pub record Played (config_text script_text : List ℕ) (ticks turns : ℕ) (outp
   -- each tick is the one that was due
   pub ticked : TicksInTurn config ticks records
   pub prints : output ≡ lines_from config.names 1 records
-  -- within the limit of bytes it is a trace of this machine's answers
-  pub answers : length output ≤ most_bytes → PrintsAnswers config output (events_of records)
+  -- it is a trace of this machine's answers, and within the limits of texts
+  pub answers : PrintsAnswers config output (events_of records)
 
 -- the output was written after old, all of it
 abbrev pub IsPlayed : List ℕ → List ℕ → ℕ → ℕ → List ℕ → List ℕ → Ended → Type 0

@@ -1,7 +1,7 @@
 -- What a run that answers each event as it comes has done.
-use Rattle.std.specs.Prelude.{◌≡◌, ◌⊎◌, ℕ, Bool, IsTrue, List, ◌++◌, length}
+use Rattle.std.specs.Prelude.{◌≡◌, ◌⊎◌, ℕ, Bool, false, IsTrue, List, ◌++◌, length, vec_capacity}
 use Rattle.fmp_codes.specs.declared.records.Event.{Event}
-use Rattle.fmp_text.specs.Events.{Reading, faultless, with_events}
+use Rattle.fmp_text.specs.Events.{IsMemory, Reading, faultless, with_events}
 use Rattle.fmp_feed.specs.Feed.{ahead}
 use Rattle.fmp_setup.specs.Setup.{Setup}
 use Rattle.fmp_machine.specs.Boot.{booted}
@@ -12,27 +12,40 @@ use Rattle.fmp_judging.specs.declared.fault.RunFault.{RunFault}
 use Rattle.fmp_judging.specs.declared.fault.RunFault.TheVariants as run
 use Rattle.fmpsim_run.specs.declared.stream.Answering.{Answering}
 use Rattle.fmpsim_run.specs.declared.stream.Detail.{Detail}
+use Rattle.fmpsim_run.specs.declared.stream.Detail.TheVariants as detail
 use Rattle.fmp_devices.specs.Devices.{BeginsWith}
-use Rattle.fmpsim_run.specs.Runs.{IsPrefixOut, IsStopped}
+use Rattle.fmpsim_run.specs.Runs.{HasShortLines, IsOutBefore, IsPrefixOut}
 use Rattle.fmpsim_run.specs.Details.{detail_of}
+use Rattle.fmpsim_run.specs.Room.{HasLineRoom}
 
--- The events given so far were answered, and what is ahead gives the others, where these bytes are still to come. What was
--- written is told, or it is not.
-pub record Streams (d : Detail) (tells : Bool) (config : Setup) (whole : Reading) (old : List ℕ) (a : Answering) (written remaining : List ℕ) : Type 0 where
+-- The room that a run takes before it reads an event is enough for all that it tells: no states, and no line of the text is long.
+pub record IsAmple (d : Detail) (text : List ℕ) : Type 0 where
+  pub lines : d ≡ detail.Line
+  pub short : HasShortLines text
+
+-- The events given so far were answered, and what is ahead gives the others, where these bytes of the text are still to come.
+-- What was written is told, or it is not.
+pub record Streams (d : Detail) (tells : Bool) (config : Setup) (event_text : List ℕ) (whole : Reading) (old : List ℕ) (a : Answering) (written remaining : List ℕ) : Type 0 where
   pub detail : a.detail ≡ d
   pub given : List Event
   pub reading : whole ≡ with_events given (ahead config.names a.feed remaining)
+  pub short : a.feed.dropped ≡ false → HasShortLines event_text → HasShortLines (a.feed.rest ++ remaining)
+  pub room : HasLineRoom d (vec_capacity a.line)
   pub stands : Stands a.kernel (replay numbered (booted config) given)
   pub count : a.count ≡ length given
   pub text : IsTrue tells → written ≡ old ++ detail_of d config given
 
--- What was written after old, where the run ends with this fault. Memory may be wanting before anything is written.
-abbrev pub Leaves : Detail → Setup → Reading → List ℕ → List ℕ → RunFault → Type 0
-Leaves d config whole old new (run.Config fault) = Unit {0}
-Leaves d config whole old new (run.Text fault) = IsStopped (detail_of d) config whole old new fault
-Leaves d config whole old new run.Write = BeginsWith old (detail_of d config whole.events) new
-Leaves d config whole old new run.Memory = (new ≡ old) ⊎ IsPrefixOut (detail_of d) config whole.events old new
-Leaves d config whole old new other = IsPrefixOut (detail_of d) config whole.events old new
+-- want of memory behind what is written of a prefix of the events, which is only where the room that was taken is not enough
+abbrev pub IsOutOfRoom : Detail → Setup → List ℕ → Reading → List ℕ → List ℕ → Type 0
+IsOutOfRoom d config text whole old new = IsPrefixOut (detail_of d) config whole.events old new × ¬ (IsAmple d text)
+
+-- what was written after old, where a run over the events of this text ends with this fault
+abbrev pub Leaves : Detail → Setup → List ℕ → Reading → List ℕ → List ℕ → RunFault → Type 0
+Leaves d config text whole old new (run.Config fault) = Unit {0}
+Leaves d config text whole old new (run.Text fault) = IsOutBefore (detail_of d) config whole old new fault ⊎ (IsMemory fault × IsOutOfRoom d config text whole old new)
+Leaves d config text whole old new run.Write = BeginsWith old (detail_of d config whole.events) new
+Leaves d config text whole old new run.Memory = (new ≡ old) ⊎ IsOutOfRoom d config text whole old new
+Leaves d config text whole old new other = IsPrefixOut (detail_of d) config whole.events old new
 
 -- the text has no fault, and what is told of all its events was written after old
 pub record IsAllOut (d : Detail) (config : Setup) (whole : Reading) (old new : List ℕ) : Type 0 where

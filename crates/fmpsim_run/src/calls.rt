@@ -1,16 +1,17 @@
 //! The run that answers a list of events, each as it comes.
-ghost use Rattle.std.specs.Prelude.{◌≡◌, ◌≢◌, ◌+◌, ◌-◌, ◌^◌, ◌<◌, ◌≤◌, [], ℕ, List, true, false, None, length, OnOk, IfErr, Err, if◌then◌else◌};
+ghost use Rattle.std.specs.Prelude.{◌≡◌, ◌≢◌, ◌+◌, ◌-◌, ◌^◌, ◌<◌, ◌≤◌, [], ℕ, List, true, false, length, OnOk, IfErr, Err, if◌then◌else◌};
 ghost use Rattle.fmp_setup.specs.Valid.{IsValid};
 ghost use Rattle.fmp_codes.specs.declared.records.Event.{Event as AnyEvent};
+ghost use Rattle.fmp_feed.specs.Feed.{IsWanting};
 ghost use Rattle.fmp_setup.specs.Setup.{Setup};
 ghost use Rattle.fmp_text.specs.Events.{Reading, reading_by_line};
 ghost use Rattle.fmp_text.specs.TextGrammar.{SpellsText};
 ghost use Rattle.fmp_text.specs.Limits.{most_bytes, most_events};
-ghost use Rattle.fmpsim_run.specs.Details.{AreStatesTold, LeavesStates};
+ghost use Rattle.fmpsim_run.specs.Details.{AreStatesTold, LeavesStates, detail_of, states_of};
 ghost use Rattle.fmp_devices.specs.Devices.{IsKnown, bytes_of};
 ghost use Rattle.fmp_judging.specs.Faults.{failed_read, failed_write, is_config, is_thread_fault};
-ghost use Rattle.fmp_judging.specs.Texts.{CountsReads, FailsOnce, FirstConfigFault, SaysConfig};
-ghost use Rattle.fmpsim_run.specs.Runs.{FirstEventFault, FirstTextFault, IsAnswered, IsNoFaultOfText, LeavesOut};
+ghost use Rattle.fmp_judging.specs.Texts.{CountsReads, FirstConfigFault, FlushFails, SaysConfig};
+ghost use Rattle.fmpsim_run.specs.Runs.{FirstEventFault, FirstTextFault, HasShortLines, IsAnswered, IsNoFaultOfText, IsPrefix, IsPrefixOut, IsWantOfMemory, LeavesOut, trace_of};
 ghost use Rattle.fmpsim_run.specs.Streams.{IsAllOut, Leaves, Streams};
 
 use crate::stream::{Answering, Detail};
@@ -32,20 +33,20 @@ fn answer_all<S: Source, W: Sink>(
     requires counted { run.old.count ≡ run.old.feed.events }
     requires few { run.old.feed.events ≤ most_events }
     requires fits { run.old.feed.taken ≤ most_bytes }
-    requires fine { run.old.feed.fault ≡ None }
+    requires wanting { IsWanting run.old.feed }
     requires unended { run.old.feed.ended ≡ false }
     requires processors { length run.old.kernel.processors ≡ config.now.processors }
-    requires room { 0 < length piece.old }
+    requires room { length piece.old ≡ 65536 }
     ensures known { IsKnown (W.written trace.old) → IsKnown (W.written trace.new) }
-    ensures answered { IsKnown (S.left events.old) → IsKnown (W.written trace.old) → (d : Detail) (whole : Reading) (old : List ℕ)
-        → Streams d true config.now whole old run.old (bytes_of (W.written trace.old)) (bytes_of (S.left events.old))
+    ensures answered { IsKnown (S.left events.old) → IsKnown (W.written trace.old) → (d : Detail) (text : List ℕ) (whole : Reading) (old : List ℕ)
+        → Streams d true config.now text whole old run.old (bytes_of (W.written trace.old)) (bytes_of (S.left events.old))
         → OnOk result (IsAllOut d config.now whole old (bytes_of (W.written trace.new))) }
-    ensures first { IsKnown (S.left events.old) → (d : Detail) (whole : Reading) (old : List ℕ)
-        → Streams d false config.now whole old run.old (bytes_of (W.written trace.old)) (bytes_of (S.left events.old))
+    ensures first { IsKnown (S.left events.old) → (d : Detail) (text : List ℕ) (whole : Reading) (old : List ℕ)
+        → Streams d false config.now text whole old run.old (bytes_of (W.written trace.old)) (bytes_of (S.left events.old))
         → IfErr result (FirstEventFault whole) }
-    ensures leaves { IsKnown (S.left events.old) → IsKnown (W.written trace.old) → (d : Detail) (whole : Reading) (old : List ℕ)
-        → Streams d true config.now whole old run.old (bytes_of (W.written trace.old)) (bytes_of (S.left events.old))
-        → IfErr result (Leaves d config.now whole old (bytes_of (W.written trace.new))) }
+    ensures leaves { IsKnown (S.left events.old) → IsKnown (W.written trace.old) → (d : Detail) (text : List ℕ) (whole : Reading) (old : List ℕ)
+        → Streams d true config.now text whole old run.old (bytes_of (W.written trace.old)) (bytes_of (S.left events.old))
+        → IfErr result (Leaves d config.now text whole old (bytes_of (W.written trace.new))) }
     ensures events_read { IsKnown (S.left events.old) → OnOk result (bytes_of (S.left events.new) ≡ []) }
     ensures kinds { IfErr result (λ fault. is_config fault ≡ false) }
     ensures no_thread_fault { IfErr result (λ fault. is_thread_fault fault ≡ false) }
@@ -76,7 +77,7 @@ fn answer_from_boot<S: Source, W: Sink>(
     ensures valid { OnOk result (IsValid config.now) }
     ensures first { IsKnown (S.left events.old) → IfErr result (FirstEventFault (reading_by_line config.now.names (bytes_of (S.left events.old)))) }
     ensures leaves { IsKnown (S.left events.old) → IsKnown (W.written trace.old)
-        → IfErr result (Leaves detail config.now (reading_by_line config.now.names (bytes_of (S.left events.old))) (bytes_of (W.written trace.old)) (bytes_of (W.written trace.new))) }
+        → IfErr result (Leaves detail config.now (bytes_of (S.left events.old)) (reading_by_line config.now.names (bytes_of (S.left events.old))) (bytes_of (W.written trace.old)) (bytes_of (W.written trace.new))) }
     ensures events_read { IsKnown (S.left events.old) → OnOk result (bytes_of (S.left events.new) ≡ []) }
     ensures kinds { IfErr result (λ fault. is_config fault ≡ false) }
     ensures no_thread_fault { IfErr result (λ fault. is_thread_fault fault ≡ false) }
@@ -106,12 +107,13 @@ fn answer_text<S: Source, W: Sink>(
     ensures passed { result ≢ Err RunFault.Write → W.buffered trace.new ≡ [] }
     ensures first { IsKnown (S.left events.old) → IfErr result (FirstEventFault (reading_by_line config.now.names (bytes_of (S.left events.old)))) }
     ensures leaves { IsKnown (S.left events.old) → IsKnown (W.written trace.old)
-        → IfErr result (Leaves detail config.now (reading_by_line config.now.names (bytes_of (S.left events.old))) (bytes_of (W.written trace.old)) (bytes_of (W.written trace.new))) }
+        → IfErr result (Leaves detail config.now (bytes_of (S.left events.old)) (reading_by_line config.now.names (bytes_of (S.left events.old))) (bytes_of (W.written trace.old)) (bytes_of (W.written trace.new))) }
     ensures events_read { IsKnown (S.left events.old) → OnOk result (bytes_of (S.left events.new) ≡ []) }
     ensures kinds { IfErr result (λ fault. is_config fault ≡ false) }
     ensures no_thread_fault { IfErr result (λ fault. is_thread_fault fault ≡ false) }
     ensures reads { result ≢ Err RunFault.Write → S.failures events.new ≡ S.failures events.old + (if failed_read result then 1 else 0) }
-    ensures most { (S.failures events.old ≤ S.failures events.new) × (S.failures events.new ≤ S.failures events.old + 1) }
+    ensures flush { FlushFails (S.failures events.old) (S.failures events.new) (IsKnown (S.left events.old) → IsKnown (W.written trace.old)
+        → IsPrefixOut (detail_of detail) config.now (reading_by_line config.now.names (bytes_of (S.left events.old))).events (bytes_of (W.written trace.old)) (bytes_of (W.written trace.new))) }
     ensures writes { W.failures trace.new ≡ W.failures trace.old + (if failed_write result then 1 else 0) }
 {
     let ended = answer_from_boot(alloc, detail, config, events, trace);
@@ -151,6 +153,10 @@ pub fn run_calls<R: Source, S: Source, W: Sink>(
     ensures unwritten { IsKnown (W.written trace.old) → IfErr result (λ fault. is_config fault ≡ true → bytes_of (W.written trace.new) ≡ bytes_of (W.written trace.old)) }
     ensures leaves { IsKnown (R.left config.old) → IsKnown (S.left events.old) → IsKnown (W.written trace.old) → IfErr result (LeavesOut (bytes_of (R.left config.old)) (bytes_of (S.left events.old)) (bytes_of (W.written trace.old)) (bytes_of (W.written trace.new))) }
 
+    // Memory is wanting before the first line is written, or not at all, where no line of the events has more than 32 KiB.
+    ensures early { IsKnown (S.left events.old) → IsKnown (W.written trace.old) → HasShortLines (bytes_of (S.left events.old))
+        → IfErr result (λ fault. IsWantOfMemory fault → bytes_of (W.written trace.new) ≡ bytes_of (W.written trace.old)) }
+
     // However the run ends, nothing is held back, unless a write failed.
     ensures passed { OnOk result (W.buffered trace.new ≡ []) }
     ensures none_held { W.buffered trace.old ≡ [] → result ≢ Err RunFault.Write → W.buffered trace.new ≡ [] }
@@ -158,9 +164,11 @@ pub fn run_calls<R: Source, S: Source, W: Sink>(
     // No thread was started.
     ensures no_thread_fault { IfErr result (λ fault. is_thread_fault fault ≡ false) }
 
-    // Which calls of the devices failed. The flush behind a failed read may fail too, and is told then.
+    // Which calls of the devices failed. Where a write or a flush did, no read failed; or one of the events did, and behind it the
+    // flush alone: then what is written of some prefix of the events is out, each line whole.
     ensures reads { result ≢ Err RunFault.Write → CountsReads result (R.failures config.old) (R.failures config.new) (S.failures events.old) (S.failures events.new) }
-    ensures most { FailsOnce (R.failures config.old) (R.failures config.new) (S.failures events.old) (S.failures events.new) }
+    ensures flush { result ≡ Err RunFault.Write → (R.failures config.new ≡ R.failures config.old) × FlushFails (S.failures events.old) (S.failures events.new)
+        (IsKnown (R.left config.old) → IsKnown (S.left events.old) → IsKnown (W.written trace.old) → IsPrefix trace_of (bytes_of (R.left config.old)) (bytes_of (S.left events.old)) (bytes_of (W.written trace.old)) (bytes_of (W.written trace.new))) }
     ensures writes { W.failures trace.new ≡ W.failures trace.old + (if failed_write result then 1 else 0) }
 {
     let configuration = config_from(alloc, config)?;
@@ -210,9 +218,11 @@ pub fn run_states<R: Source, S: Source, W: Sink>(
     // No thread was started.
     ensures no_thread_fault { IfErr result (λ fault. is_thread_fault fault ≡ false) }
 
-    // Which calls of the devices failed. The flush behind a failed read may fail too, and is told then.
+    // Which calls of the devices failed. Where a write or a flush did, no read failed; or one of the events did, and behind it the
+    // flush alone: then what is written of some prefix of the events is out, each line whole.
     ensures reads { result ≢ Err RunFault.Write → CountsReads result (R.failures config.old) (R.failures config.new) (S.failures events.old) (S.failures events.new) }
-    ensures most { FailsOnce (R.failures config.old) (R.failures config.new) (S.failures events.old) (S.failures events.new) }
+    ensures flush { result ≡ Err RunFault.Write → (R.failures config.new ≡ R.failures config.old) × FlushFails (S.failures events.old) (S.failures events.new)
+        (IsKnown (R.left config.old) → IsKnown (S.left events.old) → IsKnown (W.written trace.old) → IsPrefix states_of (bytes_of (R.left config.old)) (bytes_of (S.left events.old)) (bytes_of (W.written trace.old)) (bytes_of (W.written trace.new))) }
     ensures writes { W.failures trace.new ≡ W.failures trace.old + (if failed_write result then 1 else 0) }
 {
     let machine = config_from(alloc, config)?;

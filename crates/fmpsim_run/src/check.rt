@@ -1,6 +1,5 @@
 //! The run that checks a trace.
-ghost use Rattle.std.specs.Prelude.{◌≡◌, ◌≢◌, ℕ, ◌+◌, ◌-◌, ◌^◌, ◌<◌, ◌≤◌, List, ◌++◌, [], length, OnOk, IfOk, IfErr, Err, false, if◌then◌else◌};
-ghost use Rattle.fmp_text.specs.Limits.{most_bytes as MOST_BYTES};
+ghost use Rattle.std.specs.Prelude.{◌≡◌, ◌≢◌, ℕ, ◌+◌, ◌-◌, ◌^◌, ◌<◌, List, ◌++◌, [], OnOk, IfOk, IfErr, Err, false, if◌then◌else◌};
 ghost use Rattle.fmp_devices.specs.Devices.{IsKnown, bytes_of};
 ghost use Rattle.fmp_judging.specs.Faults.{failed_write, is_thread_fault};
 ghost use Rattle.fmp_judging.specs.Texts.{Answered, CountsReads, FirstConfigFault};
@@ -57,11 +56,11 @@ pub fn run_check<R: Source, S: Source, W: Sink>(
 
     // A trace that answers some events, as `run_calls` writes it, is checked with yes.
     ensures answers { IsKnown (R.left config.old) → IsKnown (S.left trace.old) → (event_text : List ℕ) → Answered (bytes_of (R.left config.old)) event_text (bytes_of (S.left trace.old))
-        → length (bytes_of (S.left trace.old)) ≤ MOST_BYTES → IsYes result }
+        → IsYes result }
 
     // So is one of processors that follow scripts, as `run_threads` and `run_seeded` write it.
     ensures plays { IsKnown (R.left config.old) → IsKnown (S.left trace.old) → (script_text : List ℕ) (ticks turns : ℕ) (ended : Ended)
-        → Played (bytes_of (R.left config.old)) script_text ticks turns (bytes_of (S.left trace.old)) ended → length (bytes_of (S.left trace.old)) ≤ MOST_BYTES → IsYes result }
+        → Played (bytes_of (R.left config.old)) script_text ticks turns (bytes_of (S.left trace.old)) ended → IsYes result }
 
     // A fault of a text is its first one.
     ensures config_fault { IsKnown (R.left config.old) → IfErr result (FirstConfigFault (bytes_of (R.left config.old))) }

@@ -1,7 +1,7 @@
 //! Answering each event as it comes.
-ghost use Rattle.std.specs.Prelude.{◌≡◌, ◌⊎◌, ◌≤◌, ◌+◌, ◌-◌, ◌^◌, ◌<◌, ◌++◌, ℕ, Bool, List, [], true, false, IsTrue, OnOk, IfOk, IfErr, Err, Ok, None, length, if◌then◌else◌};
+ghost use Rattle.std.specs.Prelude.{◌≡◌, ◌≢◌, ◌⊎◌, ◌≤◌, ◌+◌, ◌-◌, ◌^◌, ◌<◌, ◌++◌, ℕ, Bool, List, [], true, false, IsTrue, OnOk, IfOk, IfErr, Err, Ok, length, vec_capacity, if◌then◌else◌};
 ghost use Rattle.fmp_codes.specs.Records.{processor_of};
-ghost use Rattle.fmp_feed.specs.Feed.{IsDone, new_feed};
+ghost use Rattle.fmp_feed.specs.Feed.{IsDone, IsWanting, new_feed};
 ghost use Rattle.fmp_lists.specs.Stands.{Stands};
 ghost use Rattle.fmp_machine.specs.Boot.{booted};
 ghost use Rattle.fmp_machine.specs.Arrivals.{State, numbered};
@@ -14,6 +14,7 @@ ghost use Rattle.fmpsim_run.specs.Details.{behind_line, entry_text};
 ghost use Rattle.fmp_devices.specs.Devices.{BeginsWith, IsKnown, bytes_of};
 ghost use Rattle.fmp_judging.specs.Faults.{failed_read, failed_write, is_config, is_read, is_write, is_thread_fault};
 ghost use Rattle.fmpsim_run.specs.Runs.{FirstEventFault};
+ghost use Rattle.fmp_trace.specs.Lines.{most_line_bytes};
 ghost use Rattle.fmpsim_run.specs.Streams.{Leaves, Streams};
 
 use fmp_codes::{Answer, Event, Proc, Record};
@@ -43,13 +44,26 @@ fn put_behind(
     kernel: &Kernel,
     line: &mut Vec<u8>,
 ) -> Result<(), AllocError>
-    ensures { (m : State) → Stands kernel.now m → OnOk result (line.new.items ≡ line.old.items ++ behind_line detail names.now m) }
+    ensures ok { (m : State) → Stands kernel.now m → OnOk result (line.new.items ≡ line.old.items ++ behind_line detail names.now m) }
+    ensures nothing { detail ≡ Detail.Line → (result ≡ Ok tt) × (line.new ≡ line.old) }
 {
     match detail {
         Detail::Line => Ok(()),
         Detail::State => put_state(line, names, kernel),
     }
 }
+
+/// How much a record can tell of at most, for proofs. It does nothing.
+fn few_told(told: &Record)
+    ensures releases { length told.now.releases ≤ 64 }
+    ensures requests { length told.now.requests ≤ 8 }
+{
+    let _releases = told.releases.len();
+    let _requests = told.requests.as_slice();
+}
+
+/// The room that a run takes for a line before it reads an event: no line of a trace has more bytes.
+const LINE_ROOM: usize = 10_394;
 
 /// A run that answers each event as it comes. It keeps the unread rest of one line, the last record, and the line that it writes.
 #[derive(Drop)]
@@ -74,6 +88,7 @@ impl Answering {
         ensures stands { IfOk result (λ a. Stands a.kernel (booted config.now)) }
         ensures processors { IfOk result (λ a. length a.kernel.processors ≡ config.now.processors) }
         ensures count { IfOk result (λ a. a.count ≡ 0) }
+        ensures room { IfOk result (λ a. most_line_bytes ≤ vec_capacity a.line) }
         ensures valid { OnOk result (IsValid config.now) }
     {
         Ok(Answering {
@@ -82,7 +97,7 @@ impl Answering {
             kernel: Kernel::boot(config)?,
             count: 0,
             told: Record::answer(Event::Tick(Proc::new(1)), None, Answer::Nothing),
-            line: Vec::new(alloc),
+            line: Vec::with_capacity(alloc, LINE_ROOM)?,
         })
     }
 
@@ -97,6 +112,7 @@ impl Answering {
     pub(crate) fn begin<W: Sink>(&mut self, names: &Names, trace: &mut W) -> Result<(), RunFault>
         requires calls { W.failures trace.old < 2 ^ 64 - 1 }
         ensures same { (self.new.detail ≡ self.old.detail) × (self.new.feed ≡ self.old.feed) × (self.new.kernel ≡ self.old.kernel) × (self.new.count ≡ self.old.count) }
+        ensures line { self.old.detail ≡ Detail.Line → vec_capacity self.old.line ≤ vec_capacity self.new.line }
         ensures known { IsKnown (W.written trace.old) → IsKnown (W.written trace.new) }
         ensures ok { IsKnown (W.written trace.old) → (m : State) → Stands self.old.kernel m
             → OnOk result (bytes_of (W.written trace.new) ≡ bytes_of (W.written trace.old) ++ behind_line self.old.detail names.now m) }
@@ -120,7 +136,7 @@ impl Answering {
         trace: &mut W,
     ) -> Result<(), RunFault>
         requires calls { W.failures trace.old < 2 ^ 64 - 1 }
-        requires room { self.old.count < 2 ^ 32 - 1 }
+        requires counts { self.old.count < 2 ^ 32 - 1 }
         requires on { (processor_of event).number ≤ length self.old.kernel.processors }
         ensures detail { self.new.detail ≡ self.old.detail }
         ensures feed { self.new.feed ≡ self.old.feed }
@@ -131,13 +147,17 @@ impl Answering {
         ensures ok { IsKnown (W.written trace.old) → (m : State) → Stands self.old.kernel m
             → OnOk result (bytes_of (W.written trace.new) ≡ bytes_of (W.written trace.old) ++ entry_text self.old.detail names.now (self.old.count + 1) (step_of numbered m event)) }
         ensures memory { IsKnown (W.written trace.old) → result ≡ Err RunFault.Memory → bytes_of (W.written trace.new) ≡ bytes_of (W.written trace.old) }
+        ensures line { self.old.detail ≡ Detail.Line → vec_capacity self.old.line ≤ vec_capacity self.new.line }
+        ensures room { self.old.detail ≡ Detail.Line → most_line_bytes ≤ vec_capacity self.old.line → result ≢ Err RunFault.Memory }
         ensures write { IsKnown (W.written trace.old) → (m : State) → Stands self.old.kernel m → result ≡ Err RunFault.Write
             → BeginsWith (bytes_of (W.written trace.old)) (entry_text self.old.detail names.now (self.old.count + 1) (step_of numbered m event)) (bytes_of (W.written trace.new)) }
         ensures kinds { IfErr result (λ fault. (fault ≡ RunFault.Memory) ⊎ (fault ≡ RunFault.Write)) }
         ensures no_thread_fault { IfErr result (λ fault. is_thread_fault fault ≡ false) }
         ensures writes { W.failures trace.new ≡ W.failures trace.old + (if failed_write result then 1 else 0) }
     {
+        names.validity();
         self.kernel.step_into(event, &mut self.told);
+        few_told(&self.told);
         self.count += 1;
         trace_line(self.count, &self.told, names, &mut self.line)?;
         put_behind(self.detail, names, &self.kernel, &mut self.line)?;
@@ -151,21 +171,21 @@ impl Answering {
         requires few { self.old.feed.events ≤ most_events }
         requires processors { length self.old.kernel.processors ≡ config.now.processors }
         ensures known { IsKnown (W.written trace.old) → IsKnown (W.written trace.new) }
-        ensures streams { (d : Detail) (tells : Bool) (whole : Reading) (old remaining : List ℕ)
+        ensures streams { (d : Detail) (tells : Bool) (text : List ℕ) (whole : Reading) (old remaining : List ℕ)
             → (IsTrue tells → IsKnown (W.written trace.old))
-            → Streams d tells config.now whole old self.old (bytes_of (W.written trace.old)) remaining
-            → OnOk result (Streams d tells config.now whole old self.new (bytes_of (W.written trace.new)) remaining) }
-        ensures first { (d : Detail) (whole : Reading) (old remaining : List ℕ)
-            → Streams d false config.now whole old self.old (bytes_of (W.written trace.old)) remaining
+            → Streams d tells config.now text whole old self.old (bytes_of (W.written trace.old)) remaining
+            → OnOk result (Streams d tells config.now text whole old self.new (bytes_of (W.written trace.new)) remaining) }
+        ensures first { (d : Detail) (text : List ℕ) (whole : Reading) (old remaining : List ℕ)
+            → Streams d false config.now text whole old self.old (bytes_of (W.written trace.old)) remaining
             → IfErr result (FirstEventFault whole) }
-        ensures leaves { IsKnown (W.written trace.old) → (d : Detail) (whole : Reading) (old remaining : List ℕ)
-            → Streams d true config.now whole old self.old (bytes_of (W.written trace.old)) remaining
-            → IfErr result (Leaves d config.now whole old (bytes_of (W.written trace.new))) }
+        ensures leaves { IsKnown (W.written trace.old) → (d : Detail) (text : List ℕ) (whole : Reading) (old remaining : List ℕ)
+            → Streams d true config.now text whole old self.old (bytes_of (W.written trace.old)) remaining
+            → IfErr result (Leaves d config.now text whole old (bytes_of (W.written trace.new))) }
         ensures counted { OnOk result (self.new.count ≡ self.new.feed.events) }
         ensures moves { IfOk result (λ more. self.new.feed.events ≡ self.old.feed.events + (if more then 1 else 0)) }
         ensures few { OnOk result (self.new.feed.events ≤ most_events) }
         ensures processors { length self.new.kernel.processors ≡ length self.old.kernel.processors }
-        ensures wanting { IfOk result (λ more. more ≡ false → (self.new.feed.dropped ≡ false) × (self.new.feed.fault ≡ None)) }
+        ensures wanting { IfOk result (λ more. more ≡ false → IsWanting self.new.feed) }
         ensures done { IfOk result (λ more. more ≡ false → self.new.feed.ended ≡ true → IsDone config.now.names self.new.feed) }
         ensures same { (self.new.feed.ended ≡ self.old.feed.ended) × (self.new.feed.taken ≡ self.old.feed.taken) × (self.new.feed.dropped ≡ self.old.feed.dropped) }
         ensures kinds { IfErr result (λ fault. (is_read fault ≡ false) × (is_config fault ≡ false)) }
@@ -193,20 +213,20 @@ impl Answering {
         requires few { self.old.feed.events ≤ most_events }
         requires processors { length self.old.kernel.processors ≡ config.now.processors }
         ensures known { IsKnown (W.written trace.old) → IsKnown (W.written trace.new) }
-        ensures streams { (d : Detail) (tells : Bool) (whole : Reading) (old remaining : List ℕ)
+        ensures streams { (d : Detail) (tells : Bool) (text : List ℕ) (whole : Reading) (old remaining : List ℕ)
             → (IsTrue tells → IsKnown (W.written trace.old))
-            → Streams d tells config.now whole old self.old (bytes_of (W.written trace.old)) remaining
-            → OnOk result (Streams d tells config.now whole old self.new (bytes_of (W.written trace.new)) remaining) }
-        ensures first { (d : Detail) (whole : Reading) (old remaining : List ℕ)
-            → Streams d false config.now whole old self.old (bytes_of (W.written trace.old)) remaining
+            → Streams d tells config.now text whole old self.old (bytes_of (W.written trace.old)) remaining
+            → OnOk result (Streams d tells config.now text whole old self.new (bytes_of (W.written trace.new)) remaining) }
+        ensures first { (d : Detail) (text : List ℕ) (whole : Reading) (old remaining : List ℕ)
+            → Streams d false config.now text whole old self.old (bytes_of (W.written trace.old)) remaining
             → IfErr result (FirstEventFault whole) }
-        ensures leaves { IsKnown (W.written trace.old) → (d : Detail) (whole : Reading) (old remaining : List ℕ)
-            → Streams d true config.now whole old self.old (bytes_of (W.written trace.old)) remaining
-            → IfErr result (Leaves d config.now whole old (bytes_of (W.written trace.new))) }
+        ensures leaves { IsKnown (W.written trace.old) → (d : Detail) (text : List ℕ) (whole : Reading) (old remaining : List ℕ)
+            → Streams d true config.now text whole old self.old (bytes_of (W.written trace.old)) remaining
+            → IfErr result (Leaves d config.now text whole old (bytes_of (W.written trace.new))) }
         ensures counted { OnOk result (self.new.count ≡ self.new.feed.events) }
         ensures few { OnOk result (self.new.feed.events ≤ most_events) }
         ensures processors { length self.new.kernel.processors ≡ length self.old.kernel.processors }
-        ensures wanting { OnOk result ((self.new.feed.dropped ≡ false) × (self.new.feed.fault ≡ None)) }
+        ensures wanting { OnOk result (IsWanting self.new.feed) }
         ensures done { OnOk result (self.new.feed.ended ≡ true → IsDone config.now.names self.new.feed) }
         ensures same { (self.new.feed.ended ≡ self.old.feed.ended) × (self.new.feed.taken ≡ self.old.feed.taken) × (self.new.feed.dropped ≡ self.old.feed.dropped) }
         ensures kinds { IfErr result (λ fault. (is_read fault ≡ false) × (is_config fault ≡ false)) }
@@ -227,21 +247,20 @@ impl Answering {
     ) -> Result<(), RunFault>
         requires passed { W.buffered trace.now ≡ [] }
         requires calls { S.failures events.old < 2 ^ 64 - 1 }
-        requires fine { self.old.feed.fault ≡ None }
+        requires wanting { IsWanting self.old.feed }
         requires unended { self.old.feed.ended ≡ false }
         requires fits { self.old.feed.taken ≤ most_bytes }
-        requires room { 0 < length piece.old }
-        ensures feed_fault { OnOk result (self.new.feed.fault ≡ None) }
+        requires room { length piece.old ≡ 65536 }
         ensures known { IsKnown (S.left events.old) → IsKnown (S.left events.new) }
-        ensures streams { IsKnown (S.left events.old) → (d : Detail) (tells : Bool) (c : Setup) (whole : Reading) (old written : List ℕ)
-            → Streams d tells c whole old self.old written (bytes_of (S.left events.old))
-            → OnOk result (Streams d tells c whole old self.new written (bytes_of (S.left events.new))) }
-        ensures leaves { IsKnown (S.left events.old) → (d : Detail) (c : Setup) (whole : Reading) (old written : List ℕ)
-            → Streams d true c whole old self.old written (bytes_of (S.left events.old))
-            → IfErr result (Leaves d c whole old written) }
+        ensures streams { IsKnown (S.left events.old) → (d : Detail) (tells : Bool) (c : Setup) (text : List ℕ) (whole : Reading) (old written : List ℕ)
+            → Streams d tells c text whole old self.old written (bytes_of (S.left events.old))
+            → OnOk result (Streams d tells c text whole old self.new written (bytes_of (S.left events.new))) }
+        ensures leaves { IsKnown (S.left events.old) → (d : Detail) (c : Setup) (text : List ℕ) (whole : Reading) (old written : List ℕ)
+            → Streams d true c text whole old self.old written (bytes_of (S.left events.old))
+            → IfErr result (Leaves d c text whole old written) }
         ensures first { (whole : Reading) → IfErr result (FirstEventFault whole) }
         ensures end { IsKnown (S.left events.old) → OnOk result (self.new.feed.ended ≡ true → bytes_of (S.left events.new) ≡ []) }
-        ensures counts { (self.new.count ≡ self.old.count) × (self.new.feed.events ≡ self.old.feed.events) × (self.new.kernel ≡ self.old.kernel) × (self.new.detail ≡ self.old.detail) }
+        ensures counts { (self.new.count ≡ self.old.count) × (self.new.feed.events ≡ self.old.feed.events) × (self.new.kernel ≡ self.old.kernel) × (self.new.detail ≡ self.old.detail) × (self.new.line ≡ self.old.line) }
         ensures fits { OnOk result (self.new.feed.taken ≤ most_bytes) }
         ensures moves { OnOk result (self.new.feed.ended ≡ false → self.new.feed.dropped ≡ false → (self.old.feed.taken < self.new.feed.taken) × (self.new.feed.taken ≤ most_bytes)) }
         ensures kinds { IfErr result (λ fault. (is_write fault ≡ false) × (is_config fault ≡ false)) }

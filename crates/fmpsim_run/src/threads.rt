@@ -177,7 +177,9 @@ pub fn run_threads<T: Threads + Wait + Sync, R: Source, S: Source, W: Sink, G: G
     let (machine, list) = texts_from(alloc, config, scripts)?;
     let run = threads_run(rt, alloc, &machine, &list, ticks, turns, gate)?;
     drop(run.receipts);
-    write_history(alloc, machine.names(), &run.history, trace)?;
+    let names = machine.names();
+    names.validity();
+    write_history(alloc, names, &run.history, trace)?;
     Ok(run.ended)
 }
 
@@ -226,6 +228,8 @@ pub fn run_seeded<R: Source, S: Source, W: Sink>(
     let (machine, list) = texts_from(alloc, config, scripts)?;
     let run = fmp_smp::run_seeded(alloc, &machine, &list, ticks, turns, seed)?;
     drop(run.receipts);
-    write_history(alloc, machine.names(), &run.history, trace)?;
+    let names = machine.names();
+    names.validity();
+    write_history(alloc, names, &run.history, trace)?;
     Ok(run.ended)
 }

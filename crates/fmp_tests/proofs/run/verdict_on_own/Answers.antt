@@ -1,5 +1,4 @@
-use Rattle.std.proofs.Common.{◌≡◌, ◌≤◌, ◌∙◌, List, ℕ, length, sym, refl, subst, Result, Ok, Err, IfOk}
-use Rattle.fmp_text.specs.Limits.{most_bytes as MOST_BYTES}
+use Rattle.std.proofs.Common.{◌≡◌, ◌∙◌, refl, Result, Ok, Err, IfOk}
 use Rattle.fmp_check.specs.declared.checking.Verdict.{Verdict}
 use Rattle.fmp_check.specs.declared.checking.Verdict.TheVariants.{Yes}
 use Rattle.fmp_judging.specs.Traces.{IsYes}
@@ -14,7 +13,6 @@ yes_if_ok (Err f) e = tt
 pub returns : goal.returns
 returns c =
     let a = c.in_ok-trace.ensures in
-    let same_trace = c.new-2.ensures.0 ∙ c.bytes-2.ensures ∙ a.2 in
-    let short : length c.new-2.result.rest.now ≤ MOST_BYTES = subst (λ (t : List ℕ). length t ≤ MOST_BYTES) (c.bytes.ensures ∙ sym c.bytes-2.ensures ∙ sym c.new-2.ensures.0) c.if-bytes-gt-MOST_BYTES.false in
+    let same_trace = c.new-2.ensures.0 ∙ c.bytes.ensures ∙ a.2 in
     let answered : Answered c.new.result.rest.now c.args.events.now c.new-2.result.rest.now = rw (c.new.ensures.0, same_trace) a.1 in
-    yes_if_ok c.run_check.result (c.run_check.ensures.answers refl refl c.args.events.now answered short)
+    yes_if_ok c.run_check.result (c.run_check.ensures.answers refl refl c.args.events.now answered)

@@ -1,8 +1,8 @@
-use Rattle.std.proofs.Common.{[], subst}
+use Rattle.std.proofs.Common.{[], refl, rules, subst}
 use Rattle.fmp_names.specs.Names.{AreValid}
 use Rattle.std.proofs.lemmas.Result.{err_from_is_err_and}
 use Rattle.fmpsim_run.specs.declared.stream.Detail.TheVariants as detail
-use Rattle.fmpsim_run.proofs.Ended.{answered_result, config_right, first_result, leaves_result, no_text, nothing_out, right_result}
+use Rattle.fmpsim_run.proofs.Ended.{answered_result, config_right, early_result, first_result, flush_result, leaves_result, no_text, nothing_out, right_result}
 use Rattle.fmpsim_run.proofs.calls.run_calls.Goals as goal
 
 pub returns-in_err-configuration-clause-text_fault : goal.returns-in_err-configuration-clause-text_fault
@@ -39,3 +39,15 @@ pub returns-clause-right : goal.returns-clause-right
 returns-clause-right g c = λ configs reads setup events says spells.
     let valid = subst AreValid c.names.ensures.value c.validity.ensures in
     right_result _ _ setup events says spells c.in_ok-configuration.configuration (c.in_ok-configuration.ensures.ok configs) valid c.answer_text.result c.answer_text.ensures.kinds (c.answer_text.ensures.first reads)
+
+pub returns-clause-flush : goal.returns-clause-flush
+returns-clause-flush g c = λ failed. (
+  search rules,
+  flush_result _ _ _ c.in_ok-configuration.configuration c.in_ok-configuration.ensures.ok detail.Line _ _ _ c.answer_text.ensures.flush,
+)
+
+pub returns-clause-early : goal.returns-clause-early
+returns-clause-early g c = λ reads writes short.
+    let valid = subst AreValid c.names.ensures.value c.validity.ensures in
+    early_result c.in_ok-configuration.configuration _ _ valid (record { lines = refl; short = short }) _ c.answer_text.result c.answer_text.ensures.kinds
+    (c.answer_text.ensures.leaves reads writes)

@@ -1,8 +1,8 @@
-use Rattle.std.proofs.Common.{[], subst}
+use Rattle.std.proofs.Common.{[], rules, subst}
 use Rattle.fmp_names.specs.Names.{AreValid}
 use Rattle.std.proofs.lemmas.Result.{err_from_is_err_and}
 use Rattle.fmpsim_run.specs.declared.stream.Detail.TheVariants as detail
-use Rattle.fmpsim_run.proofs.Ended.{states_result, config_right, first_result, leaves_result, no_text, nothing_out, right_result}
+use Rattle.fmpsim_run.proofs.Ended.{states_result, config_right, first_result, flush_result, leaves_result, no_text, nothing_out, right_result}
 use Rattle.fmpsim_run.proofs.calls.run_states.Goals as goal
 
 pub returns-in_err-machine-clause-text_fault : goal.returns-in_err-machine-clause-text_fault
@@ -39,3 +39,9 @@ pub returns-clause-right : goal.returns-clause-right
 returns-clause-right g c = λ configs reads setup events says spells.
     let valid = subst AreValid c.names.ensures.value c.validity.ensures in
     right_result _ _ setup events says spells c.in_ok-machine.machine (c.in_ok-machine.ensures.ok configs) valid c.answer_text.result c.answer_text.ensures.kinds (c.answer_text.ensures.first reads)
+
+pub returns-clause-flush : goal.returns-clause-flush
+returns-clause-flush g c = λ failed. (
+  search rules,
+  flush_result _ _ _ c.in_ok-machine.machine c.in_ok-machine.ensures.ok detail.State _ _ _ c.answer_text.ensures.flush,
+)

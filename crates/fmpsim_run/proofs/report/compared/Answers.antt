@@ -7,22 +7,22 @@ use Rattle.fmpsim_run.proofs.Played.{played_is_own}
 use Rattle.fmpsim_run.proofs.report.compared.Goals as goal
 
 pub returns-in_err-configuration-clause-answers : goal.returns-in_err-configuration-clause-answers
-returns-in_err-configuration-clause-answers g c = λ tells tells_too event_text answered short.
+returns-in_err-configuration-clause-answers g c = λ tells tells_too event_text answered.
     let p = err_from_is_err_and c.from_residual.result c.from_residual.ensures.1 in
     rw (p.1, p.2) (only_memory _ answered.config c.in_err-configuration.field-0.0 answered.says (c.in_err-configuration.ensures.fault tells) c.in_err-configuration.ensures.kinds.0)
 
 pub returns-clause-answers : goal.returns-clause-answers
-returns-clause-answers g c = λ tells tells_too event_text answered short.
+returns-clause-answers g c = λ tells tells_too event_text answered.
     let names_valid = subst AreValid c.names.ensures.value c.validity.ensures in
     c.comparison_from.ensures.answers tells_too answered.events
-    (answered_prints _ event_text _ c.in_ok-configuration.configuration (c.in_ok-configuration.ensures.ok tells) c.names.ensures.valid names_valid answered short)
+    (answered_prints _ event_text _ c.in_ok-configuration.configuration (c.in_ok-configuration.ensures.ok tells) c.names.ensures.valid names_valid answered)
 
 pub returns-in_err-configuration-clause-plays : goal.returns-in_err-configuration-clause-plays
-returns-in_err-configuration-clause-plays g c = λ tells tells_too script_text ticks turns ended played short.
+returns-in_err-configuration-clause-plays g c = λ tells tells_too script_text ticks turns ended played.
     let p = err_from_is_err_and c.from_residual.result c.from_residual.ensures.1 in
     rw (p.1, p.2) (only_memory _ played.config c.in_err-configuration.field-0.0 played.says (c.in_err-configuration.ensures.fault tells) c.in_err-configuration.ensures.kinds.0)
 
 pub returns-clause-plays : goal.returns-clause-plays
-returns-clause-plays g c = λ tells tells_too script_text ticks turns ended played short.
+returns-clause-plays g c = λ tells tells_too script_text ticks turns ended played.
     c.comparison_from.ensures.answers tells_too _
-    (own_prints _ _ c.in_ok-configuration.configuration (c.in_ok-configuration.ensures.ok tells) (played_is_own _ _ _ _ _ _ played short))
+    (own_prints _ _ c.in_ok-configuration.configuration (c.in_ok-configuration.ensures.ok tells) (played_is_own _ _ _ _ _ _ played))

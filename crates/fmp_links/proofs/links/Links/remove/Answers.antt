@@ -3,7 +3,7 @@ use Rattle.std.specs.Prelude.{slice_index}
 use Rattle.fmp_links.specs.Lists.{list_at}
 use Rattle.fmp_links.specs.Rings.{IsSound}
 use Rattle.fmp_links.proofs.Having.{has_there}
-use Rattle.fmp_links.proofs.Soundness.{prev_in_ring, next_in_ring, ring_in, list_in, place_is, sound_remove, lists_are, settled}
+use Rattle.fmp_links.proofs.Soundness.{prev_in_ring, next_in_ring, ring_in, list_in, place_is, sound_out, lists_are, settled}
 use Rattle.fmp_links.proofs.links.Links.remove.Goals as goal
 
 pub bounds-self-inside-ahead : goal.bounds-self-inside-ahead
@@ -33,7 +33,7 @@ invariant_of-self g c =
     let i = c.requires.somewhere.0 in (
       c.self.invariant.0,
       c.self.invariant.1,
-      settled (sound_remove g.row.ITEMS n c.self.inside.prev c.self.inside.place c.args.self.now i c.args.item s (place_is s i c.args.item c.requires.somewhere.1)),
+      settled (sound_out g.row.ITEMS n c.self.inside.prev c.self.inside.place c.args.self.now i c.args.item s (place_is s i c.args.item c.requires.somewhere.1) c.requires.item_in),
     )
 
 pub returns : goal.returns
@@ -41,4 +41,4 @@ returns g c =
     let n = c.self.inside.next in
     let s : IsSound g.row.ITEMS n c.self.inside.prev c.self.inside.place c.args.self.now = subst (IsSound g.row.ITEMS n c.self.inside.prev c.self.inside.place) c.self.view_is c.self.invariant.2 in
     let i = c.requires.somewhere.0 in
-    lists_are (sound_remove g.row.ITEMS n c.self.inside.prev c.self.inside.place c.args.self.now i c.args.item s (place_is s i c.args.item c.requires.somewhere.1))
+    lists_are (sound_out g.row.ITEMS n c.self.inside.prev c.self.inside.place c.args.self.now i c.args.item s (place_is s i c.args.item c.requires.somewhere.1) c.requires.item_in)

@@ -1,7 +1,7 @@
 use Rattle.std.proofs.Common.{◌≡◌, ◌+◌, ◌∙◌, [], ◌∷◌, ◌++◌, length, rules, refl, ap, sym, arith, length-append}
 use Rattle.std.proofs.lemmas.List.{append_assoc}
 use Rattle.std.proofs.lemmas.List.Sums.{count_by-le-length}
-use Rattle.fmp_world.specs.Ends as ends
+use Rattle.fmp_histories.specs.Counted as history
 use Rattle.fmp_world.specs.Findings.{is_of_seat}
 use Rattle.fmp_world.proofs.Found.{finds_more}
 use Rattle.fmp_world.proofs.Receipts.{few_receipts}
@@ -29,7 +29,7 @@ take-requires-clause-taken c = λ i small.
     let h = before.0 in
     let next : c.loop-told.replay ≡ c.next.new.told ∷ c.next.new.self = search rules in
     let taken = before.2.taken i small in
-    let few = count_by-le-length (ends.is_taken_tick (i + 1)) h in
+    let few = count_by-le-length (history.is_taken_tick (i + 1)) h in
     let whole = ap length before.1 in
     let parts = length-append h c.loop-told.replay in
     let rest = ap length next in

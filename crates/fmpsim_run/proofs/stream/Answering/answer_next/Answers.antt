@@ -1,22 +1,27 @@
-use Rattle.std.proofs.Common.{true, refl, ap, Err}
+use Rattle.std.proofs.Common.{true, refl, ap, Err, ◌∙◌}
 use Rattle.std.proofs.lemmas.Result.{err_from_is_err_and}
-use Rattle.fmpsim_run.proofs.Streaming.{named_begins, named_entry, named_next, stream_step, step_leaves}
+use Rattle.fmpsim_run.proofs.Streaming.{named_begins, named_entry, named_next, named_same, stream_same, stream_step, step_leaves}
 use Rattle.fmpsim_run.proofs.stream.Answering.answer_next.Goals as goal
 
 pub returns-in_ok-answer-in-Some-clause-streams : goal.returns-in_ok-answer-in-Some-clause-streams
-returns-in_ok-answer-in-Some-clause-streams g c = λ d tells whole old remaining known before.
+returns-in_ok-answer-in-Some-clause-streams g c = λ d tells text whole old remaining known before.
     let names = c.names-names.ensures.value in
     let next = named_next _ c.args.config.now names c.args.self.now.feed c.next.new.self _ c.in-Some.event c.in-Some.is c.in-Ok.ensures.gives in
-    stream_step d tells c.args.config.now whole old c.args.self.now c.answer.new.self c.next.new.self _ _ remaining c.in-Some.event before (next remaining)
-    c.answer.ensures.detail c.answer.ensures.feed c.answer.ensures.stands c.answer.ensures.count
+    stream_step d tells c.args.config.now text whole old c.args.self.now c.answer.new.self c.next.new.self _ _ remaining c.in-Some.event before (next remaining)
+    c.in-Ok.ensures.rest c.next.ensures.same.2 c.answer.ensures.detail c.answer.ensures.feed c.answer.ensures.line c.answer.ensures.stands c.answer.ensures.count
     (λ told m stands. named_entry _ c.args.config.now names _ _ _ _ _ (c.in_ok-answer-in-Some.ensures.ok (known told) m stands))
 
+pub returns-in-None-clause-streams : goal.returns-in-None-clause-streams
+returns-in-None-clause-streams g c = λ d tells text whole old remaining known before.
+    let same = named_same _ c.args.config.now c.names-names.ensures.value c.args.self.now.feed c.next.new.self _ c.in-None.is c.in-Ok.ensures.gives in
+    stream_same d tells c.args.config.now text whole old c.args.self.now _ _ remaining before (same remaining) c.in-Ok.ensures.rest c.next.ensures.same.2 refl refl refl refl
+
 pub returns-in_err-answer-in-Some-clause-leaves : goal.returns-in_err-answer-in-Some-clause-leaves
-returns-in_err-answer-in-Some-clause-leaves g c = λ known d whole old remaining before.
+returns-in_err-answer-in-Some-clause-leaves g c = λ known d text whole old remaining before.
     let names = c.names-names.ensures.value in
     let next = named_next _ c.args.config.now names c.args.self.now.feed c.next.new.self _ c.in-Some.event c.in-Some.is c.in-Ok.ensures.gives in
     let p = err_from_is_err_and c.from_residual.result c.from_residual.ensures.1 in
     let failed = c.in_err-answer-in-Some.ensures in
     rw (p.1, p.2)
-    (step_leaves d true c.args.config.now whole old c.args.self.now c.next.new.self _ _ remaining c.in-Some.event c.in_err-answer-in-Some.field-0.0 refl before (next remaining)
-    (λ is. failed.memory known (ap Err is)) (λ m stands is. named_begins _ c.args.config.now names _ _ _ _ _ (failed.write known m stands (ap Err is))) failed.kinds)
+    (step_leaves d true c.args.config.now text whole old c.args.self.now c.next.new.self _ _ remaining c.in-Some.event c.in_err-answer-in-Some.field-0.0 refl before (next remaining)
+    (λ is. failed.memory known (ap Err is)) (λ lines room is. failed.room (before.detail ∙ lines) room (ap Err is)) (λ m stands is. named_begins _ c.args.config.now names _ _ _ _ _ (failed.write known m stands (ap Err is))) failed.kinds)

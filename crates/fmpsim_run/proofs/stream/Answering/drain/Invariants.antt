@@ -14,10 +14,10 @@ invariant-loop g l = record {
   processors : length l.self.kernel.processors ≡ length l.fn.self.kernel.processors;
   same : (l.self.feed.ended ≡ l.fn.self.feed.ended) × (l.self.feed.taken ≡ l.fn.self.feed.taken) × (l.self.feed.dropped ≡ l.fn.self.feed.dropped);
   known : IsKnown (g.W.Sink.written l.fn.trace) → IsKnown (g.W.Sink.written l.trace);
-  streams : (d : Detail) (tells : Bool) (whole : Reading) (old remaining : List ℕ)
+  streams : (d : Detail) (tells : Bool) (text : List ℕ) (whole : Reading) (old remaining : List ℕ)
       → (IsTrue tells → IsKnown (g.W.Sink.written l.fn.trace))
-      → Streams d tells l.config whole old l.fn.self (bytes_of (g.W.Sink.written l.fn.trace)) remaining
-      → Streams d tells l.config whole old l.self (bytes_of (g.W.Sink.written l.trace)) remaining;
+      → Streams d tells l.config text whole old l.fn.self (bytes_of (g.W.Sink.written l.fn.trace)) remaining
+      → Streams d tells l.config text whole old l.self (bytes_of (g.W.Sink.written l.trace)) remaining;
 }
 
 abbrev pub decreases-loop : goal.decreases-loop

@@ -1,0 +1,7 @@
+//! One who goes through the orders of a configuration by its scripts.
+#![tactic(auto)]
+
+mod ticks;
+mod walker;
+
+pub use walker::Walker;

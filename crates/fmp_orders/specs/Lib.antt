@@ -1,0 +1,5 @@
+pub mod Orders  -- What may happen next after a history, and histories that are made of that.
+pub mod Sights  -- The lines of an event: what patterns are looked for in.
+pub mod Shown  -- When an order shows what a question asks.
+pub mod Places  -- What a run is going on from: the places of all orders, which forget how they were come to.
+pub mod Laws  -- Runs over places are these histories.

@@ -1,0 +1,269 @@
+//! What stands behind the lanes: the script's answers to who looks at them.
+
+/// The second half of the script, and the end of the page: the lines beside the lanes, search, mouse and keys, and the legend.
+pub const CONTROLS: &[u8] = b"// ---- the lines beside it
+
+let rows = [];
+const shown = () => view.only && view.hits ? view.hits : null;
+const rowCount = () => shown() ? shown().length : N;
+const rowLine = i => shown() ? shown()[i] : i + 1;
+const rowOf = n => shown() ? Math.max(0, last(shown(), n)) : n - 1;
+const tallest = 8000000, listHeight = () => Math.min(tallest, rowCount() * ROW);
+// Where row i stands while the list is scrolled so: exact, but in lists that no browser can make as high as they are.
+function firstRow() {
+  const list = $('list'), room = list.clientHeight, whole = rowCount() * ROW, free = listHeight() - room;
+  return whole <= tallest ? list.scrollTop / ROW : free > 0 ? list.scrollTop / free * (rowCount() - room / ROW) : 0;
+}
+function fill() {
+  const list = $('list'), begin = firstRow(), count = Math.ceil(list.clientHeight / ROW) + 2, start = Math.max(0, Math.floor(begin));
+  const nodes = [], width = String(N).length;
+  for (let i = start; i < Math.min(rowCount(), start + count); i++) nodes.push(rowNode(rowLine(i), list.scrollTop + (i - begin) * ROW, width));
+  const whole = el('div');
+  whole.style.height = listHeight() + 'px';
+  list.replaceChildren(whole, ...nodes);
+  rows = nodes;
+  marks();
+}
+function rowNode(n, top, width) {
+  const e = el('div', 'row'), [, , p, who, event, answer, rest] = parts(n);
+  e.style.top = top + 'px'; e.dataset.n = n; e.id = 'row' + n; e.setAttribute('role', 'option');
+  const number = el('span', 'n', n), add = (name, s) => e.append(name ? el('span', name, s) : s);
+  number.style.width = width + 'ch';
+  e.append(number); add('p', 'P' + p); add('', ' ' + who + ' '); add(lineKind[n] ? 'mute' : '', event); add('', ' ');
+  add(['', 'bad', 'wait', 'mute'][lineClass[n]], answer);
+  for (const word of (rest || '').split(' ').slice(1)) add(word.startsWith('rel=') ? (word.includes(':E_OK') ? 'rel' : 'bad') : word.startsWith('ipi=') ? 'req' : word.startsWith('run=') ? 'run' : 'bad', ' ' + word);
+  return e;
+}
+function marks() {
+  for (const e of rows) {
+    const n = +e.dataset.n;
+    e.classList.toggle('sel', n === view.sel); e.classList.toggle('hover', n === view.hover); e.setAttribute('aria-selected', n === view.sel);
+    e.classList.toggle('hit', !!view.hits && view.hits[Math.max(0, last(view.hits, n))] === n);
+  }
+  if (view.sel) $('list').setAttribute('aria-activedescendant', 'row' + view.sel);
+}
+function showRow(n) {
+  const list = $('list'), room = list.clientHeight, i = rowOf(n), whole = rowCount() * ROW;
+  const begin = firstRow(), fits = room / ROW;
+  if (i < begin || i + 1 > begin + fits) {
+    const want = Math.max(0, Math.min(i - fits / 2 + .5, rowCount() - fits));
+    list.scrollTop = whole <= tallest ? want * ROW : want / (rowCount() - fits) * (listHeight() - room);
+  }
+  fill();
+}
+function select(n, move = true) {
+  view.sel = Math.max(0, Math.min(N, n));
+  if (move && (X(view.sel) < 0 || X(view.sel + 1) > view.width)) { view.a = view.sel - span() / 2; clamp(); }
+  if (view.sel) showRow(view.sel);
+  view.fresh = true; draw();
+  try { history.replaceState(null, '', '#' + view.sel); } catch (e) { /* a page that may not change its address */ }
+}
+function hover(n) { if (view.hover !== n) { view.hover = n; marks(); draw(); } }
+
+function detail() {
+  const box = $('detail'), n = view.sel, nodes = [], head = s => nodes.push(el('h3', '', s)), say = [];
+  const para = (s, name) => nodes.push(el('p', name || '', s));
+  if (!n) { nodes.push(el('h2', '', 'At boot')); para('The state before the first line. Arrow keys go on.', 'mute'); }
+  else {
+    const [, , p, who, event, answer] = parts(n), code = answer.split(':')[0];
+    nodes.push(el('h2', '', line(n)));
+    para((who === '-' ? 'On P' + p + ' nobody runs' : 'On P' + p + ' by ' + who) + '; ' + answer + (MEANS[code] ? ': ' + MEANS[code] : ''), 'mute');
+    say.push('Line ' + n + ', P' + p + ', ' + event + ', ' + answer);
+    const changed = [];
+    for (const lane of every) {
+      const still = lane.type !== 'task' || changedAt('a' + lane.t, n) < 0, rest = m => still ? '' : taskRest(lane.t, m);
+      const a = laneWords(lane, n - 1).replace(/, [0-9]+ ticks? left/, ''), b = laneWords(lane, n), cut = b.replace(/, [0-9]+ ticks? left/, '');
+      if (a !== cut || !still) changed.push([lane.name, a + rest(n - 1), (a === cut ? cut : b) + rest(n)]);
+    }
+    for (let q = 1; q <= model.processors; q++) {
+      const [a, b] = [n - 1, n].map(m => orderOf(q, m).map(taskName));
+      if (a.join() !== b.join() && [...a].sort().join() === [...b].sort().join()) changed.push(['P' + q + ' order', a.join(', '), b.join(', ')]);
+    }
+    head('What changed');
+    if (!changed.length) para('nothing that is shown', 'mute');
+    for (const [name, a, b] of changed) { const e = el('p'); e.append(el('b', '', name), ' ' + a + ' ' + String.fromCharCode(8594) + ' ' + b); nodes.push(e); say.push(name + ' ' + b); }
+    links('Because', causes(n), 'line ', nodes); links('Leads to', results(n), 'line ', nodes);
+  }
+  head('After it');
+  const table = el('table');
+  const add = (name, s) => { const r = el('tr'), a = el('td'); a.append(el('b', '', name)); r.append(a, el('td', '', s)); table.append(r); };
+  for (let p = 1; p <= model.processors; p++) {
+    const ready = readyOf(p, n), top = orderOf(p, n)[0] || 0;
+    add('P' + p, procWords(p, n) + (ready.length ? '; ready: ' + ready.map(taskName).join(', ') : '') + (top && top !== running(p, n) && running(p, n) ? '; ' + taskName(top) + ' comes first' : ''));
+  }
+  model.tasks.forEach((task, i) => {
+    if (value('s' + (i + 1), n)[0] !== '-') add(task.name, taskWords(i + 1, n) + taskRest(i + 1, n));
+  });
+  for (const o of model.objects) add(o.name, objectWords(o, n));
+  nodes.push(table);
+  box.replaceChildren(...nodes);
+  $('say').textContent = say.join('. ');
+}
+function links(title, list, lead, nodes) {
+  if (!list.length) return;
+  nodes.push(el('h3', '', title));
+  for (const [n, s] of list) { const e = el('p'), b = el('button', 'go', lead + n); b.onclick = () => select(n); e.append(b, ' ' + s); nodes.push(e); }
+}
+
+// ---- search
+
+// Each word stands in the line as a word; * is any letters, a - before a word says that it does not stand there.
+function search() {
+  const query = $('query').value.trim();
+  view.hits = null;
+  if (query) {
+    const tests = query.split(' ').filter(Boolean).map(w => {
+      const not = w.length > 1 && w[0] === '-', s = (not ? w.slice(1) : w).replace(/[^A-Za-z0-9_*]/g, x => '[' + (x === '^' ? x + x : x) + ']').replaceAll('*', '[^ ]*');
+      return [new RegExp('(?<![A-Za-z0-9_])' + s + '(?![A-Za-z0-9_])', 'i'), !not];
+    });
+    const hits = [];
+    for (let n = 1; n <= N; n++) { const s = line(n); if (tests.every(([r, wanted]) => r.test(s) === wanted)) hits.push(n); }
+    view.hits = hits;
+  }
+  $('list').scrollTop = 0;
+  count(); if (view.sel && (!shown() || shown().length)) showRow(view.sel); else fill();
+  draw();
+}
+function count() {
+  const i = view.hits ? last(view.hits, view.sel) : -1;
+  $('count').textContent = !view.hits ? '' : (i >= 0 && view.hits[i] === view.sel ? i + 1 + ' of ' : '') + view.hits.length + (view.hits.length === 1 ? ' line' : ' lines');
+}
+function nextHit(by) {
+  if (!view.hits || !view.hits.length) return;
+  const i = last(view.hits, by > 0 ? view.sel : view.sel - 1), j = by > 0 ? i + 1 : i;
+  select(view.hits[(j + view.hits.length) % view.hits.length]); count();
+}
+// The previous or next change of the selected lane.
+function nextChange(by) {
+  const s = signals.get(view.lane || 'r' + (lineP[view.sel] || 1)), i = last(s.n, by > 0 ? view.sel : view.sel - 1) + (by > 0 ? 1 : 0);
+  if (i >= 0 && i < s.n.length) select(s.n[i]);
+}
+
+// ---- mouse and keys
+
+function lineAt(e) { const x = e.clientX - $('lanes').getBoundingClientRect().left - LABEL; return x < 0 ? -1 : Math.max(0, Math.min(N, Math.floor(view.a + x / view.k))); }
+function tip(e, n) {
+  const y = e.clientY - $('scroll').getBoundingClientRect().top + $('scroll').scrollTop, lane = lanes.find(l => y >= l.y && y < l.y + l.h), box = $('tip');
+  box.hidden = !lane || lane.type === 'group' || n < 0;
+  if (box.hidden) return;
+  box.textContent = lane.name + ' after line ' + n + ': ' + laneWords(lane, n) + (lane.type === 'proc' && lineP[n] === lane.p ? ' | ' + line(n) : '');
+  box.style.left = Math.min(e.clientX + 14, innerWidth - box.offsetWidth - 6) + 'px'; box.style.top = Math.min(e.clientY + 16, innerHeight - 40) + 'px';
+}
+function listen() {
+  const c = $('lanes');
+  let drag = null;
+  c.onpointerdown = e => { if (e.button === 0) { drag = { x: e.clientX, a: view.a, far: false }; c.setPointerCapture(e.pointerId); } };
+  c.onpointermove = e => {
+    if (drag && (drag.far || Math.abs(e.clientX - drag.x) > 4)) { drag.far = true; c.classList.add('drag'); view.a = drag.a - (e.clientX - drag.x) / view.k; clamp(); return draw(); }
+    const n = lineAt(e); hover(Math.max(0, n)); tip(e, n);
+  };
+  c.onpointerup = e => { const n = lineAt(e); if (drag && !drag.far && n >= 0) select(n, false); drag = null; c.classList.remove('drag'); count(); };
+  c.onpointerleave = () => { hover(0); $('tip').hidden = true; };
+  c.ondblclick = e => zoom(3, e.clientX - c.getBoundingClientRect().left - LABEL);
+  $('scroll').addEventListener('wheel', e => {
+    if (e.ctrlKey || e.altKey || e.metaKey) { e.preventDefault(); zoom(Math.exp(-Math.max(-60, Math.min(60, e.deltaY)) / 150), e.clientX - c.getBoundingClientRect().left - LABEL); }
+    else if (e.shiftKey || Math.abs(e.deltaX) > Math.abs(e.deltaY) || total <= view.height) { e.preventDefault(); pan(e.deltaX || e.deltaY); }
+  }, { passive: false });
+  $('scroll').onscroll = draw;
+  const over = $('over'), jump = e => { view.a = (e.clientX - LABEL) / (over.clientWidth - LABEL) * (N + 1) - span() / 2; clamp(); draw(); };
+  over.onpointerdown = e => { over.setPointerCapture(e.pointerId); jump(e); };
+  over.onpointermove = e => { if (e.buttons) jump(e); };
+  const list = $('list'), rowAt = e => { const r = e.target.closest('.row'); return r ? +r.dataset.n : 0; };
+  list.onscroll = fill;
+  list.onclick = e => { if (rowAt(e)) { select(rowAt(e)); count(); } };
+  list.onpointermove = e => hover(rowAt(e));
+  list.onpointerleave = () => hover(0);
+  $('split').onpointerdown = e => $('split').setPointerCapture(e.pointerId);
+  $('split').onpointermove = e => { if (e.buttons) { document.querySelector('aside').style.width = Math.max(200, Math.min(innerWidth - 400, innerWidth - e.clientX)) + 'px'; resize(); } };
+  let timer = 0;
+  $('query').oninput = () => { clearTimeout(timer); timer = setTimeout(search, N > 20000 ? 150 : 0); };
+  $('query').onkeydown = e => { if (e.key === 'Enter') { clearTimeout(timer); search(); nextHit(e.shiftKey ? -1 : 1); } if (e.key === 'Escape') { $('query').value = ''; search(); $('list').focus(); } };
+  $('only').onchange = () => { view.only = $('only').checked; search(); };
+  for (const [id, f] of Object.entries(ACTIONS)) $(id).onclick = f;
+  document.addEventListener('keydown', keys);
+  addEventListener('resize', () => resize());
+  addEventListener('hashchange', () => select(+location.hash.slice(1) || 0));
+  addEventListener('beforeprint', () => printing(true)); addEventListener('afterprint', () => printing(false));
+}
+const ACTIONS = {
+  prev: () => nextHit(-1), next: () => nextHit(1), in: () => zoom(1.6, sight()), out: () => zoom(1 / 1.6, sight()), fit,
+  arrows: () => { view.arrows = !view.arrows; $('arrows').setAttribute('aria-pressed', view.arrows); draw(); },
+  theme: () => theme(document.documentElement.dataset.theme === 'dark' ? 'light' : 'dark'),
+  save: () => { const a = el('a'); a.href = URL.createObjectURL(new Blob([text], { type: 'text/plain' })); a.download = 'trace.txt'; a.click(); URL.revokeObjectURL(a.href); },
+  help: () => { $('legend').open ? $('legend').close() : legend(); },
+};
+const sight = () => { const x = X(view.sel); return x >= 0 && x <= view.width ? x : view.width / 2; };
+function keys(e) {
+  if (e.target.id === 'query' || e.ctrlKey || e.metaKey || e.altKey || $('legend').open && e.key !== '?') return;
+  const by = e.shiftKey ? 10 : 1, page = Math.max(1, Math.floor($('list').clientHeight / ROW) - 1), step = d => { const s = shown(); select(s && s.length ? s[Math.max(0, Math.min(s.length - 1, last(s, view.sel) + d))] : view.sel + d); count(); };
+  const act = { ArrowRight: () => step(by), ArrowDown: () => step(by), ArrowLeft: () => step(-by), ArrowUp: () => step(-by), PageDown: () => step(page), PageUp: () => step(-page),
+    Home: () => select(0), End: () => select(N), '+': ACTIONS.in, '=': ACTIONS.in, '-': ACTIONS.out, 0: fit, n: ACTIONS.next, N: ACTIONS.prev, '/': () => { $('query').focus(); $('query').select(); },
+    w: () => zoom(1.3, sight()), s: () => zoom(1 / 1.3, sight()), a: ACTIONS.arrows, d: () => pan(view.width / 4), q: () => pan(-view.width / 4), t: ACTIONS.theme, '?': ACTIONS.help, '[': () => nextChange(-1), ']': () => nextChange(1) }[e.key];
+  if (act && !(e.target.tagName === 'BUTTON' && e.key === ' ')) { e.preventDefault(); act(); }
+}
+function theme(name) { document.documentElement.dataset.theme = name; readColors(); layLanes(); draw(); try { localStorage.setItem('fmpsim-theme', name); } catch (e) { /* no storage here */ } }
+function printing(on) {
+  const root = document.documentElement;
+  document.body.classList.toggle('print', on);
+  if (on) { view.theme = root.dataset.theme; root.dataset.theme = 'light'; } else root.dataset.theme = view.theme;
+  const top = on ? $('scroll').scrollTop : view.top;
+  view.top = on ? top : 0;
+  readColors();
+  const a = Math.max(1, Math.floor(view.a)), b = Math.min(N, Math.ceil(view.a + span()) - 1), most = 300, out = [];
+  if (on) { for (let n = a; n <= Math.min(b, a + most - 1); n++) out.push(line(n)); if (b >= a + most) out.push('.. up to line ' + b); }
+  $('printed').textContent = out.join(LF);
+  const seen = span(); layLanes(); resize(on ? 1040 : 0); view.k = view.width / seen; clamp(); $('scroll').scrollTop = on ? 0 : top; cancelAnimationFrame(frame); paint();
+  // Paper shows a box that scrolls from its top, with all that it has: so the labels are those in view, and stand there.
+  if (on) for (const lane of lanes) { if (lane.y < top || lane.y + lane.h > top + view.height) lane.e.remove(); else lane.e.style.top = lane.y - top + 'px'; }
+  if (on) $('labels').style.height = view.height + 'px';
+}
+
+// ---- the legend
+
+function legend() {
+  const d = $('legend'), keysOf = [['Left Right Up Down', 'the line before, the next line; with Shift ten lines'], ['Home End PageUp PageDown', 'through the trace'], ['/ Enter n N', 'search, next and previous line found'], ['[ ]', 'previous and next change of the lane that is clicked'], ['+ - 0', 'zoom in, zoom out, the whole trace (also Ctrl and the wheel)'], ['q d', 'to the left, to the right (also by dragging, or Shift and the wheel)'], ['a t ?', 'arrows, light or dark, this page'], ['Ctrl P', 'prints what is in view, with its lines']];
+  const marks = [['running on a processor', 's', 'r'], ['ready', 's', 'y'], ['waiting, and for what, with the ticks left', 's', 'w'], ['suspended', 's', 's'], ['waiting and suspended', 's', 'x'], ['dormant', 's', '-']];
+  const close = el('button', '', 'Close'); close.onclick = () => d.close(); close.style.float = 'right';
+  const table = el('table'), row = (...cells) => { const r = el('tr'); for (const x of cells) { const t = el('td'); t.append(x); r.append(t); } return r; };
+  const picture = f => { const k = el('canvas'); k.style.width = '120px'; k.style.height = '22px'; const c = sized(k, 120, 22); c.font = '10.5' + FONT; f(c); return k; };
+  const bars = { r: c => { c.fillStyle = colors.run; c.fillRect(2, 3, 110, 15); }, y: c => { c.fillStyle = colors.ready; c.fillRect(2, 5, 110, 11); words(c, 'ready', 2, 110, 14, '#1a1200'); }, w: c => { c.fillStyle = colors.wait + '24'; c.fillRect(2, 3, 110, 15); c.fillStyle = colors.wait; c.fillRect(2, 16, 110, 2); words(c, 'sem LOCK 3', 2, 110, 14, colors.fg); }, s: c => hatch(c, 2, 3, 110, 15, colors.susp), x: c => { bars.w(c); hatch(c, 2, 3, 110, 15, colors.susp); }, '-': c => { c.fillStyle = colors.line; c.fillRect(2, 10, 110, 1); } };
+  for (const [s, , k] of marks) table.append(row(picture(bars[k]), s));
+  table.append(row(picture(c => { c.fillStyle = makeHue(1); c.fillRect(2, 2, 110, 18); words(c, 'T1', 2, 110, 15, '#fff'); }), 'the task that a processor runs, in its colour; idle is a thin line'));
+  table.append(row(picture(c => { c.fillStyle = colors.handler; c.fillRect(2, 2, 110, 14); words(c, 'CLOCK', 2, 110, 13, colors.bg); }), 'a handler that is due, over the task'));
+  table.append(row(picture(c => { c.fillStyle = colors.susp; c.fillRect(2, 8, 52, 5); hatch(c, 60, 8, 52, 5, colors.susp); }), 'CPU locked; dispatching disabled'));
+  table.append(row(picture(c => { c.fillStyle = colors.req; c.fillRect(6, 9, 100, 3); c.beginPath(); c.arc(6, 10.5, 3, 0, 7); c.fill(); head(c, 112, 10.5, 1, 0, colors.req); }), 'a request to the processor is pending, from the line that makes it to the line that takes it'));
+  table.append(row(picture(c => { c.fillStyle = colors.fg; c.beginPath(); c.arc(10, 11, 3, 0, 7); c.fill(); c.beginPath(); c.moveTo(32, 7); c.lineTo(39, 7); c.lineTo(35.5, 15); c.fill(); c.beginPath(); c.moveTo(62, 6); c.lineTo(66, 11); c.lineTo(62, 16); c.lineTo(58, 11); c.fill(); c.beginPath(); c.moveTo(92, 7); c.lineTo(86, 11); c.lineTo(92, 15); c.fill(); }), 'call, tick, inter-processor interrupt, return of a handler; hollow where it did nothing, red where it was refused'));
+  table.append(row(picture(c => { c.lineWidth = 1.6; [[colors.rel, 4, []], [colors.bad, 44, [4, 3]], [colors.req, 84, []]].forEach(([k, x, dash]) => { c.strokeStyle = k; c.setLineDash(dash); c.beginPath(); c.moveTo(x, 11); c.lineTo(x + 22, 11); c.stroke(); c.setLineDash([]); head(c, x + 29, 11, 1, 0, k); }); }), 'releases or activates a task; releases it with an error; requests a processor'));
+  const keysTable = el('table');
+  for (const [k, s] of keysOf) { const t = el('span'); k.split(' ').forEach(x => t.append(el('kbd', '', x), ' ')); keysTable.append(row(t, s)); }
+  d.replaceChildren(close, el('h2', '', 'Legend'), table, el('h2', '', 'Keys'), keysTable, el('p', 'mute', 'A column is what holds after its line. Far out, where a line is narrower than two points, each lane shows the shares of its states. The address ends with the selected line, so it can be sent along.'));
+  d.showModal();
+}
+
+function start() {
+  const begin = performance.now();
+  readSetup(); readTrace(); readChanges(); countWaiters();
+  if (location.hash === '#states') return document.body.replaceChildren(el('pre', '', statesText()));
+  let wanted = null;
+  try { wanted = localStorage.getItem('fmpsim-theme'); } catch (e) { /* no storage here */ }
+  document.documentElement.dataset.theme = wanted || (matchMedia('(prefers-color-scheme: dark)').matches ? 'dark' : 'light');
+  readColors();
+  for (let p = 1; p <= model.processors; p++) every.push({ type: 'proc', p, id: 'r' + p, name: 'P' + p });
+  model.tasks.forEach((x, i) => every.push({ type: 'task', t: i + 1, id: x.id, name: x.name }));
+  for (const o of model.objects) every.push({ type: 'obj', o, id: o.id, name: o.name });
+  if (every.length > 16) folded.add('obj');
+  $('title').textContent = decodeURIComponent(location.pathname.split('/').pop()) || 'Timeline';
+  document.title = $('title').textContent;
+  $('sum').textContent = [[model.processors, 'processor'], [model.tasks.length, 'task'], [model.objects.length, 'object'], [N, 'line']].filter(x => x[0]).map(([n, s]) => grouped(n) + ' ' + s + (n === 1 ? '' : 's')).join(', ') + (model.master ? ', global timer of P' + model.master : '');
+  layLanes(); listen(); resize(); fit();
+  if (N > 4000) { view.k = Math.max(view.k, view.width / 2000); clamp(); }
+  select(+location.hash.slice(1) || 0);
+  $('list').focus();
+  document.documentElement.dataset.shown = N;
+  view.load = performance.now() - begin;
+}
+try { start(); } catch (e) { $('sum').textContent = 'This page cannot be shown: ' + e.message; console.error(e); }
+</script>
+</body>
+</html>
+";

@@ -1,0 +1,3 @@
+mod Standing  -- The first place of a piece is as good as any.
+mod Running  -- The runs of a word, one after the other.
+mod EachWord  -- One word of a question after the other.

@@ -1,0 +1,38 @@
+-- When a pattern stands in a line. A pattern is kept as the pieces between its stars, the blanks before its first word and behind its last
+-- one with them, so that only whole words match.
+use Rattle.std.specs.Prelude.{ℕ, ◌==◌, Bool, true, false, ◌&&◌, ◌||◌, List, [], ◌∷◌, ◌++◌}
+use Rattle.fmp_bytes.specs.Bytes.{space, line_feed, pieces_of}
+
+-- some item passes the test
+abbrev pub any : {A : Type 0} → (A → Bool) → List A → Bool
+any test [] = false
+any test (x ∷ xs) = test x || any test xs
+
+-- every item passes the test
+abbrev pub every : {A : Type 0} → (A → Bool) → List A → Bool
+every test [] = true
+every test (x ∷ xs) = test x && every test xs
+
+-- a text begins with a piece, and what follows it passes the test
+abbrev pub begins : List ℕ → (List ℕ → Bool) → List ℕ → Bool
+begins [] test text = test text
+begins (b ∷ piece) test [] = false
+begins (b ∷ piece) test (c ∷ text) = b == c && begins piece test text
+
+-- a text passes the test from some place on
+abbrev pub somewhere : (List ℕ → Bool) → List ℕ → Bool
+somewhere test [] = test []
+somewhere test (c ∷ text) = test (c ∷ text) || somewhere test text
+
+-- the pieces stand in a text one behind the other
+abbrev pub stand : List (List ℕ) → List ℕ → Bool
+stand [] text = true
+stand (piece ∷ pieces) text = somewhere (begins piece (stand pieces)) text
+
+-- a line between blanks
+abbrev pub padded : List ℕ → List ℕ
+padded line = space ∷ space ∷ line ++ space ∷ space ∷ []
+
+-- a pattern stands in some line of a text
+unfoldable pub has_pattern : List ℕ → List (List ℕ) → Bool
+has_pattern text pattern = any (λ line. stand pattern (padded line)) (pieces_of line_feed text)

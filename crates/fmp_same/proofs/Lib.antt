@@ -1,0 +1,1 @@
+pub mod Equal  -- Equal numbers make equal tasks, processors, objects and priorities.

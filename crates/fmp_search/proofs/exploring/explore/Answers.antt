@@ -1,0 +1,49 @@
+use Rattle.std.proofs.Common.{arith, ◌≡◌, ◌∙◌, ◌+◌, length, false, List, refl, sym, subst}
+use Rattle.fmp_search.specs.declared.nodes.Node.{Node}
+use Rattle.fmp_search.specs.Answers.{Explored}
+use Rattle.fmp_search.specs.Growth.{Opens}
+use Rattle.fmp_search.proofs.Layers.{explored-root, layer-more, none-ever}
+use Rattle.fmp_search.proofs.exploring.explore.Goals as goal
+
+pub loop-depth-init : goal.loop-depth-init
+loop-depth-init g c =
+    let after = g.W.Space.after in
+    let wanted = g.W.Space.wanted in
+    let q = g.W.Space.origin c.args.walker.now in
+    let clean : wanted q ≡ false = subst (λ x. wanted x ≡ false) c.in_ok-restart.ensures.there (sym c.if-is_wanted.ensures) in (
+      subst (λ (ns : List Node). Explored after wanted q ns 0 (length ns + 1) 0) (sym c.in_ok-store.ensures) (explored-root after wanted q clean),
+      omega arith,
+      c.restart.ensures.origin,
+      c.requires.origins.0,
+      c.requires.origins.1,
+    )
+
+pub loop-depth-preserved : goal.loop-depth-preserved
+loop-depth-preserved g c =
+    let after = g.W.Space.after in
+    let wanted = g.W.Space.wanted in
+    let q = g.W.Space.origin c.args.walker.now in
+    let opens = subst (λ how. Opens after wanted (g.W.Space.origin c.loop-depth.walker) c.loop-depth.depth c.count-end.result c.count-end.result how c.open_layer.new.store.nodes.items) c.in-Done.is c.in_ok-steps.ensures.opens in
+    let explored = subst (λ x. Explored after wanted x c.open_layer.new.store.nodes.items c.loop-depth.depth c.count-end.result c.count-end.result) c.loop-depth.invariant.2 opens in (
+      layer-more after wanted q c.open_layer.new.store.nodes.items c.loop-depth.depth c.count-end.result explored,
+      explored.few,
+      c.open_layer.ensures.walker_origin ∙ c.loop-depth.invariant.2,
+      c.open_layer.ensures.base_origin ∙ c.loop-depth.invariant.3,
+      c.open_layer.ensures.other_origin ∙ c.loop-depth.invariant.4,
+    )
+
+pub returns-then-begin-end : goal.returns-then-begin-end
+returns-then-begin-end g c =
+    let q = g.W.Space.origin c.args.walker.now in
+    let nodes = c.loop-depth.store.nodes.items in
+    let all : c.loop-depth.begin ≡ length nodes + 1 = c.if-begin-end.true ∙ c.count-end.ensures in
+    none-ever g.W.Space.after g.W.Space.wanted q nodes c.loop-depth.depth (length nodes + 1)
+    (subst (λ n. Explored g.W.Space.after g.W.Space.wanted q nodes c.loop-depth.depth (length nodes + 1) n) all c.loop-depth.invariant.0) refl
+
+pub returns-then-begin-count : goal.returns-then-begin-count
+returns-then-begin-count g c =
+    let q = g.W.Space.origin c.args.walker.now in
+    let nodes = c.loop-depth.store.nodes.items in
+    let all : c.loop-depth.begin ≡ length nodes + 1 = c.if-begin-count.true ∙ c.count.ensures in
+    none-ever g.W.Space.after g.W.Space.wanted q nodes c.loop-depth.depth (length nodes + 1)
+    (subst (λ n. Explored g.W.Space.after g.W.Space.wanted q nodes c.loop-depth.depth (length nodes + 1) n) all c.loop-depth.invariant.0) refl

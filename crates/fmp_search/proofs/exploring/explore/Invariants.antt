@@ -1,0 +1,13 @@
+use Rattle.std.proofs.Common.{◌≡◌, ◌≤◌, ◌+◌, length}
+use Rattle.fmp_search.specs.Answers.{Explored}
+use Rattle.fmp_search.proofs.exploring.explore.Given as goal
+
+abbrev pub invariant-loop-depth : goal.invariant-loop-depth
+invariant-loop-depth g l =
+    let q = g.W.Space.origin l.fn.walker in
+    let nodes = l.store.nodes.items in
+    Explored g.W.Space.after g.W.Space.wanted q nodes l.depth (length nodes + 1) l.begin
+    × (l.begin ≤ length nodes + 1)
+    × (g.W.Space.origin l.walker ≡ q)
+    × (g.W.Space.origin l.base ≡ q)
+    × (g.W.Space.origin l.other ≡ q)

@@ -1,0 +1,11 @@
+use Rattle.std.proofs.Common.{◌≡◌}
+use Rattle.fmp_search.specs.Answers.{Explored}
+use Rattle.fmp_search.proofs.layer.open_layer.Given as goal
+
+abbrev pub invariant-loop-at : goal.invariant-loop-at
+invariant-loop-at g l =
+    let q = g.W.Space.origin l.fn.walker in
+    Explored g.W.Space.after g.W.Space.wanted q l.store.nodes.items l.fn.front.depth l.fn.front.end l.at
+    × (g.W.Space.origin l.walker ≡ q)
+    × (g.W.Space.origin l.base ≡ q)
+    × (g.W.Space.origin l.other ≡ q)

@@ -1,0 +1,16 @@
+use Rattle.std.proofs.Common.{◌≡◌}
+use Rattle.fmp_search.specs.Answers.{Explored}
+use Rattle.fmp_search.specs.Growth.{Extends, AreTried}
+use Rattle.fmp_search.proofs.layer.open_place.Given as goal
+
+abbrev pub invariant-loop-step : goal.invariant-loop-step
+invariant-loop-step g l =
+    let q = g.W.Space.origin l.fn.walker in
+    let after = g.W.Space.after in
+    let nodes = l.store.nodes.items in
+    Explored after g.W.Space.wanted q nodes l.fn.front.depth l.fn.front.end l.fn.at
+    × Extends after q l.fn.store.nodes.items nodes
+    × AreTried after q nodes l.fn.at l.step
+    × (g.W.Space.origin l.walker ≡ q)
+    × (g.W.Space.origin l.base ≡ q)
+    × (g.W.Space.origin l.other ≡ q)

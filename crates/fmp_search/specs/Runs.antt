@@ -1,0 +1,13 @@
+-- Runs from a place by the numbers of steps.
+use Rattle.std.specs.Prelude.{◌≡◌, ℕ, Bool, true, false, Option, None, Some, List, [], ◌∷◌}
+use Rattle.std.specs.Option.{option_and_then}
+
+-- the place to which a list of steps leads, if each of them can be made
+abbrev pub run : {P : Type 0} → (P → ℕ → Option P) → P → List ℕ → Option P
+run after q [] = Some q
+run after q (s ∷ ss) = option_and_then (λ r. run after r ss) (after q s)
+
+-- a step was made and led there, or could not be made
+abbrev pub Goes : {P : Type 0} → Option P → Bool → P → Type 0
+Goes None made q = made ≡ false
+Goes (Some r) made q = (made ≡ true) × (q ≡ r)

@@ -1,0 +1,133 @@
+//! One layer of places: those that are found by so many steps and by no fewer.
+ghost use Rattle.std.specs.Prelude.{◌≡◌, ◌≤◌, ◌<◌, ◌+◌, ◌^◌, length, IfOk};
+ghost use Rattle.fmp_search.specs.Trees.{found_at};
+ghost use Rattle.fmp_search.specs.Answers.{Explored};
+ghost use Rattle.fmp_search.specs.Growth.{Steps, Opens};
+
+use crate::nodes::{Node, stand_at, steps_to};
+use crate::space::Space;
+use crate::store::Store;
+use std::alloc::{AllocError, Global};
+
+/// How steps from places of a layer went.
+#[derive(Drop)]
+pub(crate) enum Layer {
+    /// These steps lead to a place that is looked for.
+    Found(Vec<u8>),
+    /// There is no room for another place.
+    Full,
+    Done,
+}
+
+/// The layer that is opened: its places are found by so many steps, and those behind it begin with this number.
+#[derive(Clone, Copy)]
+pub(crate) struct Front {
+    pub(crate) depth: u32,
+    pub(crate) end: usize,
+}
+
+// One step from the place where `base` stands. If it leads to a place that was not found before, that is one now.
+fn try_step<W: Space>(
+    alloc: Global,
+    walker: &mut W,
+    base: &W,
+    other: &mut W,
+    store: &mut Store,
+    front: Front,
+    at: usize,
+    step: u8,
+) -> Result<Layer, AllocError>
+    requires explored { Explored W.after W.wanted (W.origin walker.old) store.old.nodes.items front.depth front.end at }
+    requires place { at < front.end }
+    requires depth { front.depth + 1 < 2 ^ 31 }
+    requires base { W.place base.now ≡ (found_at W.after (W.origin walker.old) store.old.nodes.items at).place }
+    requires room { 0 < W.room base.now }
+    requires origins { (W.origin base.now ≡ W.origin walker.old) × (W.origin other.old ≡ W.origin walker.old) }
+    ensures steps { IfOk result (λ how. Steps W.after W.wanted (W.origin walker.old) store.old.nodes.items front.depth front.end at step how store.new.nodes.items) }
+    ensures walker_origin { W.origin walker.new ≡ W.origin walker.old }
+    ensures other_origin { W.origin other.new ≡ W.origin other.old }
+{
+    walker.copy_from(base)?;
+    let made = walker.go(step)?;
+    if !made {
+        return Ok(Layer::Done);
+    }
+    if walker.is_wanted() {
+        let mut steps = steps_to(alloc, walker, &store.nodes, at)?;
+        steps.push(step)?;
+        return Ok(Layer::Found(steps));
+    }
+    let hash = walker.hash();
+    if store.has(alloc, walker, other, hash)? {
+        return Ok(Layer::Done);
+    }
+    if store.is_full() {
+        return Ok(Layer::Full);
+    }
+    store.push(Node {
+        hash,
+        parent: at as u32,
+        step,
+    })?;
+    Ok(Layer::Done)
+}
+
+// All steps from a place, at which `base` is made to stand.
+fn open_place<W: Space>(
+    alloc: Global,
+    walker: &mut W,
+    base: &mut W,
+    other: &mut W,
+    store: &mut Store,
+    front: Front,
+    at: usize,
+) -> Result<Layer, AllocError>
+    requires explored { Explored W.after W.wanted (W.origin walker.old) store.old.nodes.items front.depth front.end at }
+    requires place { at < front.end }
+    requires depth { front.depth + 1 < 2 ^ 31 }
+    requires origins { (W.origin base.old ≡ W.origin walker.old) × (W.origin other.old ≡ W.origin walker.old) }
+    ensures opens { IfOk result (λ how. Opens W.after W.wanted (W.origin walker.old) front.depth front.end (at + 1) how store.new.nodes.items) }
+    ensures walker_origin { W.origin walker.new ≡ W.origin walker.old }
+    ensures base_origin { W.origin base.new ≡ W.origin base.old }
+    ensures other_origin { W.origin other.new ≡ W.origin other.old }
+{
+    stand_at(alloc, base, &store.nodes, at)?;
+    let steps = base.steps();
+    for step in 0..steps {
+        match try_step(alloc, walker, base, other, store, front, at, step)? {
+            Layer::Done => {}
+            Layer::Full => return Ok(Layer::Full),
+            Layer::Found(steps) => return Ok(Layer::Found(steps)),
+        }
+    }
+    Ok(Layer::Done)
+}
+
+/// All steps from the places of a layer, which begins with a number.
+pub(crate) fn open_layer<W: Space>(
+    alloc: Global,
+    walker: &mut W,
+    base: &mut W,
+    other: &mut W,
+    store: &mut Store,
+    front: Front,
+    begin: usize,
+) -> Result<Layer, AllocError>
+    requires explored { Explored W.after W.wanted (W.origin walker.old) store.old.nodes.items front.depth front.end begin }
+    requires place { begin ≤ front.end }
+    requires depth { front.depth + 1 < 2 ^ 31 }
+    requires origins { (W.origin base.old ≡ W.origin walker.old) × (W.origin other.old ≡ W.origin walker.old) }
+    ensures opens { IfOk result (λ how. Opens W.after W.wanted (W.origin walker.old) front.depth front.end front.end how store.new.nodes.items) }
+    ensures walker_origin { W.origin walker.new ≡ W.origin walker.old }
+    ensures base_origin { W.origin base.new ≡ W.origin base.old }
+    ensures other_origin { W.origin other.new ≡ W.origin other.old }
+{
+    for at in begin..front.end {
+        match open_place(alloc, walker, base, other, store, front, at)? {
+            Layer::Done => {}
+            Layer::Full => return Ok(Layer::Full),
+            Layer::Found(steps) => return Ok(Layer::Found(steps)),
+        }
+    }
+    Ok(Layer::Done)
+}

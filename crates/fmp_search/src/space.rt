@@ -1,0 +1,72 @@
+//! What can be gone through.
+ghost use Rattle.std.specs.Prelude.{◌≡◌, ◌≤◌, ◌<◌, ◌+◌, ◌^◌, ℕ, Bool, true, Option, None, Some, IfOk, is_some};
+ghost use Rattle.fmp_search.specs.Runs.{Goes};
+
+use std::alloc::AllocError;
+
+/// One who stands at a place of a graph, can make numbered steps, and can go back to where all runs begin. What a step leads to depends
+/// on the place alone.
+pub trait Space {
+    // What a place is.
+    ghost Place: { Type 0 };
+
+    // Where it stands, and where all runs begin.
+    ghost place: { Self → Place };
+
+    ghost origin: { Self → Place };
+
+    // The place to which a step leads, if it can be made there.
+    ghost after: { Place → ℕ → Option Place };
+
+    // Whether the place is looked for.
+    ghost wanted: { Place → Bool };
+
+    // For how many steps more there is room, before it has to go back.
+    ghost room: { Self → ℕ };
+
+    /// Goes back to where all runs begin. The error is want of memory.
+    fn restart(&mut self) -> Result<(), AllocError>
+        ensures there { IfOk result (λ done. place self.new ≡ origin self.old) }
+        ensures room { IfOk result (λ done. 2 ^ 31 ≤ room self.new) }
+        ensures origin { origin self.new ≡ origin self.old };
+
+    /// Makes the step of a number, and says whether it could be made. If not, where it stands is not known, until it goes elsewhere.
+    /// The error is want of memory.
+    fn go(&mut self, step: u8) -> Result<bool, AllocError>
+        requires { 0 < room self.old }
+        ensures goes { IfOk result (λ made. Goes (after (place self.old) step) made (place self.new)) }
+        ensures origin { origin self.new ≡ origin self.old };
+
+    /// Makes the step of a number again, of which it is known that it can be made.
+    fn again(&mut self, step: u8)
+        requires room { 0 < room self.old }
+        requires made { is_some (after (place self.old) step) ≡ true }
+        ensures again { after (place self.old) step ≡ Some (place self.new) }
+        ensures room { room self.old ≤ room self.new + 1 }
+        ensures origin { origin self.new ≡ origin self.old };
+
+    /// Goes where another stands, whose runs begin at the same place. The error is want of memory.
+    fn copy_from(&mut self, other: &Self) -> Result<(), AllocError>
+        requires { origin other.now ≡ origin self.old }
+        ensures there { IfOk result (λ done. place self.new ≡ place other.now) }
+        ensures room { IfOk result (λ done. room self.new ≡ room other.now) }
+        ensures origin { origin self.new ≡ origin self.old };
+
+    /// No step of this number or a greater one can be made from where it stands.
+    fn steps(&self) -> u8
+        ensures { (s : ℕ) → result ≤ s → after (place self.now) s ≡ None };
+
+    /// Whether the place where it stands is looked for.
+    fn is_wanted(&self) -> bool
+        ensures { result ≡ wanted (place self.now) };
+
+    /// Whether another, whose runs begin at the same place, stands at the same place. It may say no of two that are the same, and then
+    /// a place counts twice.
+    fn is_same(&self, other: &Self) -> bool
+        requires { origin other.now ≡ origin self.now }
+        ensures { result ≡ true → place other.now ≡ place self.now };
+
+    /// A number that is the same at the same place. The answers do not depend on it; where it often differs at other places they come
+    /// sooner.
+    fn hash(&self) -> u64;
+}

@@ -1,0 +1,143 @@
+//! All places that were found, and a table by which one is found again.
+ghost use Rattle.std.specs.Prelude.{◌≡◌, ◌≤◌, ◌<◌, ◌+◌, ◌^◌, ◌++◌, ◌∷◌, ◌↔◌, [], true, length, IfOk, ℕ};
+ghost use Rattle.fmp_search.specs.Trees.{found_at, IsTree, Has};
+
+use crate::nodes::{Node, stand_at};
+use crate::space::Space;
+use std::alloc::{AllocError, Global};
+
+// What stands in the table where there is no place.
+const NOBODY: u32 = u32::MAX;
+
+/// The nodes, of which there are at most so many, and a table of the numbers of places, each near the slot that its hash names.
+#[derive(Drop)]
+pub(crate) struct Store {
+    pub(crate) nodes: Vec<Node>,
+    most: u32,
+    first: u64,
+    table: Vec<u32>,
+    ghost few: { length nodes.items ≤ most },
+    ghost small: { length nodes.items < 2 ^ 32 },
+}
+
+// The slot that is tried at this turn.
+fn slot(hash: u64, turn: usize, slots: usize) -> usize
+    requires { 0 < slots }
+    ensures { result < slots }
+{
+    (hash.wrapping_add(turn as u64) % slots as u64) as usize
+}
+
+// Puts the number of a place into the first free slot.
+fn put(table: &mut [u32], hash: u64, place: u32) {
+    let slots = table.len();
+    for turn in 0..slots {
+        let at = slot(hash, turn, slots);
+        if table[at] == NOBODY {
+            table[at] = place;
+            return;
+        }
+    }
+}
+
+impl Store {
+    /// A store of no place but where all runs begin, with room for so many more.
+    pub(crate) fn new(alloc: Global, hash: u64, most: u32) -> Result<Store, AllocError>
+        ensures { IfOk result (λ s. s.nodes.items ≡ []) }
+    {
+        let mut table = vec![in alloc; NOBODY; 2 * most as usize + 2]?;
+        put(&mut table, hash, 0);
+        Ok(Store {
+            nodes: Vec::new(alloc),
+            most,
+            first: hash,
+            table,
+        })
+    }
+
+    /// How many places there are.
+    pub(crate) fn count(&self) -> usize
+        ensures { result ≡ length self.now.nodes.items + 1 }
+    {
+        self.nodes.len() + 1
+    }
+
+    pub(crate) fn is_full(&self) -> bool
+        ensures { result ≡ true ↔ (self.now.most ≤ length self.now.nodes.items) }
+    {
+        self.nodes.len() >= self.most as usize
+    }
+
+    pub(crate) fn push(&mut self, node: Node) -> Result<(), AllocError>
+        requires { length self.old.nodes.items < self.old.most }
+        ensures { IfOk result (λ done. self.new.nodes.items ≡ self.old.nodes.items ++ node ∷ []) }
+    {
+        let place = self.nodes.len() as u32 + 1;
+        self.nodes.push(node)?;
+        put(&mut self.table, node.hash, place);
+        Ok(())
+    }
+
+    // Whether a place may be the one of a hash.
+    fn has_hash(&self, place: usize, hash: u64) -> bool
+        requires { place ≤ length self.now.nodes.items }
+    {
+        if place == 0 {
+            self.first == hash
+        } else {
+            self.nodes[place - 1].hash == hash
+        }
+    }
+
+    /// Whether the place where a walker stands, of this hash, was found already.
+    pub(crate) fn has<W: Space>(
+        &self,
+        alloc: Global,
+        walker: &W,
+        other: &mut W,
+        hash: u64,
+    ) -> Result<bool, AllocError>
+        requires tree { IsTree W.after (W.origin other.old) self.now.nodes.items }
+        requires origins { W.origin other.old ≡ W.origin walker.now }
+        requires depths { (i : ℕ) → i ≤ length self.now.nodes.items → (found_at W.after (W.origin other.old) self.now.nodes.items i).depth < 2 ^ 31 }
+        ensures known { IfOk result (λ k. k ≡ true → Has W.after (W.origin other.old) self.now.nodes.items (W.place walker.now)) }
+        ensures origin { W.origin other.new ≡ W.origin other.old }
+    {
+        let slots = self.table.len();
+        for turn in 0..slots {
+            let number = self.table[slot(hash, turn, slots)];
+            if number == NOBODY {
+                return Ok(false);
+            }
+            if self.is_at(alloc, walker, other, hash, number as usize)? {
+                return Ok(true);
+            }
+        }
+        Ok(false)
+    }
+
+    // Whether this is the number of the place where a walker stands, of this hash.
+    fn is_at<W: Space>(
+        &self,
+        alloc: Global,
+        walker: &W,
+        other: &mut W,
+        hash: u64,
+        number: usize,
+    ) -> Result<bool, AllocError>
+        requires tree { IsTree W.after (W.origin other.old) self.now.nodes.items }
+        requires origins { W.origin other.old ≡ W.origin walker.now }
+        requires depths { (i : ℕ) → i ≤ length self.now.nodes.items → (found_at W.after (W.origin other.old) self.now.nodes.items i).depth < 2 ^ 31 }
+        ensures known { IfOk result (λ k. k ≡ true → Has W.after (W.origin other.old) self.now.nodes.items (W.place walker.now)) }
+        ensures origin { W.origin other.new ≡ W.origin other.old }
+    {
+        if number > self.nodes.len() {
+            return Ok(false);
+        }
+        if !self.has_hash(number, hash) {
+            return Ok(false);
+        }
+        stand_at(alloc, other, &self.nodes, number)?;
+        Ok(walker.is_same(other))
+    }
+}

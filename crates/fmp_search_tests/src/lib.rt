@@ -1,0 +1,143 @@
+//! Tests of going through all places: a board whose answers are known by hand.
+#![tactic(auto)]
+
+ghost use Rattle.std.specs.Prelude.{◌≡◌, ◌≤◌, ◌+◌, ◌*◌, ◌%◌, ◌^◌, ◌<◌, ℕ};
+ghost use Rattle.fmp_search_tests.specs.Board as board;
+
+use fmp_search::Space;
+use std::alloc::AllocError;
+
+/// One who stands on the board, and looks for a place.
+#[derive(Drop)]
+pub struct Board {
+    at: u8,
+    goal: u8,
+}
+
+impl Space for Board {
+    ghost Place = { ℕ × ℕ };
+
+    ghost place = { λ b. (b.at, b.goal) };
+
+    ghost origin = { λ b. (1, b.goal) };
+
+    ghost after = { board.after };
+
+    ghost wanted = { board.wanted };
+
+    ghost room = { λ b. 2 ^ 31 };
+
+    fn restart(&mut self) -> Result<(), AllocError> {
+        self.at = 1;
+        Ok(())
+    }
+
+    fn go(&mut self, step: u8) -> Result<bool, AllocError> {
+        match step {
+            0 => {
+                self.at = (self.at % 100 + 1) % 100;
+                Ok(true)
+            }
+            1 => {
+                self.at = 2 * (self.at % 100) % 100;
+                Ok(true)
+            }
+            _ => Ok(false),
+        }
+    }
+
+    fn again(&mut self, step: u8) {
+        let place = self.at % 100;
+        self.at = if step == 0 {
+            (place + 1) % 100
+        } else {
+            2 * place % 100
+        };
+    }
+
+    fn copy_from(&mut self, other: &Self) -> Result<(), AllocError> {
+        self.at = other.at;
+        Ok(())
+    }
+
+    fn steps(&self) -> u8 {
+        2
+    }
+
+    fn is_wanted(&self) -> bool {
+        self.at == self.goal
+    }
+
+    fn is_same(&self, other: &Self) -> bool {
+        self.at == other.at && self.goal == other.goal
+    }
+
+    fn hash(&self) -> u64 {
+        u64::from(self.at % 8)
+    }
+}
+
+#[cfg(test)]
+mod tests {
+    use crate::Board;
+    use fmp_search::{Answer, explore};
+    use std::alloc::{AllocError, Global};
+
+    fn answer(alloc: Global, goal: u8, turns: u32, most: u32) -> Result<Answer, AllocError>
+        requires { turns < 2 ^ 31 }
+    {
+        let mut walker = Board { at: 1, goal };
+        let mut base = Board { at: 1, goal };
+        let mut other = Board { at: 1, goal };
+        explore(alloc, &mut walker, &mut base, &mut other, turns, most)
+    }
+
+    // 1, 2, 3, 6, 12, 24
+    #[test]
+    fn by_a_shortest_run(rt: HostRuntime) {
+        match answer(rt.alloc(), 24, 50, 200).expect(&rt, "memory") {
+            Answer::Found(steps) => assert_eq!(rt; steps.len(), 5),
+            _ => panic!(rt; "found"),
+        }
+    }
+
+    // 100 is no place of the board, whose places are all found by 50 steps
+    #[test]
+    fn never(rt: HostRuntime) {
+        assert!(rt;
+            matches!(
+                answer(rt.alloc(), 100, 50, 200).expect(&rt, "memory"),
+                Answer::Never
+            )
+        );
+    }
+
+    #[test]
+    fn not_within(rt: HostRuntime) {
+        assert!(rt;
+            matches!(
+                answer(rt.alloc(), 24, 4, 200).expect(&rt, "memory"),
+                Answer::NotWithin(4)
+            )
+        );
+    }
+
+    // 1, 2, then 3 and 4: the third place more does not fit
+    #[test]
+    fn without_room(rt: HostRuntime) {
+        assert!(rt;
+            matches!(
+                answer(rt.alloc(), 24, 50, 2).expect(&rt, "memory"),
+                Answer::NotWithin(1)
+            )
+        );
+    }
+
+    #[test]
+    fn where_it_stands(rt: HostRuntime) {
+        match answer(rt.alloc(), 1, 50, 200).expect(&rt, "memory") {
+            Answer::Found(steps) => assert_eq!(rt; steps.len(), 0),
+            _ => panic!(rt; "found"),
+        }
+    }
+}

@@ -1,0 +1,6 @@
+pub mod Counted  -- One place, one signal or one kind more.
+pub mod Ticked  -- No processor takes more ticks than there are events.
+pub mod Told  -- Changes that are put in their places leave there what the model says.
+pub mod SoFar  -- A page while it is made, event by event.
+pub mod Passed  -- How a run ends whose sink passed on what it held back.
+pub mod JudgedTexts  -- What was shown of a trace that was read and judged is what a run shows of its two texts.

@@ -1,0 +1,132 @@
+//! The run that shows a trace.
+ghost use Rattle.std.specs.Prelude.{◌≡◌, ◌≢◌, ℕ, ◌+◌, ◌-◌, ◌^◌, ◌<◌, ◌≤◌, List, ◌++◌, [], length, map, OnOk, OnErr, IfOk, IfErr, Ok, Err, false, if◌then◌else◌};
+ghost use Rattle.fmp_codes.specs.declared.records.Record.{Record as AnyRecord};
+ghost use Rattle.fmp_text.specs.Limits.{most_bytes as MOST_BYTES};
+ghost use Rattle.fmp_check.specs.Checking.{Judges};
+ghost use Rattle.fmp_trace.specs.Prints.{PrintsWithin};
+ghost use Rattle.fmp_judging.specs.Traces.{FirstTraceFault, IsOwn, IsYes};
+ghost use Rattle.fmp_devices.specs.Devices.{BeginsWith, IsKnown, bytes_of};
+ghost use Rattle.fmp_judging.specs.Faults.{failed_write, is_thread_fault};
+ghost use Rattle.fmp_judging.specs.Texts.{Answered, CountsReads, FirstConfigFault};
+ghost use Rattle.fmp_view.specs.Runs.{IsLate, IsShownBy, LeavesBy, LeavesShown, Shown};
+ghost use Rattle.fmp_view.specs.Pages.{page_of};
+
+use crate::showing::Showing;
+use fmp_check::Verdict;
+use fmp_devices::{Sink, Source, write_all};
+use fmp_judging::{Judged, RunFault, judged_texts, pass_on};
+use fmp_machine::Config;
+use fmp_text::{TextFault, TextKind};
+use fmp_trace::{event_of, next_line};
+use std::alloc::Global;
+
+/// Shows the events of a text that is the machine's own.
+fn show<W: Sink>(alloc: Global, config: &Config, text: &[u8], page: &mut W) -> Result<(), RunFault>
+    requires calls { W.failures page.old < 2 ^ 64 - 1 }
+    requires short { length text.now ≤ MOST_BYTES }
+    ensures known { IsKnown (W.written page.old) → IsKnown (W.written page.new) }
+    ensures shown { IsKnown (W.written page.old) → (records : List AnyRecord) → PrintsWithin config.now.names text.now records
+        → OnOk result (bytes_of (W.written page.new) ≡ bytes_of (W.written page.old) ++ page_of config.now text.now (map (λ r. r.event) records)) }
+    ensures begun { IsKnown (W.written page.old) → (records : List AnyRecord) → PrintsWithin config.now.names text.now records
+        → OnErr result (BeginsWith (bytes_of (W.written page.old)) (page_of config.now text.now (map (λ r. r.event) records)) (bytes_of (W.written page.new))) }
+    ensures kinds { (records : List AnyRecord) → PrintsWithin config.now.names text.now records → IfErr result IsLate }
+    ensures no_thread_fault { IfErr result (λ fault. is_thread_fault fault ≡ false) }
+    ensures writes { W.failures page.new ≡ W.failures page.old + (if failed_write result then 1 else 0) }
+{
+    let names = config.names();
+    names.validity();
+    let mut showing = Showing::new(alloc, config, text)?;
+    write_all(page, showing.piece())?;
+    let mut number: u32 = 1;
+    let mut rest = text;
+    while let Some((line, after)) = next_line(rest) {
+        let Some(event) = event_of(names, line) else {
+            return Err(RunFault::Text(TextFault {
+                kind: TextKind::BadWord,
+                line: number,
+            }));
+        };
+        showing.play(config, event)?;
+        write_all(page, showing.piece())?;
+        number += 1;
+        rest = after;
+    }
+    showing.end()?;
+    write_all(page, showing.piece())?;
+    Ok(())
+}
+
+/// Shows a trace that was judged to be the machine's own, and holds none of it back.
+fn show_judged<W: Sink>(alloc: Global, judged: &Judged, page: &mut W) -> Result<(), RunFault>
+    requires calls { W.failures page.old < 2 ^ 64 - 1 }
+    requires judged { Judges judged.now.config judged.now.text.items judged.now.verdict }
+    ensures known { IsKnown (W.written page.old) → IsKnown (W.written page.new) }
+    ensures shown { IsKnown (W.written page.old) → OnOk result (IsShownBy judged.now.config judged.now.text.items (bytes_of (W.written page.old)) (bytes_of (W.written page.new)) judged.now.verdict) }
+    ensures passed { OnOk result (judged.now.verdict ≡ Verdict.Yes → W.buffered page.new ≡ []) }
+    ensures none_held { W.buffered page.old ≡ [] → result ≢ Err RunFault.Write → W.buffered page.new ≡ [] }
+    ensures leaves { IsKnown (W.written page.old) → IfErr result (LeavesBy judged.now.config judged.now.text.items (bytes_of (W.written page.old)) (bytes_of (W.written page.new))) }
+    ensures kinds { IfErr result IsLate }
+    ensures no_thread_fault { IfErr result (λ fault. is_thread_fault fault ≡ false) }
+    ensures writes { W.failures page.new ≡ W.failures page.old + (if failed_write result then 1 else 0) }
+{
+    match judged.verdict {
+        Verdict::No(_) => Ok(()),
+        Verdict::Yes => {
+            let shown = show(alloc, &judged.config, judged.text.as_slice(), page);
+            pass_on(shown, page)
+        }
+    }
+}
+
+/// Reads a configuration and a trace, and writes the page of the trace, if it is what the machine answers to its events.
+/// Of another trace nothing is written, and the verdict says which line is the first that differs.
+///
+/// docs/FORMATS.md has the form of a page.
+pub fn run_view<R: Source, S: Source, W: Sink>(
+    alloc: Global,
+    config: &mut R,
+    trace: &mut S,
+    page: &mut W,
+) -> Result<Verdict, RunFault>
+    requires config_calls { R.failures config.old < 2 ^ 64 - 1 }
+    requires trace_calls { S.failures trace.old < 2 ^ 64 - 1 }
+    requires page_calls { W.failures page.old < 2 ^ 64 - 1 }
+
+    // Both texts were read to their ends, the verdict is right, and the page was written, all of it. None of it is held back.
+    ensures known { IsKnown (W.written page.old) → IsKnown (W.written page.new) }
+    ensures shown { IsKnown (R.left config.old) → IsKnown (S.left trace.old) → IsKnown (W.written page.old)
+        → IfOk result (Shown (bytes_of (R.left config.old)) (bytes_of (S.left trace.old)) (bytes_of (W.written page.old)) (bytes_of (W.written page.new))) }
+    ensures passed { IfOk result (λ verdict. verdict ≡ Verdict.Yes → W.buffered page.new ≡ []) }
+    ensures config_read { IsKnown (R.left config.old) → OnOk result (bytes_of (R.left config.new) ≡ []) }
+    ensures trace_read { IsKnown (S.left trace.old) → OnOk result (bytes_of (S.left trace.new) ≡ []) }
+
+    // A trace that answers some events, as `run_calls` writes it, is shown.
+    ensures answers { IsKnown (R.left config.old) → IsKnown (S.left trace.old) → (event_text : List ℕ) → Answered (bytes_of (R.left config.old)) event_text (bytes_of (S.left trace.old))
+        → IsYes result }
+
+    // So is any that is the machine's own, as those of processors that follow scripts.
+    ensures own { IsKnown (R.left config.old) → IsKnown (S.left trace.old) → IsOwn (bytes_of (R.left config.old)) (bytes_of (S.left trace.old)) → IsYes result }
+
+    // A fault of a text is its first one.
+    ensures config_fault { IsKnown (R.left config.old) → IfErr result (FirstConfigFault (bytes_of (R.left config.old))) }
+    ensures text_fault { IsKnown (R.left config.old) → IsKnown (S.left trace.old) → IfErr result (FirstTraceFault (bytes_of (R.left config.old)) (bytes_of (S.left trace.old))) }
+
+    // After a failed write or flush a beginning of the page is out, after want of memory such a beginning or nothing, and
+    // after any other fault nothing is.
+    ensures leaves { IsKnown (R.left config.old) → IsKnown (S.left trace.old) → IsKnown (W.written page.old)
+        → IfErr result (LeavesShown (bytes_of (R.left config.old)) (bytes_of (S.left trace.old)) (bytes_of (W.written page.old)) (bytes_of (W.written page.new))) }
+
+    // However the run ends, nothing is held back, unless a write failed.
+    ensures none_held { W.buffered page.old ≡ [] → result ≢ Err RunFault.Write → W.buffered page.new ≡ [] }
+
+    // No thread was started.
+    ensures no_thread_fault { IfErr result (λ fault. is_thread_fault fault ≡ false) }
+
+    // Which calls of the devices failed.
+    ensures reads { CountsReads result (R.failures config.old) (R.failures config.new) (S.failures trace.old) (S.failures trace.new) }
+    ensures writes { W.failures page.new ≡ W.failures page.old + (if failed_write result then 1 else 0) }
+{
+    let judged = judged_texts(alloc, config, trace)?;
+    show_judged(alloc, &judged, page)?;
+    Ok(judged.verdict)
+}

@@ -1,0 +1,228 @@
+//! The value of each signal.
+ghost use Rattle.std.specs.Prelude.{◌≡◌, ◌++◌, ◌+◌, ◌<◌, length, IsTrue, MatchOption, OnOk};
+ghost use Rattle.fmp_machine.specs.Objects.{alarm, cyclic, eventflag, holder, pool, semaphore, values};
+ghost use Rattle.fmp_machine.specs.World.{item, processor};
+ghost use Rattle.fmp_view.specs.Signals as signals;
+ghost use Rattle.fmp_view.specs.Values as spec;
+
+use crate::player::Player;
+use crate::signal::Signal;
+use crate::value::{Value, put_due, put_value};
+use fmp_codes::{Object, Proc, Task};
+use fmp_machine::{Pool, Processor};
+use fmp_plain_rows::Machine;
+use fmp_words::{Objects, Words};
+use std::alloc::AllocError;
+
+/// The number of a task, or 0.
+fn task_number(task: Option<Task>) -> u64
+    ensures { result ≡ spec.task_number task }
+{
+    match task {
+        None => 0,
+        Some(t) => u64::from(t.number),
+    }
+}
+
+/// The number of a processor, or 0.
+fn proc_number(p: Option<Proc>) -> u64
+    ensures { result ≡ spec.proc_number p }
+{
+    match p {
+        None => 0,
+        Some(p) => u64::from(p.number),
+    }
+}
+
+/// The processor on which a handler is started that has so many ticks left, or 0.
+fn started_on(left: Option<u64>, p: Proc) -> u64
+    ensures { result ≡ spec.started_on left p }
+{
+    match left {
+        None => 0,
+        Some(_) => u64::from(p.number),
+    }
+}
+
+/// How many blocks of a pool are free.
+fn free_blocks(pool: &Pool) -> u64
+    ensures { result ≡ spec.free_blocks pool.now }
+{
+    let blocks = usize::from(pool.setup.blocks);
+    pool.handed
+        .iter()
+        .take(blocks)
+        .filter(|handed| !**handed)
+        .count() as u64
+}
+
+#[inline(always)]
+fn flags_value(processor: Processor) -> Value
+    ensures { result ≡ spec.flags_of processor }
+{
+    Value::Flags(processor.locked, processor.disabled, processor.latch)
+}
+
+#[inline(always)]
+fn running_number(machine: &Machine, p: Proc) -> u64
+    ensures { result ≡ (spec.task_number (processor machine.now p).running) }
+{
+    task_number(machine.processor(p).running)
+}
+
+#[inline(always)]
+fn semaphore_number(machine: &Machine, s: Object) -> u64
+    ensures { result ≡ (semaphore machine.now s).count }
+{
+    u64::from(machine.semaphore(s).count)
+}
+
+#[inline(always)]
+fn eventflag_number(machine: &Machine, f: Object) -> u64
+    ensures { result ≡ (eventflag machine.now f).pattern }
+{
+    u64::from(machine.eventflag(f).pattern)
+}
+
+#[inline(always)]
+fn data_queue_number(machine: &Machine, d: Object) -> u64
+    ensures { result ≡ (length (values machine.now d)) }
+{
+    machine.value_count(d) as u64
+}
+
+#[inline(always)]
+fn pool_number(machine: &Machine, m: Object) -> u64
+    ensures { result ≡ (spec.free_blocks (pool machine.now m)) }
+{
+    free_blocks(&machine.pool(m))
+}
+
+#[inline(always)]
+fn cyclic_number(machine: &Machine, c: Object) -> u64
+    ensures { result ≡ (spec.started_on (item None machine.now.cyclics_left c.number) (cyclic machine.now c).assigned) }
+{
+    started_on(machine.cyclic_left(c), machine.cyclic(c).assigned)
+}
+
+#[inline(always)]
+fn alarm_number(machine: &Machine, a: Object) -> u64
+    ensures { result ≡ (spec.started_on (item None machine.now.alarms_left a.number) (alarm machine.now a).assigned) }
+{
+    started_on(machine.alarm_left(a), machine.alarm(a).assigned)
+}
+
+#[inline(always)]
+fn spin_lock_number(machine: &Machine, l: Object) -> u64
+    ensures { result ≡ (spec.proc_number (holder machine.now l)) }
+{
+    proc_number(machine.holder(l))
+}
+
+impl Player {
+    /// The value of a signal at a place, but for the due handlers, which are a list.
+    fn value(&self, signal: Signal, index: usize) -> Option<Value>
+        requires { index < signals.most signal }
+        ensures { MatchOption result (signal ≡ Signal.Due) (λ v. spec.text_of v ≡ spec.value_text self.now signal index) }
+    {
+        let machine = self.machine();
+        Some(match signal {
+            Signal::Due => return None,
+            Signal::Running => Value::Number(running_number(machine, Proc::from_index(index))),
+            Signal::Flags => flags_value(machine.processor(Proc::from_index(index))),
+            Signal::State => self.state_value(Task::from_index(index)),
+            Signal::Place => Value::Number(machine.ready_number(Task::from_index(index))),
+            Signal::Rest => self.rest_value(Task::from_index(index)),
+            Signal::Semaphore => Value::Number(semaphore_number(
+                machine,
+                Object::from_index(index),
+            )),
+            Signal::Eventflag => Value::Number(eventflag_number(
+                machine,
+                Object::from_index(index),
+            )),
+            Signal::DataQueue => Value::Number(data_queue_number(
+                machine,
+                Object::from_index(index),
+            )),
+            Signal::Pool => Value::Number(pool_number(machine, Object::from_index(index))),
+            Signal::Cyclic => Value::Number(cyclic_number(machine, Object::from_index(index))),
+            Signal::Alarm => Value::Number(alarm_number(machine, Object::from_index(index))),
+            Signal::SpinLock => Value::Number(spin_lock_number(machine, Object::from_index(index))),
+        })
+    }
+
+    /// Whether the objects of a signal at a place have the same number.
+    #[inline(always)]
+    fn has_number_of(&self, other: &Player, signal: Signal, index: usize) -> bool
+        requires { index < signals.most signal }
+        ensures { IsTrue result → spec.value_text self.now signal index ≡ spec.value_text other.now signal index }
+    {
+        let one = self.machine();
+        let two = other.machine();
+        if index >= 32 {
+            return false;
+        }
+        let o = Object::from_index(index);
+        match signal {
+            Signal::Semaphore => semaphore_number(one, o) == semaphore_number(two, o),
+            Signal::Eventflag => eventflag_number(one, o) == eventflag_number(two, o),
+            Signal::DataQueue => data_queue_number(one, o) == data_queue_number(two, o),
+            Signal::Pool => pool_number(one, o) == pool_number(two, o),
+            Signal::Cyclic => cyclic_number(one, o) == cyclic_number(two, o),
+            Signal::Alarm => alarm_number(one, o) == alarm_number(two, o),
+            Signal::SpinLock => spin_lock_number(one, o) == spin_lock_number(two, o),
+            _ => false,
+        }
+    }
+
+    /// Whether a signal has the same value at a place of another one, as far as that is quickly seen. Then it has the same text.
+    #[inline(always)]
+    pub(crate) fn shows_as(&self, other: &Player, signal: Signal, index: usize) -> bool
+        requires { index < signals.most signal }
+        ensures { IsTrue result → spec.value_text self.now signal index ≡ spec.value_text other.now signal index }
+    {
+        let one = self.machine();
+        let two = other.machine();
+        match signal {
+            Signal::Due => false,
+            Signal::Running => {
+                let p = Proc::from_index(index);
+                running_number(one, p) == running_number(two, p)
+            }
+            Signal::Flags => {
+                let p = Proc::from_index(index);
+                flags_value(one.processor(p)).has_text_of(flags_value(two.processor(p)))
+            }
+            Signal::State => {
+                let t = Task::from_index(index);
+                self.state_value(t).has_text_of(other.state_value(t))
+            }
+            Signal::Place => {
+                let t = Task::from_index(index);
+                one.ready_number(t) == two.ready_number(t)
+            }
+            Signal::Rest => {
+                let t = Task::from_index(index);
+                self.rest_value(t).has_text_of(other.rest_value(t))
+            }
+            _ => self.has_number_of(other, signal, index),
+        }
+    }
+
+    /// Adds the text of the value of a signal at a place.
+    pub(crate) fn put_text(
+        &self,
+        out: &mut Vec<u8>,
+        signal: Signal,
+        index: usize,
+    ) -> Result<(), AllocError>
+        requires { index < signals.most signal }
+        ensures { OnOk result (out.new.items ≡ out.old.items ++ spec.value_text self.now signal index) }
+    {
+        match self.value(signal, index) {
+            Some(value) => put_value(out, value),
+            None => put_due(out, self.machine().due(Proc::from_index(index))),
+        }
+    }
+}

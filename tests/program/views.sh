@@ -1,0 +1,127 @@
+# The page of a trace. Of a trace that is not the machine's there is none.
+
+views() {
+    local folder first='' exact=yes same=yes plain=yes
+    for folder in "$top"/examples/*/; do
+        play view "$folder/machine.cfg" "$folder/trace.txt"
+        # the trace stands in it byte for byte, but for what is escaped, and all else of it is its own
+        part_of output trace | cmp - "$folder/trace.txt" || exact=no
+        frame_of output > frame
+        [ -n "$first" ] || cp frame "${first:=first}"
+        cmp frame first || same=no
+    done
+    count "$exact" view '# the trace in the page'
+    count "$same" view '# head and tail'
+    # the template stands in the program as it is, so it has none of these
+    ! LC_ALL=C grep -q '["\\]' first && ! LC_ALL=C grep -q '[^ -~]' first || plain=no
+    count "$plain" view '# bytes of the template'
+    every_value
+    tags_in_fields
+    sed '3s/taken/none/' "$late/trace.txt" > changed.txt
+    run 5 /dev/null <(echo fmpsim: changed.txt: no 3: see fmpsim check --show) view "$late/machine.cfg" changed.txt
+    printf '1 P1 T1 tick taken' > cut.txt
+    run 1 /dev/null <(echo fmpsim: cut.txt: line 1: E6 cut short) view "$late/machine.cfg" cut.txt
+    run 1 /dev/null <(printf '%s\n' 'fmpsim: cut.txt: line 1: E6 cut short' '  1 P1 T1 tick taken' '                    ^' \
+        '  End the last line with a line feed, and the last script with `end`.') view --context "$late/machine.cfg" cut.txt
+    run 1 /dev/null <(echo fmpsim: cut.txt: line 1: F1 syntax) view cut.txt "$late/trace.txt"
+    unread view missing "$late/trace.txt"
+    unread view "$late/machine.cfg" missing
+    unwritten view "$late/machine.cfg" "$late/trace.txt"
+    half_a_page
+    in_a_browser
+}
+
+# part_of PAGE NAME: the text of this name in a page, as a browser reads it.
+part_of() {
+    sed -n "/^<pre hidden id='$2'>\$/,/^<\/pre>\$/p" "$1" | sed '1d;$d;s/&lt;/</g;s/&amp;/\&/g'
+}
+
+# frame_of PAGE: a page without its texts.
+frame_of() {
+    sed "/^<pre hidden id='[a-z]*'>\$/,/^<\/pre>\$/d" "$1"
+}
+
+# A machine with objects of each kind, and what each event changes there, worked out by hand.
+every_value() {
+    local n=0 line told
+    printf '%s\n' 'PROCESSORS(2);' 'TIMER(GLOBAL, 2);' 'DEF_CLASS(C, 1, {1, 2});' 'DEF_CLASS(M, 2, {2});' 'CLASS(C) {' \
+        'CRE_TSK(T, {TA_ACT, 0, main, 3, 4096, NULL});' 'CRE_TSK(U, {TA_NULL, 0, main, 4, 4096, NULL});' \
+        'CRE_SEM(S, {TA_NULL, 0, 2});' 'CRE_FLG(F, {TA_NULL, 5});' 'CRE_DTQ(D, {TA_NULL, 3, NULL});' \
+        'CRE_MPF(B, {TA_NULL, 4, 16, NULL, NULL});' 'CRE_SPN(X, {TA_NULL});' '}' 'CLASS(M) {' \
+        'CRE_CYC(Y, {TA_STA, 0, cyc, 1, 0});' 'CRE_ALM(A, {TA_NULL, 0, alm});' '}' > all.cfg
+    printf '%s\n' 'view 1' 'processors 2' 'timer 2' 'task T 3' 'task U 4' 'sem S 2' 'flg F' 'dtq D 3' 'mpf B 4' 'cyc Y 1' 'alm A' 'spn X' > setup
+    # an event, and the values behind it
+    printf '%s\n' ': r1 1,r2 0,l1 -,l2 -,h1 -,h2 -,s1 r,s2 -,n1 0,n2 0,a1 1 3 0 0,a2 1 4 0 0,S1 0,F1 5,D1 0,M1 4,C1 2,A1 0,X1 0' \
+        'P1 sig_sem(S): S1 1' 'P1 act_tsk(U): s2 y,n2 1' 'P1 wup_tsk(U): a2 1 4 0 1' 'P1 clr_flg(F, 4): F1 4' \
+        'P1 psnd_dtq(D, 7): D1 1' 'P1 get_mpf(B): M1 3' 'P1 loc_spn(X): l1 l,X1 1' 'P1 unl_spn(X): l1 -,X1 0' \
+        'P1 sta_alm(A, 1): A1 2' 'P1 chg_pri(U, 9): n2 2,a2 1 9 0 1' 'P1 tslp_tsk(5): r1 2,s1 w slp @6,s2 r' 'P1 dis_dsp(): l1 d' \
+        'P2 tick: h2 C1' 'P1 loc_cpu(): l1 ld' 'P2 ret_hdr: h2 -' 'P2 tick: h2 A1;C1,A1 0' 'P1 unl_cpu(): l1 d' 'P1 ena_dsp(): l1 -' \
+        'P2 iwup_tsk(T): l1 i,s1 y,n1 4' 'P1 ipi: r1 1,l1 -,s1 r,s2 y' 'P1 sus_tsk(U): s2 s' 'P1 act_tsk(U): a2 1 9 1 1' \
+        'P1 act_tsk(U):' > steps
+    : > changes
+    while read -r line; do
+        told=${line##*:}
+        echo "#$((n++))" >> changes
+        tr , '\n' <<< "${told# }" | tr ';' , | sed '/^$/d' >> changes
+    done < steps
+    sed 's/:[^:]*$//;/^$/d' steps > events.txt
+    play calls all.cfg events.txt
+    cp output trace.txt
+    play view all.cfg trace.txt
+    cp output all.html
+    for part in setup changes; do
+        part_of all.html $part > told
+        diff $part told > differs && line=yes || { line=no && cat differs; }
+        count "$line" view all.cfg "# its $part"
+    done
+}
+
+# What no page has to know of a configuration is in none.
+tags_in_fields() {
+    local well=yes
+    sed 's|main, 3, 4096, NULL|main, 3, "</pre><script>\&", NULL|' all.cfg > tags.cfg
+    grep -q '</pre><script>&' tags.cfg || well=no
+    run 0 all.html /dev/null view tags.cfg trace.txt
+    count "$well" view tags.cfg
+}
+
+# The room on the disk is over behind half of a page.
+half_a_page() {
+    local well=yes
+    play view "$late/machine.cfg" "$late/trace.txt"
+    mv output whole
+    (trap '' XFSZ && ulimit -f 32 && exec "$program" view "$late/machine.cfg" "$late/trace.txt") > half 2> errors
+    [ $? = 3 ] && [ "$(wc -c < half)" = 32768 ] && head -c 32768 whole | cmp - half || well=no
+    diff errors <(echo fmpsim: write failed) || well=no
+    count "$well" view '# half a page'
+}
+
+# What a page tells in a browser is what `calls --state` writes, and it is drawn.
+in_a_browser() {
+    local folder well
+    if ! command -v chromium > /dev/null; then
+        left_out 'there is no chromium' view '# pages in a browser'
+        return
+    fi
+    for folder in "$top"/examples/*/; do
+        well=yes
+        play view "$folder/machine.cfg" "$folder/trace.txt"
+        mv output page.html
+        sed -E 's/^[0-9]+ (P[0-9]+) [^ ]+ (tick|ipi|ret_hdr|[a-z_]+\([^)]*\)).*/\1 \2/' "$folder/trace.txt" > events.txt
+        play calls --state "$folder/machine.cfg" events.txt
+        seen page.html '#states' | awk '/<body>/ { on = 1; sub(/.*<pre>/, "") } /<\/pre>/ { exit } on' > states
+        diff states output > differs || { well=no && head differs; }
+        count "$well" view "$folder" '# its states in a browser'
+    done
+    well=yes
+    seen page.html '#3' > drawn
+    grep -q "data-shown=\"$(wc -l < "$folder/trace.txt")\"" drawn && grep -q '<h2>3 P' drawn || well=no
+    count "$well" view "$folder" '# drawn in a browser'
+}
+
+# seen PAGE PLACE: a page behind its scripts. Chromium does not shut itself in where it is run by root.
+seen() {
+    local words=(--headless --disable-gpu "--user-data-dir=$PWD/profile" --dump-dom)
+    [ "$(id -u)" != 0 ] || words+=(--no-sandbox)
+    timeout 120 chromium "${words[@]}" "file://$PWD/$1$2" 2> /dev/null
+}
