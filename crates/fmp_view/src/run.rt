@@ -82,6 +82,7 @@ fn show_judged<W: Sink>(alloc: Global, judged: &Judged, page: &mut W) -> Result<
 /// Of another trace nothing is written, and the verdict says which line is the first that differs.
 ///
 /// docs/FORMATS.md has the form of a page.
+#[inline(never)]
 pub fn run_view<R: Source, S: Source, W: Sink>(
     alloc: Global,
     config: &mut R,

@@ -73,6 +73,7 @@ fn write_drawn<W: Sink>(judged: &Judged, wave: &mut W) -> Result<(), RunFault>
 /// Of another trace nothing is written, and the verdict says which line is the first that differs.
 ///
 /// docs/FORMATS.md has the form of a waveform.
+#[inline(never)]
 pub fn run_wave<R: Source, S: Source, W: Sink>(
     alloc: Global,
     config: &mut R,
