@@ -14,6 +14,7 @@ command_lines() {
     usage 0 output errors wave --help
     usage 0 output errors view --help
     usage 0 output errors smp --help
+    usage 0 output errors explore --help
     usage 0 output errors list --help
 }
 
@@ -49,6 +50,18 @@ refused_lines() {
 	smp machine.cfg scripts.txt --ticks 0
 	smp machine.cfg scripts.txt --turns 1
 	smp machine.cfg --ticks 0 --turns 1
+	explore machine.cfg scripts.txt
+	explore machine.cfg scripts.txt --ticks any --turns 1
+	explore machine.cfg scripts.txt --ticks any --find end
+	explore machine.cfg scripts.txt --turns 1 --find end
+	explore machine.cfg --ticks any --turns 1 --find end
+	explore machine.cfg scripts.txt --ticks any --turns 0 --find end
+	explore machine.cfg scripts.txt --ticks all --turns 1 --find end
+	explore machine.cfg scripts.txt --ticks 1000001 --turns 1 --find end
+	explore machine.cfg scripts.txt --ticks any --turns 1000001 --find end
+	explore machine.cfg scripts.txt --ticks any --turns 1 --find end --drift 0
+	explore machine.cfg scripts.txt --ticks any --turns 1 --find end --places 0
+	explore machine.cfg scripts.txt --ticks any --turns 1 --find end --places 100000001
 	END
     while IFS= read -r line; do
         read -ra words <<< "$line"
@@ -56,6 +69,8 @@ refused_lines() {
     done <<- END
 	check --show=yes machine.cfg trace.txt
 	calls --state=yes machine.cfg events.txt
+	calls --color=sometimes machine.cfg events.txt
+	smp machine.cfg scripts.txt --ticks 0 --turns 1 --color=yes
 	smp machine.cfg scripts.txt --ticks 0 --turns 1000001
 	smp machine.cfg scripts.txt --ticks 0 --turns 1 --seed 18446744073709551616
 	END

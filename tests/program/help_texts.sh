@@ -1,17 +1,20 @@
-# What the program tells of itself: its help is written or that fails, its version is the manual's, and its exit statuses are told as
-# in the manual and in docs/FORMATS.md.
+# What the program tells of itself: its help is written or that fails, its version is that of the manual and of CHANGELOG.md, and its exit
+# statuses are told as in the manual and in docs/formats/faults.md.
 
 help_texts() {
     local command version well
     # what each status means, wherever it is told, and which ones a command may end with
-    local means=('done|yes|all ticks were taken' 'a fault in a text|a text has a fault' 'the command line is wrong'
-        'output (could )?not be written' 'want of memory|memory ran out' '\bno\b|not the machine' 'turns')
-    local -A statuses=([calls]='0 1 2 3 4' [check]='0 1 2 3 4 5' [wave]='0 1 2 3 4 5' [view]='0 1 2 3 4 5' [smp]='0 1 2 3 4 6' [list]='0 2 3 4')
+    local means=('done|yes|all ticks were taken|never' 'a fault in a text|a text has a fault' 'the command line is wrong'
+        'output (could )?not be written' 'want of memory|memory ran out' '\bno\b|not the machine|shows it' 'turns')
+    local -A statuses=([calls]='0 1 2 3 4' [check]='0 1 2 3 4 5' [wave]='0 1 2 3 4 5' [view]='0 1 2 3 4 5' [smp]='0 1 2 3 4 6' [explore]='0 1 2 3 4 5 6' [list]='0 2 3 4')
     version=$(sed -nE 's/^\.TH FMPSIM 1 "" "(fmpsim [0-9.]+)" .*/\1/p' "$top/man/fmpsim.1")
     run 0 <(echo "$version") /dev/null --version
     unwritten --version
+    well=no
+    [ "$(sed -nE 's/^## (fmpsim [0-9.]+).*/\1/p' "$top/CHANGELOG.md" | head -n 1)" = "$version" ] && well=yes
+    count "$well" '# the version of CHANGELOG.md'
     unwritten --help
-    for command in calls check wave view smp list; do
+    for command in calls check wave view smp explore list; do
         unwritten "$command" --help
         well=no
         play "$command" --help
@@ -22,8 +25,8 @@ help_texts() {
     told '0 1 2 3 4 5 6' < <(sed -n '/^\.SH EXIT STATUS/,/^\.SH EXAMPLES/p' "$top/man/fmpsim.1" | manual_items) && well=yes
     count "$well" '# exit statuses in the manual'
     well=no
-    told '0 1 2 3 4 5 6' < <(sed -n '/^## Exit statuses/,$p' "$top/docs/FORMATS.md" | sed -nE 's/^\| ([0-9]) \| (.*) \|$/\1 \2/p') && well=yes
-    count "$well" '# exit statuses in docs/FORMATS.md'
+    told '0 1 2 3 4 5 6' < <(sed -n '/^## Exit statuses/,$p' "$top/docs/formats/faults.md" | sed -nE 's/^\| ([0-9]) \| (.*) \|$/\1 \2/p') && well=yes
+    count "$well" '# exit statuses in docs/formats/faults.md'
 }
 
 # told STATUSES: standard input has a line for each of these statuses and no other, which says what the status means.

@@ -1,7 +1,7 @@
 # What may be written in the texts, as `list` tells it.
 
 lists() {
-    local each=no call
+    local each=no call calls
     run 0 <(printf '%s\n' 'chg_pri(task, priority)' '  task: its name, TSK_SELF for 0, or a number of 32 bits with a sign' \
         '  priority: a number of 32 bits with a sign, TPRI_SELF for 0, or TPRI_INI for 0') /dev/null list chg_pri
     run 0 <(echo ret_hdr) /dev/null list ret_hdr
@@ -15,7 +15,9 @@ lists() {
     play list
     [ "$(grep -cE '^[a-z]+_[a-z]+(\(.*\))?$' output)" = 78 ] && [ "$(grep -cE '^[A-Z_]+\(' output)" = 14 ] \
         && [ "$(grep -cE '^[EF][0-9]+ ' output)" = 21 ] && each=yes
-    for call in $(sed -n '/^### Calls/,/^### Arguments/p' "$top/docs/FORMATS.md" | grep -oE '`[a-z]+_[a-z]+`' | tr -d '`'); do
+    calls=$(sed -n '/^## Calls/,/^## Arguments/p' "$top/docs/formats/events.md" | grep -oE '`[a-z]+_[a-z]+`' | tr -d '`' | sort -u)
+    [ "$(wc -w <<< "$calls")" = 78 ] || each=no
+    for call in $calls; do
         grep -qE "^$call(\(|$)" output || each=no
     done
     count "$each" list

@@ -1,4 +1,4 @@
-"""order.py SEED TICKS TURNS: the trace of a run by this seed, as docs/FORMATS.md ("The order of turns") has it. There are two
+"""order.py SEED TICKS TURNS: the trace of a run by this seed, as docs/formats/scripts.md ("The order of turns") has it. There are two
 processors, whose tasks T1 and T2 call get_pid() for ever, and each processor takes so many ticks."""
 import sys
 

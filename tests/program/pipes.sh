@@ -12,8 +12,11 @@ pipes() {
     yes 'P1 tick' | head -n 1000000 > long.txt
     ("$program" calls "$late/machine.cfg" - < long.txt 2> errors; echo $? > ended) | head -n 1 > output
     ended=no
-    [ "$(cat ended)" = 3 ] && [ "$(cat output)" = '1 P1 T1 tick taken' ] && [ "$(cat errors)" = 'fmpsim: write failed' ] && ended=yes
+    [ "$(cat ended)" = 3 ] && [ "$(cat output)" = '1 P1 T1 tick taken' ] && [ ! -s errors ] && ended=yes
     count "$ended" calls "$late/machine.cfg" - '|' head -n 1
+    unread_output list
+    unread_output calls --help
+    unread_output calls --color=always "$late/machine.cfg" "$late/events.txt"
     # Lines are held back, so that 64 KiB of them are one write. This pipe keeps apart what was written apart, and what was not in
     # pieces of 4 KiB: of 120 KiB there are some thirty, and would be 5000 if each line were written by itself.
     head -n 5000 long.txt > events.txt
@@ -21,6 +24,17 @@ pipes() {
     ended=no
     [ "$pieces" -ge 1 ] && [ "$pieces" -le 60 ] && ended=yes
     count "$ended" calls "$late/machine.cfg" events.txt "# in $pieces writes"
+}
+
+# unread_output WORD..: nobody reads what the program writes on these words. It ends silently.
+unread_output() {
+    local ended=no
+    mkfifo unread && { sleep 60 < unread & } && exec 4> unread && kill $! && wait $! 2> /dev/null
+    ("$program" "$@" >&4 2> errors; echo $? > ended)
+    exec 4>&-
+    rm unread
+    [ "$(cat ended)" = 3 ] && [ ! -s errors ] && ended=yes
+    count "$ended" "$@" '# with no reader'
 }
 
 # in_pieces COMMAND..: in how many pieces the command's output comes through a pipe that keeps its writes apart.

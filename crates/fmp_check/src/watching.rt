@@ -5,7 +5,7 @@ ghost use Rattle.fmp_machine.specs.Arrivals.{State};
 ghost use Rattle.fmp_names.specs.Names.{NameLists};
 
 use fmp_codes::Event;
-use fmp_plain_rows::Machine;
+use fmp_plain_machine::PlainMachine;
 use fmp_text::Names;
 use std::alloc::AllocError;
 
@@ -20,7 +20,7 @@ pub trait Watcher {
         names: &Names,
         n: u32,
         event: Event,
-        machine: &Machine,
+        machine: &PlainMachine,
     ) -> Result<(), AllocError>
         ensures { OnOk result (self.new ≡ watched self.old names.now n event machine.now) };
 }
@@ -37,7 +37,7 @@ impl Watcher for Nobody {
         _names: &Names,
         _n: u32,
         _event: Event,
-        _machine: &Machine,
+        _machine: &PlainMachine,
     ) -> Result<(), AllocError> {
         Ok(())
     }

@@ -4,3 +4,4 @@ pub mod Excerpts  -- A line as it is shown, with a caret under one of its bytes.
 pub mod Contexts  -- What stands beside a fault line.
 pub mod Configs  -- What stands beside a fault line of a configuration.
 pub mod Texts  -- What stands beside a fault line of events, scripts or a trace.
+pub mod Questions  -- What stands beside a fault of a question.

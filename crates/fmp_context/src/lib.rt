@@ -4,8 +4,8 @@
 //! definition: of a line of events (`specs/Places`), of scripts and traces (`specs/Texts`), and of a configuration
 //! (`specs/Configs`). The law `places_are_in_their_lines` says that the place of a line of events is in that line.
 //!
-//! That the caret is where the reader refuses is only tested. Begin at [`event_context`], [`text_context`] and
-//! [`config_context`].
+//! That the caret is where the reader refuses is only tested. Begin at [`event_context`], [`text_context`],
+//! [`config_context`] and [`question_context`].
 #![tactic(auto)]
 
 mod config;
@@ -13,6 +13,7 @@ mod event;
 mod excerpt;
 mod laws;
 mod line;
+mod question;
 mod text;
 mod walk;
 mod wanted;
@@ -21,6 +22,7 @@ pub use config::config_context;
 pub use event::{event_context, event_place};
 pub use laws::places_are_in_their_lines;
 pub use line::line_behind;
+pub use question::question_context;
 pub use text::{TextForm, text_advice, text_context};
 pub use walk::Walk;
 pub use wanted::Wanted;

@@ -1,5 +1,5 @@
 -- What a read and a write do to bytes that are known.
-use Rattle.std.proofs.Common.{◌≡◌, ℕ, ◌<◌, List, [], ◌++◌, length, take, true, false, refl, Option, None, Some, Result, Ok, Err}
+use Rattle.std.proofs.Common.{◌≡◌, ℕ, List, [], ◌++◌, take, refl, Option, None, Some, Result, Ok, Err}
 use Rattle.std.specs.Io.KnownBytes.{Keeps, Appends, Consumes, IsAtEnd, WriteAppends, ReadConsumes}
 use Rattle.std.proofs.lemmas.Bool.{false≢true}
 use Rattle.fmp_devices.specs.Devices.{IsKnown, bytes_of}

@@ -1,8 +1,12 @@
 -- What contracts see of a walker, and what its type keeps.
-use Rattle.std.specs.Prelude.{◌≡◌, ℕ, ◌+◌, ◌-◌, ◌<◌, ◌≤◌, ◌^◌, Bool, not, ◌||◌, nat_lt, List, length, slice_index}
+use Rattle.std.specs.Prelude.{◌≡◌, ℕ, ◌+◌, ◌-◌, ◌<◌, ◌≤◌, ◌^◌, Bool, not, ◌&&◌, ◌||◌, nat_lt, is_none, List, length, slice_index}
 use Rattle.fmp_codes.specs.declared.numbers.Proc.{Proc}
 use Rattle.fmp_setup.specs.Setup.{Setup, has_time}
 use Rattle.fmp_codes.specs.declared.records.Record.{Record}
+use Rattle.fmp_machine.specs.World.{World, processor, runner_of}
+use Rattle.fmp_listed.specs.Queues.{Queues}
+use Rattle.fmp_orders.specs.declared.rules.Rules.{Rules}
+use Rattle.fmp_orders.specs.Orders.{is_left}
 use Rattle.fmp_orders.specs.Places.{Place, origin}
 
 pub record Walked : Type 0 where
@@ -17,6 +21,14 @@ count_in taken n = slice_index taken (n - 1)
 -- a tick more than n is not too many beside what a processor has taken, if its ticks count
 abbrev pub is_beside : Setup → ℕ → List ℕ → ℕ → Proc → Bool
 is_beside c drift taken n q = not (has_time c.timer q) || nat_lt n (count_in taken q.number + drift)
+
+-- the ticks of a processor do not count, or it may take none any more
+abbrev pub is_out : Setup → Rules → List ℕ → Proc → Bool
+is_out c rules taken p = not (has_time c.timer p && is_left rules.ticks (count_in taken p.number))
+
+-- on a processor no handler is due, no task runs and no request is pending
+abbrev pub is_idle_on : World Queues → Proc → Bool
+is_idle_on w p = is_none (runner_of w p) && not (processor w p).latch
 
 -- each of the first numbers has room for so many more
 abbrev pub AreBounded : ℕ → List ℕ → ℕ → Type 0

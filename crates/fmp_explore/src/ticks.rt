@@ -3,7 +3,8 @@ ghost use Rattle.std.specs.Prelude.{◌≡◌, ◌<◌, ◌+◌, ◌^◌, ℕ, s
 ghost use Rattle.fmp_setup.specs.Setup.{has_time};
 ghost use Rattle.fmp_orders.specs.Orders as orders;
 ghost use Rattle.fmp_orders.specs.Places as places;
-ghost use Rattle.fmp_explore.specs.Walked.{count_in, is_beside};
+ghost use Rattle.fmp_orders.specs.Sights.{is_out_of_time};
+ghost use Rattle.fmp_explore.specs.Walked.{count_in, is_beside, is_out};
 
 use fmp_codes::{Event, Proc, Record};
 use fmp_histories::is_taken;
@@ -82,4 +83,23 @@ pub(crate) fn advance_taken(rules: Rules, taken: &mut [u32; 8], made: &Record)
     if counts_ticks(rules) && is_taken(made.answer) {
         taken[p.index()] += 1;
     }
+}
+
+/// Whether the ticks of a processor do not count, or it may take none any more.
+fn is_out(config: &Config, rules: Rules, taken: &[u32; 8], p: Proc) -> bool
+    ensures { result ≡ is_out config.now rules taken.now p }
+{
+    !(has_time(config.timer(), p) && is_left(rules.ticks, taken[p.index()]))
+}
+
+/// Whether no processor may take a tick that counts.
+pub(crate) fn is_out_of_time(config: &Config, rules: Rules, taken: &[u32; 8]) -> bool
+    ensures { result ≡ is_out_of_time config.now rules (count_in taken.now) }
+{
+    for at in 0..config.processors() {
+        if !is_out(config, rules, taken, Proc::new(at + 1)) {
+            return false;
+        }
+    }
+    true
 }

@@ -1,54 +1,57 @@
 //! One who stands at a place of all orders, and makes steps.
-ghost use Rattle.std.specs.Prelude.{◌≡◌, ◌≤◌, ◌<◌, ◌+◌, ◌^◌, ℕ, None, IfOk, IfSome, IsTrue, if◌then◌else◌};
+ghost use Rattle.std.specs.Prelude.{◌≡◌, ◌≤◌, ◌<◌, ◌+◌, ◌^◌, [], ◌∷◌, true, Some, is_some, IfOk, IfSome, if◌then◌else◌};
 ghost use Rattle.fmp_codes.specs.Records.{processor_of};
 ghost use Rattle.fmp_machine.specs.Step as machine;
-ghost use Rattle.fmp_queues.specs.Queues.{listed};
-ghost use Rattle.fmp_orders.specs.Laws.{is_seen};
+ghost use Rattle.fmp_listed.specs.Queues.{listed};
 ghost use Rattle.fmp_orders.specs.Places as places;
+ghost use Rattle.fmp_question.specs.Questions.{allows};
 ghost use Rattle.fmp_explore.specs.Walked.{origin_of};
 
+use crate::sights::{has_to_look, is_over, look, put_sight};
 use crate::ticks::{advance_taken, may_tick};
 use fmp_codes::{Answer, Event, Proc, Record, Runner};
 use fmp_histories::{advance_handler, advance_task, asked_at};
 use fmp_kernel::Kernel;
 use fmp_machine::Config;
 use fmp_orders::Rules;
-use fmp_parts::Digest;
 use fmp_question::Question;
 use fmp_scripts::Scripts;
 use std::alloc::AllocError;
 use std::marker::Model;
 
 // For how many steps there is room from where all runs begin.
-const MOST: u32 = 2_147_483_648;
+pub(crate) const MOST: u32 = 2_147_483_648;
 
 /// One who stands at a place, with room for so many steps more.
 #[derive(Drop)]
 pub struct Walker<'a> {
-    config: &'a Config,
+    pub(crate) config: &'a Config,
     scripts: &'a Scripts,
-    question: &'a Question,
+    pub(crate) question: &'a Question,
     rules: Rules,
     /// The kernel at boot.
-    start: Kernel,
-    kernel: Kernel,
+    pub(crate) start: Kernel,
+    pub(crate) kernel: Kernel,
     /// Where the scripts of the tasks, and of the handlers on each processor, have come to.
-    tasks: [u32; 64],
-    handlers: [u32; 8],
+    pub(crate) tasks: [u32; 64],
+    pub(crate) handlers: [u32; 8],
     /// The ticks that each processor has taken, where they are counted.
-    taken: [u32; 8],
+    pub(crate) taken: [u32; 8],
     /// How many steps of the question were seen.
-    seen: u32,
-    left: u32,
+    pub(crate) seen: u32,
+    pub(crate) left: u32,
     /// What the last event was told to have done.
     made: Record,
+    /// Room for the lines of an event, and for one of them.
+    text: Vec<u8>,
+    line: Vec<u8>,
 }
 
 impl<'a> Model for Walker<'a> {
     ghost use Rattle.std.specs.Prelude.{◌≡◌, length};
     ghost use Rattle.fmp_explore.specs.Walked.{Walked, IsRoomy};
     ghost use Rattle.fmp_machine.specs.Boot.{boot};
-    ghost use Rattle.fmp_queues.specs.Queues.{listed, no_queues};
+    ghost use Rattle.fmp_listed.specs.Queues.{listed, no_queues};
 
     ghost Value = { Walked };
 
@@ -63,6 +66,13 @@ fn counted(seen: u32, marked: bool) -> u32
     ensures { result ≡ (if marked then seen + 1 else seen) }
 {
     if marked { seen + 1 } else { seen }
+}
+
+/// Whether a step marks its event as a moment of the question.
+pub(crate) fn is_marked(step: u8) -> bool
+    ensures { result ≡ places.is_marked step }
+{
+    3 <= step % 6
 }
 
 impl<'a> Walker<'a> {
@@ -130,7 +140,7 @@ impl<'a> Walker<'a> {
     }
 
     // The event of a step, if it can be made here.
-    fn event_of(&self, step: u8) -> Option<Event>
+    pub(crate) fn event_of(&self, step: u8) -> Option<Event>
         ensures is { result ≡ places.event_of self.now.place step }
         ensures on { IfSome result (λ e. (processor_of e).number ≤ self.now.place.config.processors) }
     {
@@ -164,47 +174,13 @@ impl<'a> Walker<'a> {
             seen: 0,
             left: MOST,
             made: Record::answer(Event::Tick(Proc::new(1)), None, Answer::Nothing),
+            text: Vec::new(config.allocator()),
+            line: Vec::new(config.allocator()),
         })
     }
 
-    /// Goes back to where all runs begin. The error comes where the kernel has not the memory to become as it was at boot: kernels of one
-    /// configuration have it, but no clause says so.
-    pub fn restart(&mut self) -> Result<(), AllocError>
-        ensures there { IfOk result (λ done. self.new.place ≡ origin_of self.old.place) }
-        ensures room { IfOk result (λ done. 2 ^ 31 ≤ self.new.left) }
-        ensures origin { origin_of self.new.place ≡ origin_of self.old.place }
-    {
-        if !self.kernel.copy_from(&self.start) {
-            return Err(AllocError);
-        }
-        self.tasks = [0; 64];
-        self.handlers = [0; 8];
-        self.taken = [0; 8];
-        self.seen = 0;
-        self.left = MOST;
-        Ok(())
-    }
-
-    /// Goes where another stands, whose runs begin at the same place. The error is as at `restart`.
-    pub fn copy_from(&mut self, other: &Self) -> Result<(), AllocError>
-        requires { origin_of other.now.place ≡ origin_of self.old.place }
-        ensures there { IfOk result (λ done. self.new.place ≡ other.now.place) }
-        ensures room { IfOk result (λ done. self.new.left ≡ other.now.left) }
-        ensures origin { origin_of self.new.place ≡ origin_of self.old.place }
-    {
-        if !self.kernel.copy_from(&other.kernel) {
-            return Err(AllocError);
-        }
-        self.tasks = other.tasks;
-        self.handlers = other.handlers;
-        self.taken = other.taken;
-        self.seen = other.seen;
-        self.left = other.left;
-        Ok(())
-    }
-
     // Plays an event on a processor of the machine, which is marked or not.
-    fn play(&mut self, event: Event, marked: bool)
+    pub(crate) fn play(&mut self, event: Event, marked: bool)
         requires on { (processor_of event).number ≤ self.old.place.config.processors }
         requires room { 0 < self.old.left }
         ensures place { self.new.place ≡ places.went self.old.place marked (machine.step listed self.old.place.machine event) }
@@ -219,47 +195,44 @@ impl<'a> Walker<'a> {
         self.left -= 1;
     }
 
-    /// No step of this number or a greater one can be made from where it stands.
-    #[tactic(auto, unfolding(fmp_orders::specs::Places::after))]
-    pub fn steps(&self) -> u8
-        ensures { (s : ℕ) → result ≤ s → places.after self.now.place s ≡ None }
+    /// Makes the step of a number again, of which it is known that it can be made.
+    #[tactic(auto, unfolding(fmp_orders::specs::Places::after, fmp_orders::specs::Places::told))]
+    pub fn retrace(&mut self, step: u8)
+        requires room { 0 < self.old.left }
+        requires made { is_some (places.after self.old.place step) ≡ true }
+        ensures again { places.after self.old.place step ≡ Some self.new.place }
+        ensures told { places.told self.old.place step ≡ self.new.made ∷ [] }
+        ensures room { self.old.left ≤ self.new.left + 1 }
+        ensures origin { origin_of self.new.place ≡ origin_of self.old.place }
     {
-        6 * self.config.processors()
+        if let Some(event) = self.event_of(step) {
+            self.play(event, is_marked(step));
+        }
     }
 
-    /// Whether all steps of the question were seen.
-    pub fn is_wanted(&self) -> bool
-        ensures { result ≡ is_seen self.now.place }
+    /// What the last event was told to have done.
+    pub fn made(&self) -> &Record
+        ensures { result.now ≡ self.now.made }
     {
-        self.seen as usize == self.question.steps().len()
+        &self.made
     }
 
-    /// Whether another, whose runs begin at the same place, stands at the same place.
-    pub fn is_same(&self, other: &Self) -> bool
-        requires { origin_of other.now.place ≡ origin_of self.now.place }
-        ensures { IsTrue result → other.now.place ≡ self.now.place }
+    // Whether the event that led here may be marked so, where so many steps of the question were seen before it.
+    pub(crate) fn is_allowed(&mut self, seen: u32, marked: bool) -> Result<bool, AllocError>
+        ensures allowed { IfOk result (λ r. r ≡ allows self.old.place.question seen marked (places.sight_at self.old.place self.old.made)) }
+        ensures same { self.new ≡ self.old }
     {
-        self.seen == other.seen
-            && self.tasks == other.tasks
-            && self.handlers == other.handlers
-            && self.taken == other.taken
-            && self.kernel.is_same(&other.kernel)
-    }
-
-    /// A number that is the same at the same place. No answer depends on it.
-    pub fn hash(&self) -> u64 {
-        let mut digest = Digest::new();
-        digest.add(self.kernel.hash());
-        digest.add(u64::from(self.seen));
-        for position in &self.tasks {
-            digest.add(u64::from(*position));
+        if !has_to_look(self.question, seen, marked) {
+            return Ok(!marked);
         }
-        for position in &self.handlers {
-            digest.add(u64::from(*position));
-        }
-        for ticks in &self.taken {
-            digest.add(u64::from(*ticks));
-        }
-        digest.value()
+        let over = is_over(self.config, self.rules, &self.taken, &self.kernel);
+        put_sight(
+            &mut self.text,
+            self.config.names(),
+            &self.kernel,
+            &self.made,
+            over,
+        )?;
+        look(&mut self.line, &self.text, self.question, seen, marked)
     }
 }

@@ -15,11 +15,11 @@ use Rattle.fmp_safety.proofs.Booted.{booted_safe, count_booted, runs_safe}
 use Rattle.fmp_safety.proofs.Stepping.{numbered_tops, safe_step}
 use Rattle.fmp_safety.proofs.Listed.{numbered_lists}
 use Rattle.fmp_balance.proofs.Booted.{balanced_throughout}
-use Rattle.fmp_queues.specs.Queues.{Queues, listed}
-use Rattle.fmp_lists.specs.Stands.{Stands}
-use Rattle.fmp_lists.proofs.Boots.{boot_stands}
-use Rattle.fmp_lists.proofs.SafeLists.{lists_are_right}
-use Rattle.fmp_lists.proofs.Steps.{lists_refine}
+use Rattle.fmp_listed.specs.Queues.{Queues, listed}
+use Rattle.fmp_refinement.specs.Stands.{Stands}
+use Rattle.fmp_refinement.proofs.Boots.{boot_stands}
+use Rattle.fmp_refinement.proofs.SafeLists.{lists_are_right}
+use Rattle.fmp_refinement.proofs.Steps.{lists_refine}
 use Rattle.fmp_headline.specs.Headline.{Headline, HeadlineThroughout, queues_after}
 use Rattle.fmp_headline.proofs.Parts.{on_one, runs_highest}
 

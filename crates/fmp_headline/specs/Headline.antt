@@ -12,9 +12,9 @@ use Rattle.fmp_machine.specs.Step.{replay}
 use Rattle.fmp_safety.specs.First.{IsFirst}
 use Rattle.fmp_safety.specs.Safe.{IsNumberOf}
 use Rattle.fmp_balance.specs.Balance.{Balance}
-use Rattle.fmp_queues.specs.Queues.{Queues, listed, no_queues}
-use Rattle.fmp_lists.specs.Laws.{ListsAreRight}
-use Rattle.fmp_lists.specs.Stands.{Stands}
+use Rattle.fmp_listed.specs.Queues.{Queues, listed, no_queues}
+use Rattle.fmp_refinement.specs.Laws.{ListsAreRight}
+use Rattle.fmp_refinement.specs.Stands.{Stands}
 
 -- a task runs on a processor, or is ready there
 abbrev pub IsOn : State → Proc → Task → Type 0

@@ -18,8 +18,8 @@ use Rattle.fmp_safety.specs.Safe.{Safe}
 use Rattle.fmp_safety.proofs.Stepping.{numbered_tops, safe_step}
 use Rattle.fmp_safety.proofs.Listed.{numbered_lists}
 use Rattle.fmp_safety.proofs.Booted.{booted_safe, count_booted}
-use Rattle.fmp_queues.specs.Queues.{Queues}
-use Rattle.fmp_lists.specs.Stands.{Stands}
+use Rattle.fmp_listed.specs.Queues.{Queues}
+use Rattle.fmp_refinement.specs.Stands.{Stands}
 use Rattle.fmp_histories.specs.Histories.{events_of, state_after, IsRunOf}
 
 -- a record names its event

@@ -19,4 +19,4 @@ pub use fault::{FaultLine, RunFault};
 pub use judging::{Judged, judged_texts};
 pub use passing::pass_on;
 pub use status::Status;
-pub use texts::{config_from, scripts_from};
+pub use texts::{config_from, scripts_from, texts_from};

@@ -3,8 +3,8 @@ ghost use Rattle.std.specs.Prelude.{◌≡◌, ◌+◌, ◌-◌, ◌≤◌, ◌^
 ghost use Rattle.fmp_scripts.specs.ScriptGrammar.{SpellsScripts};
 ghost use Rattle.fmp_scripts.specs.Scripts.{AreInBits};
 ghost use Rattle.fmp_devices.specs.Devices.{IsKnown, bytes_of};
-ghost use Rattle.fmp_judging.specs.Faults.{failed_read, is_config, is_thread_fault, is_text, is_write};
-ghost use Rattle.fmp_judging.specs.Texts.{FirstConfigFault, IsFirstOfScripts, SaysConfig};
+ghost use Rattle.fmp_judging.specs.Faults.{failed_read, failed_write, is_config, is_thread_fault, is_text, is_write};
+ghost use Rattle.fmp_judging.specs.Texts.{CountsReads, FirstConfigFault, FirstScriptFault, IsFirstOfScripts, SaysConfig};
 
 use crate::fault::RunFault;
 use fmp_config::{Config, read_config};
@@ -50,4 +50,29 @@ pub fn scripts_from<S: Source>(
         Ok(scripts) => Ok(scripts),
         Err(fault) => Err(RunFault::Text(fault)),
     }
+}
+
+/// Reads a configuration and scripts to their ends, and judges them. It has no writer in hand, so nothing is written before both are
+/// accepted.
+pub fn texts_from<R: Source, S: Source>(
+    alloc: Global,
+    config: &mut R,
+    scripts: &mut S,
+) -> Result<(Config, Scripts), RunFault>
+    requires config_calls { R.failures config.old < 2 ^ 64 - 1 }
+    requires script_calls { S.failures scripts.old < 2 ^ 64 - 1 }
+    ensures says { IsKnown (R.left config.old) → IfOk result (λ r. SaysConfig (bytes_of (R.left config.old)) r.0) }
+    ensures spells { IsKnown (S.left scripts.old) → IfOk result (λ r. SpellsScripts r.0.names (bytes_of (S.left scripts.old)) r.1) }
+    ensures in_bits { IfOk result (λ r. AreInBits r.1) }
+    ensures config_read { IsKnown (R.left config.old) → OnOk result (bytes_of (R.left config.new) ≡ []) }
+    ensures scripts_read { IsKnown (S.left scripts.old) → OnOk result (bytes_of (S.left scripts.new) ≡ []) }
+    ensures config_fault { IsKnown (R.left config.old) → IfErr result (FirstConfigFault (bytes_of (R.left config.old))) }
+    ensures text_fault { IsKnown (R.left config.old) → IsKnown (S.left scripts.old) → IfErr result (FirstScriptFault (bytes_of (R.left config.old)) (bytes_of (S.left scripts.old))) }
+    ensures reads { CountsReads result (R.failures config.old) (R.failures config.new) (S.failures scripts.old) (S.failures scripts.new) }
+    ensures no_write { failed_write result ≡ false }
+    ensures no_thread_fault { IfErr result (λ fault. is_thread_fault fault ≡ false) }
+{
+    let configuration = config_from(alloc, config)?;
+    let list = scripts_from(alloc, configuration.names(), scripts)?;
+    Ok((configuration, list))
 }

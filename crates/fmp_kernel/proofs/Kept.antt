@@ -16,11 +16,11 @@ use Rattle.fmp_safety.specs.Laws.{FindsNothing, TakesRequest, RunsTop}
 use Rattle.fmp_safety.proofs.Stepping.{numbered_tops, safe_step}
 use Rattle.fmp_safety.proofs.Listed.{numbered_lists}
 use Rattle.fmp_safety.proofs.Interrupts.{finds_nothing, takes_request, runs_top}
-use Rattle.fmp_queues.specs.Queues.{Queues, listed}
-use Rattle.fmp_lists.specs.Stands.{Stands, StepsMatch}
-use Rattle.fmp_lists.specs.Laws.{ListsAreRight}
-use Rattle.fmp_lists.proofs.Steps.{lists_refine}
-use Rattle.fmp_lists.proofs.SafeLists.{lists_safe, numbers_safe, lists_are_right}
+use Rattle.fmp_listed.specs.Queues.{Queues, listed}
+use Rattle.fmp_refinement.specs.Stands.{Stands, StepsMatch}
+use Rattle.fmp_refinement.specs.Laws.{ListsAreRight}
+use Rattle.fmp_refinement.proofs.Steps.{lists_refine}
+use Rattle.fmp_refinement.proofs.SafeLists.{lists_safe, numbers_safe, lists_are_right}
 use Rattle.fmp_kernel.specs.Kept.{IsKept}
 use Rattle.fmp_kernel.proofs.Told.{takes_over, runs_over}
 

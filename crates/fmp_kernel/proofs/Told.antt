@@ -7,9 +7,9 @@ use Rattle.fmp_machine.specs.World.{World, processor, is_held}
 use Rattle.fmp_machine.specs.Arrivals.{State, numbered}
 use Rattle.fmp_safety.specs.Runs.{processor_of}
 use Rattle.fmp_safety.specs.Laws.{TakesRequest, RunsTop}
-use Rattle.fmp_queues.specs.Queues.{Queues, listed}
-use Rattle.fmp_lists.specs.Stands.{Stands, with_order}
-use Rattle.fmp_lists.proofs.SafeLists.{numbers_safe, tells_alike}
+use Rattle.fmp_listed.specs.Queues.{Queues, listed}
+use Rattle.fmp_refinement.specs.Stands.{Stands, with_order}
+use Rattle.fmp_refinement.proofs.SafeLists.{numbers_safe, tells_alike}
 
 module _ (m n : State) (r : Record) (x y : Queues) where
   takes_as : (e : Event) → TakesRequest m e r n → TakesRequest (with_order m x) e r (with_order n y)

@@ -8,13 +8,13 @@ ghost use Rattle.fmp_machine.specs.Step.{step};
 ghost use Rattle.fmp_safety.specs.Safe.{Safe};
 ghost use Rattle.fmp_safety.specs.Runs.{processor_of};
 ghost use Rattle.fmp_safety.specs.Laws.{FindsNothing, TakesRequest, RunsTop};
-ghost use Rattle.fmp_queues.specs.Queues.{listed, no_queues};
-ghost use Rattle.fmp_lists.specs.Stands.{Stands};
-ghost use Rattle.fmp_lists.specs.Laws.{ListsAreRight};
-ghost use Rattle.fmp_kernel_rows.specs.Alike.{AreAlike};
+ghost use Rattle.fmp_listed.specs.Queues.{listed, no_queues};
+ghost use Rattle.fmp_refinement.specs.Stands.{Stands};
+ghost use Rattle.fmp_refinement.specs.Laws.{ListsAreRight};
+ghost use Rattle.fmp_kernel_machine.specs.Alike.{AreAlike};
 
 use fmp_codes::{Answer, Event, Record};
-use fmp_kernel_rows::Machine;
+use fmp_kernel_machine::KernelMachine;
 use fmp_machine::Config;
 use fmp_parts::{Digest, Part};
 use fmp_step::{boot, step_into};
@@ -24,12 +24,12 @@ use std::marker::Model;
 /// The kernel. Contracts see its state with lists, which stands for a safe state of the model.
 #[derive(Drop)]
 pub struct Kernel {
-    pub(crate) machine: Machine,
+    pub(crate) machine: KernelMachine,
 }
 
 impl Model for Kernel {
     ghost use Rattle.fmp_machine.specs.World.{World};
-    ghost use Rattle.fmp_queues.specs.Queues.{Queues};
+    ghost use Rattle.fmp_listed.specs.Queues.{Queues};
     ghost use Rattle.fmp_kernel.specs.Kept.{IsKept};
 
     ghost Value = { World Queues };
@@ -51,7 +51,7 @@ impl Kernel {
         ensures safe { IfOk result (λ k. Safe listed k) }
         ensures lists { IfOk result (λ k. ListsAreRight k) }
     {
-        let mut machine = Machine::blank(config)?;
+        let mut machine = KernelMachine::blank(config)?;
         boot(&mut machine, config);
         Ok(Kernel { machine })
     }

@@ -1,18 +1,19 @@
 //! What the kernel shows of its state: what it reads in its lists, which is what each state of the model tells for which it
 //! stands.
-ghost use Rattle.std.specs.Prelude.{◌≡◌, ◌≤◌, [], None, length};
+ghost use Rattle.std.specs.Prelude.{◌≡◌, ◌≤◌, ◌&&◌, [], None, is_none, length};
+ghost use Rattle.std.specs.List.{list_all};
 ghost use Rattle.fmp_machine.specs.Due.{IsNextDue};
 ghost use Rattle.fmp_machine.specs.World.{item, task, processor, handler, is_held, runner_of};
 ghost use Rattle.fmp_machine.specs.Ordering.{top, queue};
 ghost use Rattle.fmp_machine.specs.Arrivals.{State, numbered};
-ghost use Rattle.fmp_queues.specs.Queues.{listed};
-ghost use Rattle.fmp_lists.specs.Stands.{Stands};
+ghost use Rattle.fmp_listed.specs.Queues.{listed};
+ghost use Rattle.fmp_refinement.specs.Stands.{Stands};
 
 use crate::kernel::Kernel;
 use arrayvec::ArrayVec;
 use fmp_codes::{Object, Pri, Proc, Runner, Task};
 use fmp_machine::{Processor, QueueKind, TaskRecord};
-use fmp_words::{Objects, Words, is_held};
+use fmp_primitives::{Objects, Words, is_held};
 
 impl Kernel {
     /// How many tasks there are.
@@ -139,5 +140,13 @@ impl Kernel {
         ensures model { (m : State) → Stands self.now m → IsNextDue m p result }
     {
         self.machine.next_due(p)
+    }
+
+    /// Whether no wait is timed, and no cyclic handler and no alarm is started.
+    pub fn is_untimed(&self) -> bool
+        ensures lists { result ≡ (list_all is_none self.now.waits_left && list_all is_none self.now.cyclics_left && list_all is_none self.now.alarms_left) }
+        ensures model { (m : State) → Stands self.now m → result ≡ (list_all is_none m.waits_left && list_all is_none m.cyclics_left && list_all is_none m.alarms_left) }
+    {
+        self.machine.is_untimed()
     }
 }

@@ -8,7 +8,7 @@ use Rattle.fmp_machine.specs.World.{World}
 use Rattle.fmp_machine.specs.Objects.{pool}
 use Rattle.fmp_machine.specs.Ordering.{order_of}
 use Rattle.fmp_machine.specs.BufferCalls.{is_handed}
-use Rattle.fmp_queues.specs.Queues.{Queues}
+use Rattle.fmp_listed.specs.Queues.{Queues}
 use Rattle.fmp_kernel_objects.specs.Kinds.{is_handed_in}
 use Rattle.fmp_kernel_objects.specs.Objects.{objects_of, order_for}
 

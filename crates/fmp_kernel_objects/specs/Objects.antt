@@ -15,7 +15,7 @@ use Rattle.fmp_setup.specs.Setup.{Setup}
 use Rattle.fmp_machine.specs.World.{World}
 use Rattle.fmp_machine.specs.Ordering.{order_among}
 use Rattle.fmp_machine.specs.Boot.{blank}
-use Rattle.fmp_queues.specs.Queues.{WaitQueues, Queues, no_queues}
+use Rattle.fmp_listed.specs.Queues.{WaitQueues, Queues, no_queues}
 
 pub record AllObjects : Type 0 where
   pub semaphores : List Semaphore

@@ -4,7 +4,7 @@ ghost use Rattle.std.specs.List.{position};
 ghost use Rattle.fmp_machine.specs.Objects.{blank_semaphore, blank_eventflag, no_data_queue, blank_pool};
 ghost use Rattle.fmp_machine.specs.World.{first, rest, item, with_item};
 ghost use Rattle.fmp_waitq.specs.Queue.{task_of, left_by, joined_by, waiter_of};
-ghost use Rattle.fmp_queues.specs.Queues.{queue, place_of, place_in, changed};
+ghost use Rattle.fmp_listed.specs.Queues.{queue, place_of, place_in, changed};
 ghost use Rattle.fmp_kernel_objects.specs.Kinds.{is_handed_in};
 ghost use Rattle.fmp_kernel_objects.specs.Objects.{blank_objects, order_for, AreAlike};
 

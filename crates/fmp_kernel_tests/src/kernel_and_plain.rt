@@ -8,7 +8,7 @@ use fmp_kernel::Kernel;
 use fmp_machine::{QueueKind, Timer};
 use fmp_part_tests::random::{COMMANDS, Random, SEEDS};
 use fmp_plain::Plain;
-use fmp_words::{Objects, Words, is_held};
+use fmp_primitives::{Objects, Words, is_held};
 use std::alloc::{AllocError, Global};
 use std::process::Abort;
 use std::test::Fail;

@@ -13,7 +13,7 @@ use Rattle.fmp_machine.specs.declared.machine.TaskRecord.{TaskRecord}
 use Rattle.fmp_machine.specs.declared.machine.Cyclic.{Cyclic}
 use Rattle.fmp_machine.specs.declared.machine.Alarm.{Alarm}
 use Rattle.fmp_machine.specs.World.{item, with_item, no_task}
-use Rattle.fmp_queues.specs.Queues.{timed_by}
+use Rattle.fmp_listed.specs.Queues.{timed_by}
 use Rattle.fmp_time.specs.declared.item.Item.TheVariants.{Wait, Alarm as AlarmItem, Cyclic as CyclicItem}
 use Rattle.fmp_time.specs.Left.{Left, ticks_of}
 use Rattle.fmp_time.specs.Times.{Times, left_of, moved, moved_to, cancelled, renewed}

@@ -5,3 +5,4 @@ pub mod Falling  -- The ticks left fall.
 pub mod Among  -- Those whose time is over, among so many.
 pub mod Boot  -- What counts at boot.
 pub mod Least  -- The least ticks left.
+pub mod Untimed  -- Whether anything has ticks left.

@@ -1,12 +1,13 @@
 //! What is assigned to processors.
-ghost use Rattle.std.specs.Prelude.{◌≡◌, ◌≤◌, None, [], false, length, map, true};
+ghost use Rattle.std.specs.Prelude.{◌≡◌, ◌≤◌, ◌&&◌, None, [], false, is_none, length, map, true};
+ghost use Rattle.std.specs.List.{list_all};
 ghost use Rattle.fmp_codes.specs.declared.numbers.Task.{Task as AnyTask};
 ghost use Rattle.fmp_machine.specs.Boot.{phase_left};
 ghost use Rattle.fmp_setup.specs.Setup.{counts_for};
 ghost use Rattle.fmp_machine.specs.Tick.{lowered, expired, tasks_expired};
 ghost use Rattle.fmp_machine.specs.World.{item, with_item, no_task, resting};
 ghost use Rattle.fmp_links.specs.Tasks.{has_task, without};
-ghost use Rattle.fmp_queues.specs.Queues.{timed_by};
+ghost use Rattle.fmp_listed.specs.Queues.{timed_by};
 ghost use Rattle.fmp_kernel_time.specs.Assignments.{cyclic_in, alarm_in, IsNextDue};
 ghost use Rattle.fmp_kernel_time.specs.Starting.{first_cyclic, first_alarm};
 
@@ -230,6 +231,14 @@ impl Assigned {
                 }
             }
         }
+    }
+
+    /// Whether nothing has ticks left.
+    pub fn is_untimed(&self) -> bool
+        requires { (t : AnyTask) → has_task t self.now.timed ≡ true → t.number ≤ length self.now.tasks }
+        ensures { result ≡ (list_all is_none self.now.waits_left && list_all is_none self.now.cyclics_left && list_all is_none self.now.alarms_left) }
+    {
+        least(&self.timers).is_none()
     }
 
     /// Lowers the ticks left for which a tick on a processor counts.

@@ -7,8 +7,8 @@ use Rattle.fmp_codes.specs.declared.records.Record.{Record}
 use Rattle.fmp_setup.specs.Setup.{Setup, has_time}
 use Rattle.fmp_machine.specs.Arrivals.{State, numbered}
 use Rattle.fmp_machine.specs.World.{World, processor, runner_of}
-use Rattle.fmp_queues.specs.Queues.{Queues, listed}
-use Rattle.fmp_lists.specs.Stands.{Stands}
+use Rattle.fmp_listed.specs.Queues.{Queues, listed}
+use Rattle.fmp_refinement.specs.Stands.{Stands}
 use Rattle.fmp_trace.specs.Lines.{line_text}
 use Rattle.fmp_states.specs.States.{state_lines}
 use Rattle.fmp_states.proofs.Alike.{states_alike}

@@ -10,7 +10,7 @@ use Rattle.fmp_question.specs.declared.question.Step.{Step}
 use Rattle.fmp_question.specs.Questions.{seen}
 use Rattle.fmp_orders.specs.declared.rules.Rules.{Rules}
 use Rattle.fmp_orders.specs.Shown.{NoneShows, NoneShowsWithin, IsShortestShow}
-use Rattle.fmp_orders.specs.Places.{Place, origin, after}
+use Rattle.fmp_orders.specs.Places.{Place, origin, after, records}
 use Rattle.fmp_orders.specs.Laws.{LeadsTo, is_seen, PlacesAnswer}
 use Rattle.fmp_orders.proofs.Runs.{runs_orders}
 
@@ -32,15 +32,16 @@ module _ (c : Setup) (scripts : List Steps) (rs : Rules) (question : List Step) 
   none_ever none h order shows = none_within (length h) (λ steps w few leads. none steps w leads) h order (omega arith) shows
 
   found_order : (steps : List ℕ) → IsShortest after is_seen (origin c scripts rs question) steps →
-      (h : List Record) × (length h ≡ length steps) × IsShortestShow c scripts rs question h
+      (h : List Record) × (length h ≡ length steps) × (h ≡ records (origin c scripts rs question) steps) × IsShortestShow c scripts rs question h
   found_order steps found =
       let got = (runs_orders c scripts rs question valid).order steps found.place found.leads in
       let long = got.2 in (
         got.0,
         got.2,
+        got.3,
         record {
-          order = got.3.order;
-          shows = (got.1, got.3.marked, all_seen found.place got.0 got.1 got.3 found.is_wanted);
+          order = got.4.order;
+          shows = (got.1, got.4.marked, all_seen found.place got.0 got.1 got.4 found.is_wanted);
           shortest = λ g order shows.
               let other = (runs_orders c scripts rs question valid).steps g shows.0 order shows.1 in
               let less = found.shortest other.0 other.1 other.3 (seen_there other.1 g shows.0 other.4 shows.2) in

@@ -25,9 +25,9 @@ use Rattle.fmp_machine.specs.Step.{step, replay}
 use Rattle.fmp_machine.specs.Boot.{booted}
 use Rattle.fmp_safety.specs.Safe.{Safe}
 use Rattle.fmp_safety.proofs.Booted.{runs_safe}
-use Rattle.fmp_queues.specs.Queues.{Queues, listed}
-use Rattle.fmp_lists.specs.Stands.{Stands, StepsMatch}
-use Rattle.fmp_lists.proofs.Steps.{lists_refine}
+use Rattle.fmp_listed.specs.Queues.{Queues, listed}
+use Rattle.fmp_refinement.specs.Stands.{Stands, StepsMatch}
+use Rattle.fmp_refinement.proofs.Steps.{lists_refine}
 use Rattle.fmp_histories.specs.Histories.{events_of, state_after, IsRunOf}
 use Rattle.fmp_histories.specs.Positions.{is_taken, is_tick_of}
 use Rattle.fmp_histories.specs.Places.{called_tasks, renewed}

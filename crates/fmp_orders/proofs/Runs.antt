@@ -1,7 +1,7 @@
 -- Runs over places and orders of events.
 use Rattle.std.proofs.Common.{◌≡◌, ℕ, zero, suc, ◌+◌, ◌-◌, ◌*◌, ◌/◌, ◌%◌, ◌<◌, ◌≤◌, ◌∙◌, Bool, true, false, ◌&&◌, not, cond, List, [], ◌∷◌, ◌++◌, length, take, Option, Some, None, ◌⊎◌, inl, inr, refl, ap, sym, subst, arith, rules, slice_index, slice_get, append_assoc, append-nil}
 use Rattle.std.specs.Prelude.{nat_lt, nat_le, replicate}
-use Rattle.std.specs.Option.{option_and_then}
+use Rattle.std.specs.Option.{option_and_then, option_map_or}
 use Rattle.std.proofs.lemmas.Grind.{common_steps}
 use Rattle.std.proofs.lemmas.Bool.{cases_Bool}
 use Rattle.std.proofs.lemmas.List.Elements.{All-nil}
@@ -22,8 +22,8 @@ use Rattle.fmp_machine.specs.World.{World, processor, runner_of, is_held}
 use Rattle.fmp_machine.specs.Arrivals.{numbered}
 use Rattle.fmp_machine.specs.Step.{step, answers}
 use Rattle.fmp_safety.proofs.Items.{proc_same}
-use Rattle.fmp_queues.specs.Queues.{Queues, listed}
-use Rattle.fmp_lists.proofs.Boots.{boot_stands}
+use Rattle.fmp_listed.specs.Queues.{Queues, listed}
+use Rattle.fmp_refinement.proofs.Boots.{boot_stands}
 use Rattle.fmp_histories.specs.Histories.{events_of, state_after}
 use Rattle.fmp_histories.proofs.Histories.{step_event, after_more}
 use Rattle.fmp_histories.specs.Positions.{task_position, handler_position}
@@ -34,7 +34,7 @@ use Rattle.fmp_question.specs.Questions.{allows, seen}
 use Rattle.fmp_orders.specs.declared.rules.Rules.{Rules}
 use Rattle.fmp_orders.specs.Orders.{counts_ticks, counted, may_tick, MayHappen, AreInOrder}
 use Rattle.fmp_orders.specs.Shown.{last_sight, IsMarked}
-use Rattle.fmp_orders.specs.Places.{Place, origin, position_at, is_asked_at, call_of, count_at, event_at, event_of, is_marked, went, sight_at, allowed, next_place, after}
+use Rattle.fmp_orders.specs.Places.{Place, origin, position_at, is_asked_at, call_of, count_at, event_at, event_of, is_marked, went, sight_at, allowed, next_place, after, told_of, told, records}
 use Rattle.fmp_orders.specs.Laws.{LeadsTo, RunsAreOrders}
 use Rattle.fmp_orders.proofs.Alike.{may_tick_same}
 use Rattle.fmp_orders.proofs.Longer.{counts_same, same_record, same_allowed, leads_more}
@@ -205,16 +205,22 @@ module _ (c : Setup) (scripts : List Steps) (rs : Rules) (question : List Step) 
   abbrev Leads : Place → List Record → List Bool → Type 0
   Leads w h marks = LeadsTo c scripts rs question w h marks
 
-  -- a history that leads to a place, so many records longer than one before
-  abbrev Led : Place → ℕ → Type 0
-  Led w n = (h : List Record) × (marks : List Bool) × (length h ≡ n) × Leads w h marks
+  -- a history of so many records, which is this one, leads to a place
+  abbrev Led : Place → List Record → ℕ → Type 0
+  Led w is n = (h : List Record) × (marks : List Bool) × (length h ≡ n) × (h ≡ is) × Leads w h marks
 
   abbrev Behind : List ℕ → Place → Type 0
-  Behind steps w' = (x : Place) (g : List Record) (marks : List Bool) → Leads x g marks → run after x steps ≡ Some w' → Led w' (length g + length steps)
+  Behind steps w' =
+      (x : Place) (g : List Record) (marks : List Bool) → Leads x g marks → run after x steps ≡ Some w' → Led w' (g ++ records x steps) (length g + length steps)
+
+  -- what is told behind a step, of which it is known where it leads
+  abbrev told_behind : List ℕ → Option Place → List Record
+  told_behind steps o = option_map_or (λ r. records r steps) o []
 
   -- one step, and what is known of those behind it
   step_leads : (s : ℕ) (steps : List ℕ) (w w' : Place) (h : List Record) (marks : List Bool) → Leads w h marks → Behind steps w' →
-      (o : Option Event) → event_of w s ≡ o → option_and_then (λ r. run after r steps) (next_place w (is_marked s) o) ≡ Some w' → Led w' (length h + length (s ∷ steps))
+      (o : Option Event) → event_of w s ≡ o → option_and_then (λ r. run after r steps) (next_place w (is_marked s) o) ≡ Some w' →
+      Led w' (h ++ (told_of w o ++ told_behind steps (next_place w (is_marked s) o))) (length h + length (s ∷ steps))
   step_leads s steps w w' h marks leads behind None is on = cc
   step_leads s steps w w' h marks leads behind (Some e) is on = go (allows w.question w.seen mark (sight_at (went w mark did) did.1)) refl on
     where
@@ -228,20 +234,22 @@ module _ (c : Setup) (scripts : List Steps) (rs : Rules) (question : List Step) 
       may = step_may c scripts rs question w h marks leads s e is
 
       go : (b : Bool) → allows w.question w.seen mark (sight_at (went w mark did) did.1) ≡ b →
-          option_and_then (λ r. run after r steps) (cond b (Some (went w mark did)) None) ≡ Some w' → Led w' (length h + length (s ∷ steps))
+          option_and_then (λ r. run after r steps) (cond b (Some (went w mark did)) None) ≡ Some w' →
+          Led w' (h ++ (did.1 ∷ told_behind steps (cond b (Some (went w mark did)) None))) (length h + length (s ∷ steps))
       go false never on' = cc
       go true holds on' =
           let more = leads_more c scripts rs question valid w h marks leads e may mark (sym (same_allowed c scripts rs question valid w h marks leads e may mark) ∙ holds) in
           let rest = behind (went w mark did) (h ++ did.1 ∷ []) (marks ++ mark ∷ []) more on' in
           let long = rest.2 in
-          (rest.0, rest.1, grind (arith, common_steps, long), rest.3)
+          (rest.0, rest.1, grind (arith, common_steps, long), rest.3 ∙ append_assoc h (did.1 ∷ []) (records (went w mark did) steps), rest.4)
 
   -- a run over places from one to which a history leads
-  run_leads : (steps : List ℕ) (w w' : Place) (h : List Record) (marks : List Bool) → Leads w h marks → run after w steps ≡ Some w' → Led w' (length h + length steps)
-  unfolding after
+  run_leads : (steps : List ℕ) (w w' : Place) (h : List Record) (marks : List Bool) → Leads w h marks → run after w steps ≡ Some w' →
+      Led w' (h ++ records w steps) (length h + length steps)
+  unfolding after told
   run_leads [] w w' h marks leads on =
       let same : w ≡ w' = cc in
-      (h, marks, omega arith, subst (λ x. Leads x h marks) same leads)
+      (h, marks, omega arith, sym (append-nil h), subst (λ x. Leads x h marks) same leads)
   run_leads (s ∷ steps) w w' h marks leads on =
       step_leads s steps w w' h marks leads (λ x g ms leads' on'. run_leads steps x w' g ms leads' on') (event_of w s) refl on
 
@@ -310,7 +318,7 @@ module _ (c : Setup) (scripts : List Steps) (rs : Rules) (question : List Step) 
     order = λ steps w on.
         let got = run_leads steps (origin c scripts rs question) w [] [] (leads_origin c scripts rs question valid) on in
         let long = got.2 in
-        (got.0, got.1, omega (arith, long), got.3);
+        (got.0, got.1, omega (arith, long), got.3, got.4);
     steps = λ h marks order marked.
         let many = marked.as_many in
         let got = order_runs (events_of h) marks (origin c scripts rs question) [] [] h marks (leads_origin c scripts rs question valid) (sym order.run.answers) refl (many ∙ sym (events_long h)) order.in_order marked in

@@ -3,7 +3,7 @@ use Rattle.std.specs.Prelude.{◌≡◌, ℕ, ◌+◌, ◌<◌, ◌==◌, Bool, 
 use Rattle.fmp_codes.specs.declared.records.Record.{Record}
 use Rattle.fmp_scripts.specs.Scripts.{Steps}
 use Rattle.fmp_setup.specs.Setup.{Setup}
-use Rattle.fmp_lists.specs.Stands.{Stands}
+use Rattle.fmp_refinement.specs.Stands.{Stands}
 use Rattle.fmp_histories.specs.Histories.{state_after}
 use Rattle.fmp_histories.specs.Counted.{TasksAre, HandlersAre}
 use Rattle.fmp_search.specs.Runs.{run}
@@ -13,7 +13,7 @@ use Rattle.fmp_question.specs.Questions.{seen}
 use Rattle.fmp_orders.specs.declared.rules.Rules.{Rules}
 use Rattle.fmp_orders.specs.Orders.{counted, IsOrder}
 use Rattle.fmp_orders.specs.Shown.{IsMarked, NoneShows, NoneShowsWithin, IsShortestShow}
-use Rattle.fmp_orders.specs.Places.{Place, origin, after}
+use Rattle.fmp_orders.specs.Places.{Place, origin, after, records}
 
 abbrev pub TakenAre : Rules → List ℕ → List Record → Type 0
 TakenAre rules ns h = (i : ℕ) → i < 8 → slice_index ns i ≡ counted rules h (i + 1)
@@ -33,10 +33,10 @@ pub record LeadsTo (c : Setup) (scripts : List Steps) (rules : Rules) (question 
   pub seen_is : w.seen ≡ seen marks
   pub sized : (length w.tasks ≡ 64) × (length w.handlers ≡ 8) × (length w.taken ≡ 8)
 
--- each run over places is one of all orders, and each of these is a run over places, of as many steps
+-- each run over places is one of all orders, the one that is told along it, and each of these is a run over places, of as many steps
 pub record RunsAreOrders (c : Setup) (scripts : List Steps) (rules : Rules) (question : List Step) : Type 0 where
   pub order : (steps : List ℕ) (w : Place) → run after (origin c scripts rules question) steps ≡ Some w →
-      (h : List Record) × (marks : List Bool) × (length h ≡ length steps) × LeadsTo c scripts rules question w h marks
+      (h : List Record) × (marks : List Bool) × (length h ≡ length steps) × (h ≡ records (origin c scripts rules question) steps) × LeadsTo c scripts rules question w h marks
   pub steps : (h : List Record) (marks : List Bool) → IsOrder c scripts rules h → IsMarked c rules question h marks →
       (steps : List ℕ) × (w : Place) × (length steps ≡ length h) × (run after (origin c scripts rules question) steps ≡ Some w) × LeadsTo c scripts rules question w h marks
 
@@ -50,4 +50,4 @@ pub record PlacesAnswer (c : Setup) (scripts : List Steps) (rules : Rules) (ques
   pub never : NoneEver after is_seen (origin c scripts rules question) → NoneShows c scripts rules question
   pub within : (n : ℕ) → NoneWithin after is_seen (origin c scripts rules question) n → NoneShowsWithin c scripts rules question n
   pub found : (steps : List ℕ) → IsShortest after is_seen (origin c scripts rules question) steps →
-      (h : List Record) × (length h ≡ length steps) × IsShortestShow c scripts rules question h
+      (h : List Record) × (length h ≡ length steps) × (h ≡ records (origin c scripts rules question) steps) × IsShortestShow c scripts rules question h

@@ -1,6 +1,7 @@
 -- What a run is going on from: the places of all orders, which forget how they were come to. The order of tasks is kept by lists,
 -- which have no numbers of arrivals.
-use Rattle.std.specs.Prelude.{ℕ, zero, suc, ◌+◌, ◌-◌, ◌/◌, ◌%◌, ◌&&◌, not, Bool, nat_lt, nat_le, List, Option, None, Some, replicate, slice_index, slice_set, if◌then◌else◌}
+use Rattle.std.specs.Prelude.{ℕ, zero, suc, ◌+◌, ◌-◌, ◌/◌, ◌%◌, ◌&&◌, not, Bool, nat_lt, nat_le, List, [], ◌∷◌, ◌++◌, Option, None, Some, replicate, slice_index, slice_set, if◌then◌else◌}
+use Rattle.std.specs.Option.{option_map_or}
 use Rattle.fmp_codes.specs.Numbers.{as_proc}
 use Rattle.fmp_codes.specs.declared.numbers.Proc.{Proc}
 use Rattle.fmp_codes.specs.declared.records.Answer.{Answer}
@@ -14,7 +15,7 @@ use Rattle.fmp_setup.specs.Setup.{Setup}
 use Rattle.fmp_machine.specs.World.{World, processor, runner_of, is_held}
 use Rattle.fmp_machine.specs.Step.{step}
 use Rattle.fmp_machine.specs.Boot.{boot}
-use Rattle.fmp_queues.specs.Queues.{Queues, listed, no_queues}
+use Rattle.fmp_listed.specs.Queues.{Queues, listed, no_queues}
 use Rattle.fmp_histories.specs.Positions.{is_taken}
 use Rattle.fmp_histories.specs.Places.{moved_tasks, moved_handlers}
 use Rattle.fmp_histories.specs.Scripted.{asked_at}
@@ -115,3 +116,18 @@ next_place w mark (Some e) = allowed w mark (step listed w.machine e)
 -- the place to which a step leads. It is told by the place alone
 unfoldable pub after : Place → ℕ → Option Place
 after w s = next_place w (is_marked s) (event_of w s)
+
+-- ---- what is told
+
+abbrev pub told_of : Place → Option Event → List Record
+told_of w None = []
+told_of w (Some e) = (step listed w.machine e).1 ∷ []
+
+-- what the event of a step is told to have done, if there is one
+unfoldable pub told : Place → ℕ → List Record
+told w s = told_of w (event_of w s)
+
+-- and so along a run
+abbrev pub records : Place → List ℕ → List Record
+records w [] = []
+records w (s ∷ steps) = told w s ++ option_map_or (λ r. records r steps) (after w s) []

@@ -1,18 +1,18 @@
 -- The lines of an event: what patterns are looked for in. docs/FORMATS.md has the forms of a line of a trace and of a state.
 use Rattle.std.specs.Prelude.{ℕ, Bool, not, ◌&&◌, ◌||◌, is_none, List, [], ◌++◌, drop, if◌then◌else◌, codes}
+use Rattle.std.specs.List.{list_all}
 use Rattle.fmp_codes.specs.declared.records.Record.{Record}
 use Rattle.fmp_setup.specs.Setup.{Setup, has_time}
 use Rattle.fmp_machine.specs.Ordering.{Ordering}
 use Rattle.fmp_machine.specs.World.{World, processor, runner_of}
 use Rattle.fmp_trace.specs.Lines.{line_text}
 use Rattle.fmp_states.specs.States.{state_lines}
-use Rattle.fmp_question.specs.Matching.{every}
 use Rattle.fmp_orders.specs.declared.rules.Rules.{Rules}
 use Rattle.fmp_orders.specs.Orders.{each, is_left}
 
 -- no wait is timed, and no cyclic handler and no alarm is started
 abbrev pub is_untimed : {Q : Type 0} → World Q → Bool
-is_untimed w = every is_none w.waits_left && every is_none w.cyclics_left && every is_none w.alarms_left
+is_untimed w = list_all is_none w.waits_left && list_all is_none w.cyclics_left && list_all is_none w.alarms_left
 
 -- no processor may take a tick that counts, where each has taken so many
 abbrev pub is_out_of_time : Setup → Rules → (ℕ → ℕ) → Bool

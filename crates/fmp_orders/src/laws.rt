@@ -7,14 +7,15 @@ ghost use Rattle.fmp_setup.specs.Valid.{IsValid};
 ghost use Rattle.fmp_question.specs.declared.question.Step.{Step};
 ghost use Rattle.fmp_orders.specs.Laws.{RunsAreOrders, PlacesAnswer};
 
-/// Each run over places is one of all orders, with marks at its moments, and each of these is a run over places, of as many steps.
+/// What is told along a run over places is one of all orders, with marks at its moments, and each of these is a run over places, of as
+/// many steps.
 #[tactic(auto, using(crate::proofs::Runs::runs_orders))]
 pub fn runs_are_orders()
     ensures { (c : Setup) (scripts : List Steps) (rules : Rules) (question : List Step) → IsValid c → RunsAreOrders c scripts rules question }
 {}
 
 /// Where no run over places, or none of so many steps, leads to a place at which the question was seen, no order, or none of so many
-/// records, shows it; and a shortest run to such a place is a shortest order that does.
+/// records, shows it; and what is told along a shortest run to such a place is a shortest order that does.
 #[tactic(auto, using(crate::proofs::Answered::places_answer))]
 pub fn places_answer()
     ensures { (c : Setup) (scripts : List Steps) (rules : Rules) (question : List Step) → IsValid c → PlacesAnswer c scripts rules question }

@@ -9,7 +9,7 @@ ghost use Rattle.fmp_safety.specs.Laws.{FindsNothing, TakesRequest, RunsTop};
 
 use fmp_codes::{Answer, Event, Record};
 use fmp_machine::Config;
-use fmp_plain_rows::Machine;
+use fmp_plain_machine::PlainMachine;
 use fmp_step::{boot, step_into};
 use std::alloc::AllocError;
 use std::marker::Model;
@@ -17,7 +17,7 @@ use std::marker::Model;
 /// The plain machine. Contracts see its state, which is that of the model, and the number of its steps.
 #[derive(Debug, Drop)]
 pub struct Plain {
-    machine: Machine,
+    machine: PlainMachine,
     steps: u32,
 }
 
@@ -39,7 +39,7 @@ impl Plain {
         ensures safe { IfOk result (λ m. Safe numbered m.state) }
         ensures valid { IfOk result (λ m. IsValid config.now) }
     {
-        let mut machine = Machine::blank(config)?;
+        let mut machine = PlainMachine::blank(config)?;
         boot(&mut machine, config);
         Ok(Plain { machine, steps: 0 })
     }
@@ -76,7 +76,7 @@ impl Plain {
     }
 
     /// Its state between two events.
-    pub fn machine(&self) -> &Machine
+    pub fn machine(&self) -> &PlainMachine
         ensures { result.now ≡ self.now.state }
     {
         &self.machine

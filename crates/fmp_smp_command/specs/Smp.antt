@@ -1,6 +1,7 @@
 -- The command line of a run with scripts, and what it gives.
-use Rattle.std.specs.Prelude.{◌≡◌, ◌<◌, ◌^◌, ℕ, Bool, pos, true, false, List, [], ◌∷◌, Option, Some, None, codes, is_some, option_map}
+use Rattle.std.specs.Prelude.{◌≡◌, ◌<◌, ◌^◌, ℕ, Bool, pos, true, false, List, [], ◌∷◌, Option, Some, None, codes, is_some, option_map, if◌then◌else◌}
 use Rattle.std.specs.Option.{SomeIff}
+use Rattle.std.specs.Str.{bytes_eq}
 use Rattle.std.specs.Str.Parse.{IsNumeral, digits_value, without_leading_plus}
 use Rattle.clap.specs.Words.{AddsArg, AddsInTurn, IsPlainArg, IsSignedIn, args_of, groups_of, found_of, one_text, without_minus, App, Kinds, Row, Rule, Text, app_of, fault_of, first_of, first_value, matches_of, new_app, new_rule, one_of, rows_of, with_rule}
 use Rattle.clap.specs.declared.builder.command.Command.TheViews.{out-Command as fields_of}
@@ -10,6 +11,8 @@ use Rattle.clap.specs.declared.builder.arg.Arg.{Arg}
 use Rattle.clap.specs.declared.builder.command.Command.{Command}
 use Rattle.clap.specs.declared.builder.value_parser.ValueParser.TheVariants as parser
 use Rattle.clap.specs.declared.parser.matches.ArgMatches.{ArgMatches}
+use Rattle.fmp_smp_command.specs.declared.colours.Colour.{Colour}
+use Rattle.fmp_smp_command.specs.declared.colours.Colour.TheVariants.{Auto, Always, Never, Other}
 use Rattle.fmp_smp_command.specs.declared.limits.Limits.{Limits}
 use Rattle.fmp_smp_command.specs.declared.SmpRequest.{SmpRequest}
 
@@ -56,9 +59,27 @@ seed_rule = record (new_rule (codes "seed")) {
 abbrev pub context_rule : Rule
 context_rule = record (new_rule (codes "context")) { long = Some (codes "context"); action = Some SetTrue }
 
+-- of when the trace is coloured
+abbrev pub colour_rule : Rule
+colour_rule = record (new_rule (codes "color")) {
+  long = Some (codes "color");
+  value_names = 1;
+  action = Some Set;
+}
+
+-- when it is, by the word for that, which may be missing
+abbrev pub colour_by : Option Text → Colour
+colour_by None = Auto
+colour_by (Some word) =
+    if bytes_eq word (codes "auto") then Auto
+    else if bytes_eq word (codes "always") then Always
+    else if bytes_eq word (codes "never") then Never
+    else Other
+
 -- the whole command line, as a parse reads it
 abbrev pub smp_line : App
 smp_line = with_rule
+    (with_rule
     (with_rule
     (with_rule
     (with_rule
@@ -68,7 +89,8 @@ smp_line = with_rule
     (number_rule (codes "ticks") 0 1000000))
     (number_rule (codes "turns") 1 1000000))
     seed_rule)
-    context_rule
+    context_rule)
+    colour_rule
 
 -- what clap finds in the words of that command line, by the ids of the arguments
 unfoldable pub found_in : List Text → List Row
@@ -78,7 +100,7 @@ found_in words = matches_of smp_line words
 unfoldable pub faults_in : List Text → Kinds
 faults_in words = fault_of smp_line words
 
--- the command line: two paths, two numbers, and two that may be left out
+-- the command line: two paths, two numbers, and three that may be left out
 pub record IsSmp (c : Command) : Type 0 where
   pub start : Command
   pub config : Arg
@@ -87,7 +109,8 @@ pub record IsSmp (c : Command) : Type 0 where
   pub turns : Arg
   pub seed : Arg
   pub context : Arg
-  pub chain : AddsInTurn AddsArg start (config ∷ scripts ∷ ticks ∷ turns ∷ seed ∷ context ∷ []) c
+  pub colour : Arg
+  pub chain : AddsInTurn AddsArg start (config ∷ scripts ∷ ticks ∷ turns ∷ seed ∷ context ∷ colour ∷ []) c
   pub no_arguments : args_of start ≡ []
   pub no_groups : groups_of start ≡ []
   pub no_globals : (fields_of start).has_globals ≡ false
@@ -98,6 +121,7 @@ pub record IsSmp (c : Command) : Type 0 where
   pub is_turns : IsNumber turns (codes "turns") 1 1000000
   pub is_seed : IsOptional seed (codes "seed")
   pub is_context : IsOptional context (codes "context")
+  pub is_colour : IsOptional colour (codes "color")
   pub line : app_of c ≡ smp_line
 
 -- the value of this id is a number from low to high
@@ -146,3 +170,4 @@ pub record Asks (rows : List Row) (r : SmpRequest) : Type 0 where
   pub limits : AsksLimits rows r.limits
   pub seed : IsNumberIn (one_of (codes "seed") rows) r.seed
   pub context : IsFlag (one_of (codes "context") rows) r.context
+  pub colour : r.colour ≡ colour_by (first_of (codes "color") rows)

@@ -12,9 +12,11 @@ ghost use Rattle.clap.specs.declared.builder.value_parser.ValueParser.TheVariant
 ghost use Rattle.fmp_smp_command.specs.Smp.{IsOptional, IsRequired, IsNumber, IsSmp, GivesLimits, GivesAll};
 ghost use Rattle.fmp_smp_command.specs.Smp.{Asks, AsksLimits, context_rule, faults_in, found_in, number_rule, path_rule, rows_in, seed_rule};
 
+mod colours;
 mod limits;
 
 use clap::{Arg, ArgAction, ArgMatches, Command, Error};
+pub use colours::{Colour, colour_of, colour_option};
 pub use limits::Limits;
 use std::alloc::{AllocError, Global};
 
@@ -39,7 +41,7 @@ run ends when all ticks are taken and no processor has anything left to do, or w
 many events as --turns says.
 
 The trace, on standard output, has one line for each event, in the order in which they happened,
-as that of `fmpsim calls`. That order may be another one each time. With --seed the processors
+as that of `fmpsim calls`, and in its colours. That order may be another one each time. With --seed the processors
 and the clock take turns without threads, in an order that the number determines.
 
 Exit status:
@@ -62,6 +64,8 @@ pub struct SmpRequest<'a> {
     pub seed: Option<u64>,
     /// Whether what stands beside a fault is to be shown.
     pub context: bool,
+    /// When the trace is coloured.
+    pub colour: Colour,
 }
 
 /// The path of a text, which has to be given.
@@ -137,6 +141,7 @@ pub fn smp_command<'a>(alloc: Global) -> Result<Command<'a>, AllocError>
     let turns = turns(alloc);
     let seed = seed(alloc);
     let context = context(alloc);
+    let colour = colour_option(alloc);
     let start = Command::new(alloc, "smp")
         .about(ABOUT)
         .after_help(HELP)
@@ -147,7 +152,8 @@ pub fn smp_command<'a>(alloc: Global) -> Result<Command<'a>, AllocError>
     let four = three.arg(turns)?;
     let five = four.arg(seed)?;
     let six = five.arg(context)?;
-    Ok(six)
+    let seven = six.arg(colour)?;
+    Ok(seven)
 }
 
 /// The numbers of `--ticks` and `--turns`, each in its own place.
@@ -170,12 +176,14 @@ fn request_of<'a>(matches: &ArgMatches<'a>) -> SmpRequest<'a>
     let limits = limits_of(matches);
     let seed = matches.get_one::<u64>("seed");
     let context = matches.get_flag("context");
+    let colour = colour_of(matches);
     SmpRequest {
         config,
         scripts,
         limits,
         seed,
         context,
+        colour,
     }
 }
 

@@ -10,9 +10,9 @@ use Rattle.fmp_machine.specs.declared.machine.TaskRecord.{TaskRecord}
 use Rattle.fmp_machine.specs.Arrivals.{State, numbered}
 use Rattle.fmp_machine.specs.World.{World, item, processor, task}
 use Rattle.fmp_names.specs.Names.{NameLists}
-use Rattle.fmp_queues.specs.Queues.{Queues, listed}
-use Rattle.fmp_lists.specs.Stands.{Stands}
-use Rattle.fmp_lists.proofs.SafeLists.{tells_alike}
+use Rattle.fmp_listed.specs.Queues.{Queues, listed}
+use Rattle.fmp_refinement.specs.Stands.{Stands}
+use Rattle.fmp_refinement.proofs.SafeLists.{tells_alike}
 use Rattle.fmp_states.specs.States.{processor_text, processors_text, ready_to, state_lines, task_line, tasks_text, without_running}
 
 module _ (k : World Queues) (m : State) (h : Stands k m) where

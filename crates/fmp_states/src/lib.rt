@@ -9,4 +9,4 @@ mod processors;
 mod states;
 mod tasks;
 
-pub use states::put_state;
+pub use states::{put_lines, put_state};

@@ -1,7 +1,7 @@
 //! The lines of the processors.
 ghost use Rattle.std.specs.Prelude.{◌≡◌, ◌++◌, length, OnOk, IfOk};
 ghost use Rattle.fmp_machine.specs.World.{processor};
-ghost use Rattle.fmp_queues.specs.Queues.{listed};
+ghost use Rattle.fmp_listed.specs.Queues.{listed};
 ghost use Rattle.fmp_states.specs.States as spec;
 
 use fmp_codes::{Pri, Proc, Runner, Task};

@@ -1,8 +1,8 @@
 //! The whole state.
 ghost use Rattle.std.specs.Prelude.{◌≡◌, ◌++◌, OnOk};
 ghost use Rattle.fmp_machine.specs.Arrivals.{State, numbered};
-ghost use Rattle.fmp_queues.specs.Queues.{listed};
-ghost use Rattle.fmp_lists.specs.Stands.{Stands};
+ghost use Rattle.fmp_listed.specs.Queues.{listed};
+ghost use Rattle.fmp_refinement.specs.Stands.{Stands};
 ghost use Rattle.fmp_states.specs.States.{ended_lines, state_end, state_lines, state_text};
 
 use crate::processors::put_processors;
@@ -11,9 +11,10 @@ use fmp_kernel::Kernel;
 use fmp_names::Names;
 use std::alloc::AllocError;
 
-/// Adds a line for each processor, then one for each task that waits or is suspended.
+/// Adds the lines of the kernel's state without the one that ends it: one for each processor, then one for each task that waits or is
+/// suspended. After an error a beginning of these lines may have been added.
 #[tactic(auto, unfolding(crate::specs::States::state_lines))]
-fn put_lines(out: &mut Vec<u8>, names: &Names, kernel: &Kernel) -> Result<(), AllocError>
+pub fn put_lines(out: &mut Vec<u8>, names: &Names, kernel: &Kernel) -> Result<(), AllocError>
     ensures lists { OnOk result (out.new.items ≡ out.old.items ++ state_lines listed names.now kernel.now) }
     ensures model { (m : State) → Stands kernel.now m → OnOk result (out.new.items ≡ out.old.items ++ state_lines numbered names.now m) }
 {

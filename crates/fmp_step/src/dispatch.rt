@@ -4,7 +4,7 @@ ghost use Rattle.fmp_machine.specs.Step.{is_same, is_requested, requests, latche
 
 use fmp_codes::{Proc, Requests, Task};
 use fmp_machine::Processor;
-use fmp_words::{Overview, Tops, Words, is_held};
+use fmp_primitives::{Overview, Tops, Words, is_held};
 
 fn is_same(a: Option<Task>, b: Option<Task>) -> bool
     ensures { result ≡ is_same a b }

@@ -11,7 +11,7 @@ use crate::family;
 use crate::tick::tick;
 use fmp_codes::{Answer, Call, Event, Proc, Record, Requests, Task};
 use fmp_machine::{Effect, Timer};
-use fmp_words::{Overview, Tops, Words, is_held, runner};
+use fmp_primitives::{Overview, Tops, Words, is_held, runner};
 
 /// What is remembered of the state before an event, besides what its record tells.
 #[derive(Debug, Drop)]

@@ -8,8 +8,8 @@ ghost use Rattle.fmp_view.specs.Moments as spec;
 use fmp_codes::{Answer, Event, Proc, Record, Task};
 use fmp_machine::{Config, Timer};
 use fmp_plain::Plain;
-use fmp_plain_rows::Machine;
-use fmp_words::Objects;
+use fmp_plain_machine::PlainMachine;
+use fmp_primitives::Objects;
 use std::alloc::AllocError;
 use std::marker::Model;
 
@@ -78,7 +78,7 @@ impl Player {
     }
 
     /// The machine in its state now.
-    pub(crate) fn machine(&self) -> &Machine
+    pub(crate) fn machine(&self) -> &PlainMachine
         ensures { result.now ≡ self.now.state }
     {
         self.plain.machine()

@@ -8,7 +8,7 @@ use crate::player::Player;
 use crate::value::{TaskState, Value};
 use fmp_codes::{Proc, Task};
 use fmp_machine::TaskRecord;
-use fmp_words::Words;
+use fmp_primitives::Words;
 
 /// The state of a task that could run: it does, or it is ready.
 fn ready_state(t: Task, running: Option<Task>) -> TaskState

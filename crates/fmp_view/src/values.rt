@@ -10,8 +10,8 @@ use crate::signal::Signal;
 use crate::value::{Value, put_due, put_value};
 use fmp_codes::{Object, Proc, Task};
 use fmp_machine::{Pool, Processor};
-use fmp_plain_rows::Machine;
-use fmp_words::{Objects, Words};
+use fmp_plain_machine::PlainMachine;
+use fmp_primitives::{Objects, Words};
 use std::alloc::AllocError;
 
 /// The number of a task, or 0.
@@ -64,56 +64,56 @@ fn flags_value(processor: Processor) -> Value
 }
 
 #[inline(always)]
-fn running_number(machine: &Machine, p: Proc) -> u64
+fn running_number(machine: &PlainMachine, p: Proc) -> u64
     ensures { result ≡ (spec.task_number (processor machine.now p).running) }
 {
     task_number(machine.processor(p).running)
 }
 
 #[inline(always)]
-fn semaphore_number(machine: &Machine, s: Object) -> u64
+fn semaphore_number(machine: &PlainMachine, s: Object) -> u64
     ensures { result ≡ (semaphore machine.now s).count }
 {
     u64::from(machine.semaphore(s).count)
 }
 
 #[inline(always)]
-fn eventflag_number(machine: &Machine, f: Object) -> u64
+fn eventflag_number(machine: &PlainMachine, f: Object) -> u64
     ensures { result ≡ (eventflag machine.now f).pattern }
 {
     u64::from(machine.eventflag(f).pattern)
 }
 
 #[inline(always)]
-fn data_queue_number(machine: &Machine, d: Object) -> u64
+fn data_queue_number(machine: &PlainMachine, d: Object) -> u64
     ensures { result ≡ (length (values machine.now d)) }
 {
     machine.value_count(d) as u64
 }
 
 #[inline(always)]
-fn pool_number(machine: &Machine, m: Object) -> u64
+fn pool_number(machine: &PlainMachine, m: Object) -> u64
     ensures { result ≡ (spec.free_blocks (pool machine.now m)) }
 {
     free_blocks(&machine.pool(m))
 }
 
 #[inline(always)]
-fn cyclic_number(machine: &Machine, c: Object) -> u64
+fn cyclic_number(machine: &PlainMachine, c: Object) -> u64
     ensures { result ≡ (spec.started_on (item None machine.now.cyclics_left c.number) (cyclic machine.now c).assigned) }
 {
     started_on(machine.cyclic_left(c), machine.cyclic(c).assigned)
 }
 
 #[inline(always)]
-fn alarm_number(machine: &Machine, a: Object) -> u64
+fn alarm_number(machine: &PlainMachine, a: Object) -> u64
     ensures { result ≡ (spec.started_on (item None machine.now.alarms_left a.number) (alarm machine.now a).assigned) }
 {
     started_on(machine.alarm_left(a), machine.alarm(a).assigned)
 }
 
 #[inline(always)]
-fn spin_lock_number(machine: &Machine, l: Object) -> u64
+fn spin_lock_number(machine: &PlainMachine, l: Object) -> u64
     ensures { result ≡ (spec.proc_number (holder machine.now l)) }
 {
     proc_number(machine.holder(l))

@@ -11,7 +11,7 @@ use fmp_codes::Event;
 use fmp_machine::Config;
 use fmp_names::Names;
 use fmp_plain::Plain;
-use fmp_plain_rows::Machine;
+use fmp_plain_machine::PlainMachine;
 use std::alloc::{AllocError, Global};
 use std::marker::Model;
 
@@ -91,7 +91,7 @@ impl Watcher for Drawing {
         names: &Names,
         n: u32,
         event: Event,
-        machine: &Machine,
+        machine: &PlainMachine,
     ) -> Result<(), AllocError> {
         put_time(&mut self.wave, n)?;
         put_mark(&mut self.wave, event)?;

@@ -6,8 +6,8 @@ ghost use Rattle.fmp_wave.specs.Values as values;
 use arrayvec::ArrayVec;
 use fmp_codes::{Proc, Runner, Task};
 use fmp_machine::TaskRecord;
-use fmp_plain_rows::Machine;
-use fmp_words::Words;
+use fmp_plain_machine::PlainMachine;
+use fmp_primitives::Words;
 use std::marker::Model;
 
 /// The state of a task, as a waveform tells it: what a task waits for is not shown.
@@ -123,7 +123,7 @@ fn task_state(t: Task, task: &TaskRecord, running: Option<Task>) -> TaskState
 
 /// What is shown of a task.
 #[inline(always)]
-fn shown_task(machine: &Machine, t: Task) -> TaskState
+fn shown_task(machine: &PlainMachine, t: Task) -> TaskState
     ensures { result ≡ spec.shown_task machine.now t }
 {
     let task = machine.task(t);
@@ -132,7 +132,7 @@ fn shown_task(machine: &Machine, t: Task) -> TaskState
 
 /// What is shown of a processor.
 #[inline(always)]
-fn shown_processor(machine: &Machine, p: Proc) -> ShownProcessor
+fn shown_processor(machine: &PlainMachine, p: Proc) -> ShownProcessor
     ensures { result ≡ spec.shown_processor machine.now p }
 {
     let processor = machine.processor(p);
@@ -146,7 +146,7 @@ fn shown_processor(machine: &Machine, p: Proc) -> ShownProcessor
 }
 
 /// What is shown of all processors.
-fn shown_processors(machine: &Machine) -> ArrayVec<ShownProcessor, 8>
+fn shown_processors(machine: &PlainMachine) -> ArrayVec<ShownProcessor, 8>
     ensures { result.items ≡ (spec.shown_of machine.now).processors }
 {
     let mut shown = ArrayVec::new();
@@ -157,7 +157,7 @@ fn shown_processors(machine: &Machine) -> ArrayVec<ShownProcessor, 8>
 }
 
 /// What is shown of all tasks.
-fn shown_tasks(machine: &Machine) -> ArrayVec<TaskState, 64>
+fn shown_tasks(machine: &PlainMachine) -> ArrayVec<TaskState, 64>
     ensures { result.items ≡ (spec.shown_of machine.now).tasks }
 {
     let mut shown = ArrayVec::new();
@@ -169,7 +169,7 @@ fn shown_tasks(machine: &Machine) -> ArrayVec<TaskState, 64>
 
 impl Snapshot {
     /// What is shown of a machine's state.
-    pub(crate) fn of(machine: &Machine) -> Snapshot
+    pub(crate) fn of(machine: &PlainMachine) -> Snapshot
         ensures { result ≡ spec.shown_of machine.now }
     {
         Snapshot {

@@ -14,8 +14,8 @@ use Rattle.fmp_machine.specs.Arrivals.{State, numbered}
 use Rattle.fmp_machine.specs.Step.{step}
 use Rattle.fmp_machine.specs.Boot.{booted}
 use Rattle.fmp_machine.specs.World.{World}
-use Rattle.fmp_queues.specs.Queues.{Queues}
-use Rattle.fmp_lists.specs.Stands.{Stands}
+use Rattle.fmp_listed.specs.Queues.{Queues}
+use Rattle.fmp_refinement.specs.Stands.{Stands}
 use Rattle.fmp_histories.specs.Histories.{state_after}
 use Rattle.fmp_histories.specs.Positions.{task_position, handler_position}
 use Rattle.fmp_histories.specs.Places.{moved_tasks, moved_handlers}

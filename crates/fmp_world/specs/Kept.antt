@@ -7,8 +7,8 @@ use Rattle.fmp_scripts.specs.Scripts.{Steps}
 use Rattle.fmp_setup.specs.Setup.{Setup}
 use Rattle.fmp_setup.specs.Valid.{IsValid}
 use Rattle.fmp_machine.specs.World.{World}
-use Rattle.fmp_queues.specs.Queues.{Queues}
-use Rattle.fmp_lists.specs.Stands.{Stands}
+use Rattle.fmp_listed.specs.Queues.{Queues}
+use Rattle.fmp_refinement.specs.Stands.{Stands}
 use Rattle.fmp_world.specs.declared.history.Move.{Move}
 use Rattle.fmp_histories.specs.Histories.{IsRunOf, state_after}
 use Rattle.fmp_histories.specs.Counted.{TasksAre, HandlersAre}

@@ -1,7 +1,9 @@
 //! What stands beside a fault line with `--context`: the text is read once more for it.
 use crate::STANDARD_INPUT;
 use fmp_config::{Config, ConfigFault, MOST_BYTES as MOST_CONFIG_BYTES, read_config};
-use fmp_context::{TextForm, config_context, text_advice, text_context};
+use fmp_context::{TextForm, config_context, question_context, text_advice, text_context};
+use fmp_explore_command::ExploreRequest;
+use fmp_question::QuestionFault;
 use fmp_scripts::read_scripts;
 use fmp_text::{MOST_BYTES, TextFault, TextKind, read_events};
 use fmp_trace::read_trace;
@@ -113,6 +115,23 @@ pub fn tell<R: Files + Eprint + AllocGlobal>(rt: &R, paths: &Paths<'_>, fault: &
         return;
     };
     if let Ok(shown) = str::from_utf8(text.as_slice()) {
+        let _ = eprint!(rt; "{shown}");
+    }
+}
+
+/// Tells on standard error what stands beside a fault of a question, where that is asked for.
+pub fn tell_question<R: Eprint + AllocGlobal>(
+    rt: &R,
+    request: &ExploreRequest<'_>,
+    fault: QuestionFault,
+    place: usize,
+) {
+    if !request.context {
+        return;
+    }
+    if let Ok(text) = question_context(rt.alloc(), request.question.as_bytes(), fault, place)
+        && let Ok(shown) = str::from_utf8(text.as_slice())
+    {
         let _ = eprint!(rt; "{shown}");
     }
 }

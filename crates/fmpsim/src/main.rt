@@ -1,19 +1,24 @@
 //! fmpsim: reads a configuration and another text from files, or that text from standard input. Writes the trace of the
-//! machine's answers to events or of processors that follow scripts, or whether and where a trace is what the machine answers,
-//! or the waveform of a trace, or a page that shows it.
+//! machine's answers to events or of processors that follow scripts, or what every order of these shows, or whether and where
+//! a trace is what the machine answers, or the waveform of a trace, or a page that shows it.
 //! Or it lists what may be written in these texts.
 #![tactic(auto)]
 
 mod beside;
+mod output;
 
 use clap::error::ErrorKind;
 use fmp_check::Verdict;
+use fmp_colour::ColourSink;
 use fmp_context::TextForm;
+use fmp_explore_command::ExploreRequest;
 use fmp_smp_command::SmpRequest;
 use fmpsim_cli::{Asked, Paths, Request, Told};
-use fmpsim_commands::{answer, judge, play};
+use fmpsim_commands::{answer, judge, play, search};
+use fmpsim_explore::QuestionLine;
 use fmpsim_run::{FaultLine, ReadSource, RunFault, Status, WriteSink};
-use std::io::{Input, Read, Write};
+use output::{Ending, is_coloured, settled, settled_search};
+use std::io::{Input, IsTerminal, Read, Write};
 use std::process::ExitCode;
 use std::rt::{Env, Files};
 use std::sync::Wait;
@@ -31,7 +36,13 @@ const NO_PATHS: Paths<'static> = Paths {
 pub const STANDARD_INPUT: &str = "-";
 
 /// Writes what the machine answers, each event's part as it comes.
-fn answered<R, C, E>(rt: &R, config: C, events: E, told: Told) -> Result<Status, RunFault>
+fn answered<R, C, E>(
+    rt: &R,
+    config: C,
+    events: E,
+    told: Told,
+    coloured: bool,
+) -> Result<Status, Ending>
 where
     R: Print + AllocGlobal,
     C: Read + Drop,
@@ -41,7 +52,13 @@ where
     let mut config = ReadSource::new(config);
     let mut events = ReadSource::new(events);
     let mut sink = WriteSink::new(alloc, io::writer(rt))?;
-    answer(alloc, &mut config, &mut events, &mut sink, told)
+    if coloured {
+        let mut colours = ColourSink::new(sink);
+        let run = answer(alloc, &mut config, &mut events, &mut colours, told);
+        return settled(run, colours.below().is_closed());
+    }
+    let run = answer(alloc, &mut config, &mut events, &mut sink, told);
+    settled(run, sink.is_closed())
 }
 
 fn opened<R: Files>(rt: &R, path: &str) -> Result<R::File, RunFault> {
@@ -60,12 +77,13 @@ fn calls<R: Files + Input + Print + AllocGlobal>(
     rt: &R,
     paths: &Paths<'_>,
     told: Told,
-) -> Result<Status, RunFault> {
+    coloured: bool,
+) -> Result<Status, Ending> {
     if paths.text == STANDARD_INPUT {
-        return answered(rt, opened(rt, paths.config)?, rt.reader(), told);
+        return answered(rt, opened(rt, paths.config)?, rt.reader(), told, coloured);
     }
     let (config, events) = both_opened(rt, paths)?;
-    answered(rt, config, events, told)
+    answered(rt, config, events, told, coloured)
 }
 
 /// Writes what is asked of a trace, and judges it.
@@ -73,13 +91,14 @@ fn judged<R: Files + Print + AllocGlobal>(
     rt: &R,
     paths: &Paths<'_>,
     asked: Asked,
-) -> Result<Verdict, RunFault> {
+) -> Result<Verdict, Ending> {
     let alloc = rt.alloc();
     let (config, trace) = both_opened(rt, paths)?;
     let mut config = ReadSource::new(config);
     let mut trace = ReadSource::new(trace);
     let mut sink = WriteSink::new(alloc, io::writer(rt))?;
-    judge(alloc, &mut config, &mut trace, &mut sink, asked)
+    let run = judge(alloc, &mut config, &mut trace, &mut sink, asked);
+    settled(run, sink.is_closed())
 }
 
 /// Writes what is asked of a trace. Of one that is not the machine's there is neither waveform nor page, and that is told.
@@ -87,7 +106,7 @@ fn trace<R: Files + Print + Eprint + AllocGlobal>(
     rt: &R,
     paths: &Paths<'_>,
     asked: Asked,
-) -> Result<Status, RunFault> {
+) -> Result<Status, Ending> {
     let verdict = judged(rt, paths, asked)?;
     if let (Asked::Waveform | Asked::Page, Verdict::No(line)) = (asked, verdict) {
         let path = paths.text;
@@ -102,7 +121,8 @@ fn played<R, C, S>(
     config: C,
     scripts: S,
     request: &SmpRequest<'_>,
-) -> Result<Status, RunFault>
+    coloured: bool,
+) -> Result<Status, Ending>
 where
     R: Print + AllocGlobal + Threads + Wait + Sync,
     C: Read + Drop,
@@ -112,7 +132,13 @@ where
     let mut config = ReadSource::new(config);
     let mut scripts = ReadSource::new(scripts);
     let mut trace = WriteSink::new(alloc, io::writer(rt))?;
-    play(rt, alloc, &mut config, &mut scripts, &mut trace, request)
+    if coloured {
+        let mut colours = ColourSink::new(trace);
+        let run = play(rt, alloc, &mut config, &mut scripts, &mut colours, request);
+        return settled(run, colours.below().is_closed());
+    }
+    let run = play(rt, alloc, &mut config, &mut scripts, &mut trace, request);
+    settled(run, trace.is_closed())
 }
 
 /// Opens both files, or takes the scripts from standard input.
@@ -120,22 +146,86 @@ fn smp<R: Files + Input + Print + AllocGlobal + Threads + Wait + Sync>(
     rt: &R,
     paths: &Paths<'_>,
     request: &SmpRequest<'_>,
-) -> Result<Status, RunFault> {
+    coloured: bool,
+) -> Result<Status, Ending> {
     if paths.text == STANDARD_INPUT {
-        return played(rt, opened(rt, paths.config)?, rt.reader(), request);
+        return played(
+            rt,
+            opened(rt, paths.config)?,
+            rt.reader(),
+            request,
+            coloured,
+        );
     }
     let (config, scripts) = both_opened(rt, paths)?;
-    played(rt, config, scripts, request)
+    played(rt, config, scripts, request, coloured)
+}
+
+/// Writes whether an order of what scripts ask shows what the request asks.
+fn searched<R, C, S>(
+    rt: &R,
+    config: C,
+    scripts: S,
+    request: &ExploreRequest<'_>,
+) -> Result<Status, Ending>
+where
+    R: Print + AllocGlobal,
+    C: Read + Drop,
+    S: Read + Drop,
+{
+    let alloc = rt.alloc();
+    let mut config = ReadSource::new(config);
+    let mut scripts = ReadSource::new(scripts);
+    let mut output = WriteSink::new(alloc, io::writer(rt))?;
+    let run = search(alloc, &mut config, &mut scripts, &mut output, request);
+    settled_search(run, output.is_closed())
+}
+
+/// Opens both files, or takes the scripts from standard input.
+fn explore<R: Files + Input + Print + AllocGlobal>(
+    rt: &R,
+    paths: &Paths<'_>,
+    request: &ExploreRequest<'_>,
+) -> Result<Status, Ending> {
+    if paths.text == STANDARD_INPUT {
+        return searched(rt, opened(rt, paths.config)?, rt.reader(), request);
+    }
+    let (config, scripts) = both_opened(rt, paths)?;
+    searched(rt, config, scripts, request)
+}
+
+/// How a search ends the program. A fault is told.
+fn explored<R: Files + Input + Print + Eprint + AllocGlobal>(
+    rt: &R,
+    request: &ExploreRequest<'_>,
+) -> Status {
+    let paths = Paths {
+        config: request.config,
+        text: request.scripts,
+        context: request.context.then_some(TextForm::Scripts),
+    };
+    let run = explore(rt, &paths, request);
+    let question = match &run {
+        Err(Ending::Question(fault, place)) => Some((*fault, *place)),
+        _ => None,
+    };
+    let status = ended(rt, &paths, run);
+    if let Some((fault, place)) = question {
+        beside::tell_question(rt, request, fault, place);
+    }
+    status
 }
 
 /// Writes a text.
-fn written<R: Print>(rt: &R, text: &[u8]) -> Result<Status, RunFault> {
-    io::writer(rt).write_all(text).map_err(|_| RunFault::Write)?;
-    Ok(Status::Done)
+fn written<R: Print>(rt: &R, text: &[u8]) -> Result<Status, Ending> {
+    match io::writer(rt).write_all(text) {
+        Ok(()) => Ok(Status::Done),
+        Err(error) => Err(Ending::of_write(&error)),
+    }
 }
 
 /// Writes what may be written in the texts, or what is told of a name.
-fn list<R: Print + Eprint + AllocGlobal>(rt: &R, name: Option<&str>) -> Result<Status, RunFault> {
+fn list<R: Print + Eprint + AllocGlobal>(rt: &R, name: Option<&str>) -> Result<Status, Ending> {
     let Some(name) = name else {
         return written(rt, fmp_help::everything(rt.alloc())?.as_slice());
     };
@@ -163,14 +253,21 @@ fn failed<R: Eprint>(rt: &R, paths: &Paths<'_>, fault: &RunFault) -> Status {
 fn ended<R: Files + Eprint + AllocGlobal>(
     rt: &R,
     paths: &Paths<'_>,
-    run: Result<Status, RunFault>,
+    run: Result<Status, Ending>,
 ) -> Status {
     match run {
         Ok(status) => status,
-        Err(fault) => {
+        Err(Ending::Unread) => Status::Device,
+        Err(Ending::Fault(fault)) => {
             let status = failed(rt, paths, &fault);
             beside::tell(rt, paths, &fault);
             status
+        }
+        Err(Ending::Question(fault, place)) => {
+            let number = place.saturating_add(1);
+            let line = QuestionLine { fault, number };
+            let _ = eprintln!(rt; "{line}");
+            Status::Faulty
         }
     }
 }
@@ -185,36 +282,50 @@ fn status_of(error: &clap::Error) -> Status {
 }
 
 /// Tells help, or what is wrong with the command line, and how that ends the program.
-fn refused<R: Print + Eprint>(rt: &R, error: &clap::Error) -> Status {
+fn refused<R: Files + Print + Eprint + AllocGlobal>(rt: &R, error: &clap::Error) -> Status {
     match status_of(error) {
         Status::Memory => failed(rt, &NO_PATHS, &RunFault::Memory),
         status => match error.print(rt) {
             Ok(()) => status,
-            Err(_) => failed(rt, &NO_PATHS, &RunFault::Write),
+            Err(error) => ended(rt, &NO_PATHS, Err(Ending::of_write(&error))),
         },
     }
+}
+
+/// Tells that the word behind `--color` is none of those for it.
+fn uncoloured<R: Eprint>(rt: &R) -> Status {
+    let _ = eprintln!(rt; "fmpsim: --color: wanted auto, always or never");
+    Status::Usage
 }
 
 fn words_of<R: Env + AllocGlobal>(rt: &R) -> io::Result<Vec<String>> {
     Ok(env::args(rt)?.collect(rt.alloc())?)
 }
 
-/// Does what the words ask for.
-fn execute<R: Files + Input + Print + Eprint + AllocGlobal + Threads + Wait + Sync>(
+/// Does what the words ask for, at standard output that is a terminal or not.
+fn execute<R: Env + Files + Input + Print + Eprint + AllocGlobal + Threads + Wait + Sync>(
     rt: &R,
     words: &[String],
+    is_terminal: bool,
 ) -> Status {
     match fmpsim_cli::parse(rt.alloc(), words) {
-        Ok(Request::Calls(paths, told)) => ended(rt, &paths, calls(rt, &paths, told)),
+        Ok(Request::Calls(paths, told, colour)) => match is_coloured(rt, colour, is_terminal) {
+            Some(coloured) => ended(rt, &paths, calls(rt, &paths, told, coloured)),
+            None => uncoloured(rt),
+        },
         Ok(Request::Trace(paths, asked)) => ended(rt, &paths, trace(rt, &paths, asked)),
         Ok(Request::Smp(request)) => {
+            let Some(coloured) = is_coloured(rt, request.colour, is_terminal) else {
+                return uncoloured(rt);
+            };
             let paths = Paths {
                 config: request.config,
                 text: request.scripts,
                 context: request.context.then_some(TextForm::Scripts),
             };
-            ended(rt, &paths, smp(rt, &paths, &request))
+            ended(rt, &paths, smp(rt, &paths, &request, coloured))
         }
+        Ok(Request::Explore(request)) => explored(rt, &request),
         Ok(Request::List(name)) => ended(rt, &NO_PATHS, list(rt, name)),
         Err(error) => refused(rt, &error),
     }
@@ -222,9 +333,10 @@ fn execute<R: Files + Input + Print + Eprint + AllocGlobal + Threads + Wait + Sy
 
 fn run<R: Env + Files + Input + Print + Eprint + AllocGlobal + Threads + Wait + Sync>(
     rt: &R,
+    is_terminal: bool,
 ) -> Status {
     match words_of(rt) {
-        Ok(words) => execute(rt, words.as_slice()),
+        Ok(words) => execute(rt, words.as_slice(), is_terminal),
         Err(error) if error.kind() == io::ErrorKind::InvalidData => {
             let _ = eprintln!(rt; "fmpsim: a word of the command line is not UTF-8");
             Status::Usage
@@ -234,5 +346,6 @@ fn run<R: Env + Files + Input + Print + Eprint + AllocGlobal + Threads + Wait + 
 }
 
 fn main(rt: HostRuntime) -> ExitCode {
-    ExitCode::from(run(&rt).code())
+    let is_terminal = rt.stdout().is_terminal();
+    ExitCode::from(run(&rt, is_terminal).code())
 }

@@ -1,14 +1,11 @@
 -- What clap finds in the words of a command line.
-use Rattle.std.proofs.Common.{inl, inr, ◌≡◌, ◌∙◌, ◌++◌, ap, refl, ℕ, List, [], ◌∷◌, Bool, Option, Some, None, true, false}
-use Rattle.std.specs.Prelude.{option_map, unwrap_or}
+use Rattle.std.proofs.Common.{inl, inr, ◌≡◌, ◌∙◌, ◌++◌, ap, refl, ℕ, List, [], ◌∷◌, Bool, Option, Some, true, false}
 use Rattle.std.specs.Borrow.{Bor}
-use Rattle.clap.specs.Words.{App, HasMatchesOf, Text, first_of, first_value, is_simple, matches_of, rows_of}
+use Rattle.clap.specs.Words.{App, HasMatchesOf, Text, is_simple, matches_of}
 use Rattle.clap.specs.Walk.{is_free_arg}
 use Rattle.clap.specs.Words.{AddsConflicts, Rule, rule_of}
 use Rattle.clap.specs.declared.builder.arg.Arg.{Arg}
 use Rattle.clap.specs.declared.parser.matches.ArgMatches.{ArgMatches}
-use Rattle.clap.specs.declared.parser.matches.Found.{Found}
-use Rattle.clap.proofs.WalkLemmas.{first_value-rows}
 use Rattle.fmp_smp_command.specs.Smp.{IsOptional}
 use Rattle.std.specs.Prelude.{IfOk, Result, codes}
 use Rattle.std.proofs.lemmas.Result.{IfOk-weaker}
@@ -21,15 +18,6 @@ use Rattle.fmpsim_cli.specs.Cli.{AsksFor, IsCalls, IsCheck, IsView, IsWave, call
 pub rows_found : (a line : App) (words : List Text) (m : ArgMatches) → a ≡ line → is_simple line ≡ true → HasMatchesOf a words m → rows_in m ≡ found_by line words
 unfolding found_by
 rows_found a line words m is simple has = (has (ap is_simple is ∙ simple)).0 ∙ ap (λ (x : App). matches_of x words) is
-
--- a path, or nothing
-pub path_or : (f : Found) (id : List ℕ) (o : Option (Bor (List ℕ))) (d r : Bor (List ℕ)) → option_map (λ s. s.now) o ≡ first_value f id
-    → d.now ≡ [] → r ≡ unwrap_or o d → r.now ≡ unwrap_or (first_of id (rows_of f)) []
-path_or f id o d r same empty is = ap (λ (b : Bor (List ℕ)). b.now) is ∙ (go o ∙ ap (λ v. unwrap_or v []) (same ∙ first_value-rows f id))
-  where
-    go : (o : Option (Bor (List ℕ))) → (unwrap_or o d).now ≡ unwrap_or (option_map (λ s. s.now) o) []
-    go None = empty
-    go (Some p) = refl
 
 -- a flag that another one rules out
 pub choice_of : (a b : Arg) (x : Bor (List ℕ)) (id : List ℕ) → IsOptional a id → rule_of a ≡ flag_rule id → AddsConflicts a b (x ∷ [])
@@ -47,9 +35,10 @@ pub calls_asked : (r : Result Request Error) (word : Option Text) (words : List 
 calls_asked r word words named asks = IfOk-weaker r _ _ go asks
   where
     go : (x : Request) → IsCalls (found_by calls_line words) x → AsksFor word words x
-    go (request.Calls p t) h = (named, h)
+    go (request.Calls p t c) h = (named, h)
     go (request.Trace p a) h = absurd h
     go (request.Smp x) h = absurd h
+    go (request.Explore x) h = absurd h
     go (request.List x) h = absurd h
 
 -- what `check` is asked for, behind its name
@@ -58,9 +47,10 @@ pub check_asked : (r : Result Request Error) (word : Option Text) (words : List 
 check_asked r word words named asks = IfOk-weaker r _ _ go asks
   where
     go : (x : Request) → IsCheck (found_by check_line words) x → AsksFor word words x
-    go (request.Calls p t) h = absurd h
+    go (request.Calls p t c) h = absurd h
     go (request.Trace p a) h = inl (named, h)
     go (request.Smp x) h = absurd h
+    go (request.Explore x) h = absurd h
     go (request.List x) h = absurd h
 
 -- what `wave` is asked for, behind its name
@@ -69,9 +59,10 @@ pub wave_asked : (r : Result Request Error) (word : Option Text) (words : List T
 wave_asked r word words named asks = IfOk-weaker r _ _ go asks
   where
     go : (x : Request) → IsWave (found_by wave_line words) x → AsksFor word words x
-    go (request.Calls p t) h = absurd h
+    go (request.Calls p t c) h = absurd h
     go (request.Trace p a) h = inr (inl (named, h))
     go (request.Smp x) h = absurd h
+    go (request.Explore x) h = absurd h
     go (request.List x) h = absurd h
 
 -- what `view` is asked for, behind its name
@@ -80,7 +71,8 @@ pub view_asked : (r : Result Request Error) (word : Option Text) (words : List T
 view_asked r word words named asks = IfOk-weaker r _ _ go asks
   where
     go : (x : Request) → IsView (found_by view_line words) x → AsksFor word words x
-    go (request.Calls p t) h = absurd h
+    go (request.Calls p t c) h = absurd h
     go (request.Trace p a) h = inr (inr (named, h))
     go (request.Smp x) h = absurd h
+    go (request.Explore x) h = absurd h
     go (request.List x) h = absurd h

@@ -7,7 +7,9 @@ use Rattle.clap.specs.declared.parser.matches.ArgMatches.{ArgMatches}
 use Rattle.fmp_check.specs.declared.comparing.Shown.TheVariants.{First, Each}
 use Rattle.fmp_context.specs.declared.text.TextForm.{TextForm}
 use Rattle.fmp_context.specs.declared.text.TextForm.TheVariants as form
-use Rattle.fmp_smp_command.specs.Smp.{Asks, IsFlag, found_in, path_rule}
+use Rattle.fmp_smp_command.specs.Smp.{Asks, IsFlag, colour_by, colour_rule, found_in, path_rule}
+use Rattle.fmp_smp_command.specs.declared.colours.Colour.{Colour}
+use Rattle.fmp_explore_command.specs.Explore as explore
 use Rattle.fmpsim_cli.specs.declared.Asked.{Asked}
 use Rattle.fmpsim_cli.specs.declared.Asked.TheVariants.{Verdict, Differences, Waveform, Page}
 use Rattle.fmpsim_cli.specs.declared.Paths.{Paths}
@@ -33,10 +35,12 @@ abbrev pub calls_line : App
 calls_line = with_rule
     (with_rule
     (with_rule
+    (with_rule
     (with_rule (new_app (codes "calls")) (path_rule (codes "CFG")))
     (path_rule (codes "EVENTS")))
     (flag_rule (codes "state")))
-    (flag_rule (codes "context"))
+    (flag_rule (codes "context")))
+    colour_rule
 
 abbrev pub check_line : App
 check_line = with_rule
@@ -90,10 +94,11 @@ asked_by true all = Differences First
 asked_by false true = Differences Each
 asked_by false false = Verdict
 
--- the state is told where that is asked for
-pub record AsksCalls (rows : List Row) (p : Paths) (t : Told) : Type 0 where
+-- the state is told where that is asked for, and the trace coloured as the word says
+pub record AsksCalls (rows : List Row) (p : Paths) (t : Told) (c : Colour) : Type 0 where
   pub paths : NamesPaths rows (codes "EVENTS") form.Events p
   pub told : (b : Bool) × IsFlag (one_of (codes "state") rows) b × (t ≡ told_by b)
+  pub colour : c ≡ colour_by (first_of (codes "color") rows)
 
 -- what is asked is what the flags say
 pub record AsksCheck (rows : List Row) (p : Paths) (a : Asked) : Type 0 where
@@ -113,18 +118,19 @@ pub record AsksView (rows : List Row) (p : Paths) (a : Asked) : Type 0 where
 
 -- what is asked for by the words behind the program's name, of which the first names the command
 abbrev pub AsksFor : Option Text → List Text → Request → Type 0
-AsksFor name words (request.Calls p t) = (name ≡ Some (codes "calls")) × AsksCalls (found_by calls_line words) p t
+AsksFor name words (request.Calls p t c) = (name ≡ Some (codes "calls")) × AsksCalls (found_by calls_line words) p t c
 AsksFor name words (request.Trace p a) =
     ((name ≡ Some (codes "check")) × AsksCheck (found_by check_line words) p a)
     ⊎ (((name ≡ Some (codes "wave")) × AsksWave (found_by wave_line words) p a)
     ⊎ ((name ≡ Some (codes "view")) × AsksView (found_by view_line words) p a))
 AsksFor name words (request.Smp r) = (name ≡ Some (codes "smp")) × Asks (found_in words) r
+AsksFor name words (request.Explore r) = (name ≡ Some (codes "explore")) × explore.Asks (explore.found_in words) r
 AsksFor name words (request.List id) =
     (name ≡ Some (codes "list")) × (option_map (λ s. s.now) id ≡ first_of (codes "NAME") (found_by list_line words))
 
 -- the same of one command, whose name is known
 abbrev pub IsCalls : List Row → Request → Type 0
-IsCalls rows (request.Calls p t) = AsksCalls rows p t
+IsCalls rows (request.Calls p t c) = AsksCalls rows p t c
 IsCalls rows _ = ⊥
 
 abbrev pub IsCheck : List Row → Request → Type 0

@@ -13,7 +13,9 @@ use clap::error::ErrorKind;
 use clap::{Arg, ArgAction, ArgMatches, Command, Error};
 use fmp_check::Shown;
 use fmp_context::TextForm;
-use fmp_smp_command::{SmpRequest, parse_smp, path, smp_command};
+use fmp_explore_command::{ExploreRequest, explore_command, parse_explore};
+pub use fmp_smp_command::Colour;
+use fmp_smp_command::{SmpRequest, colour_of, colour_option, parse_smp, path, smp_command};
 use std::alloc::{AllocError, Global};
 
 const ABOUT: &str = "Simulates a multiprocessor real-time kernel in the manner of TOPPERS/FMP";
@@ -54,6 +56,9 @@ that wait or are suspended, and a line that ends it:
     P2 run=-
     T3 waits sem S1 left=10
     end
+
+With --color the trace is coloured: a refused answer red, a release green, a dispatch cyan. It is
+so at a terminal, where NO_COLOR is not set, and nowhere else but with --color=always.
 
 Exit status:
   0  done
@@ -196,11 +201,13 @@ pub enum Asked {
 #[derive(Clone, Copy, Debug)]
 pub enum Request<'a> {
     /// What a configuration answers to a list of events.
-    Calls(Paths<'a>, Told),
+    Calls(Paths<'a>, Told, Colour),
     /// What is asked of a trace.
     Trace(Paths<'a>, Asked),
     /// The trace of processors that follow scripts.
     Smp(SmpRequest<'a>),
+    /// What every order of what scripts ask shows.
+    Explore(ExploreRequest<'a>),
     /// What may be written: all of it, or what is called so.
     List(Option<&'a str>),
 }
@@ -220,6 +227,7 @@ fn calls_command<'a>(alloc: Global) -> Result<Command<'a>, AllocError>
         "Also writes the state at boot and after each event",
     );
     let context = context(alloc);
+    let colour = colour_option(alloc);
     let start = Command::new(alloc, "calls")
         .about(CALLS_ABOUT)
         .after_help(CALLS_HELP)
@@ -228,7 +236,8 @@ fn calls_command<'a>(alloc: Global) -> Result<Command<'a>, AllocError>
     let two = one.arg(events)?;
     let three = two.arg(state)?;
     let four = three.arg(context)?;
-    Ok(four)
+    let five = four.arg(colour)?;
+    Ok(five)
 }
 
 /// An option without a value.
@@ -352,6 +361,7 @@ fn whole_command<'a>(alloc: Global) -> Result<Command<'a>, AllocError> {
         .subcommand(wave_command(alloc)?)?
         .subcommand(view_command(alloc)?)?
         .subcommand(smp_command(alloc)?)?
+        .subcommand(explore_command(alloc)?)?
         .subcommand(list_command(alloc)?)
 }
 
@@ -396,7 +406,8 @@ fn parse_calls<'a>(alloc: Global, words: &'a [String]) -> Result<Request<'a>, Er
     let matches = command.try_get_matches_from(words)?;
     let paths = named_paths(&matches, "EVENTS", TextForm::Events);
     let state = matches.get_flag(STATE);
-    Ok(Request::Calls(paths, told_for(state)))
+    let colour = colour_of(&matches);
+    Ok(Request::Calls(paths, told_for(state), colour))
 }
 
 /// What `check` is asked for: by `--show`, by `--all`, or by neither.
@@ -484,6 +495,9 @@ pub fn parse<'a>(alloc: Global, words: &'a [String]) -> Result<Request<'a>, Erro
     }
     if is_named(command, "smp") {
         return Ok(Request::Smp(parse_smp(alloc, behind(words))?));
+    }
+    if is_named(command, "explore") {
+        return Ok(Request::Explore(parse_explore(alloc, behind(words))?));
     }
     if is_named(command, "list") {
         return Ok(Request::List(listed_name(alloc, behind(words))?));

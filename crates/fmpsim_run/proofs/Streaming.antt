@@ -7,7 +7,7 @@ use Rattle.fmp_codes.specs.declared.records.Event.{Event}
 use Rattle.fmp_feed.proofs.Cut.{ahead_closed, ahead_new, ahead_pushed}
 use Rattle.fmp_feed.proofs.Short.{end_short, pushed_short, rest_short}
 use Rattle.fmp_feed.specs.Feed.{Feed, Gives, IsDone, IsEndOf, IsWanting, ahead, closed, first_room, new_feed, only, pushed}
-use Rattle.fmp_lists.specs.Stands.{Stands}
+use Rattle.fmp_refinement.specs.Stands.{Stands}
 use Rattle.fmp_machine.specs.Boot.{booted}
 use Rattle.fmp_machine.specs.Arrivals.{State, numbered}
 use Rattle.fmp_setup.specs.Setup.{Setup}

@@ -7,7 +7,7 @@ use Rattle.fmp_setup.specs.Setup.{Setup}
 use Rattle.fmp_machine.specs.Boot.{booted}
 use Rattle.fmp_machine.specs.Arrivals.{numbered}
 use Rattle.fmp_machine.specs.Step.{replay}
-use Rattle.fmp_lists.specs.Stands.{Stands}
+use Rattle.fmp_refinement.specs.Stands.{Stands}
 use Rattle.fmp_judging.specs.declared.fault.RunFault.{RunFault}
 use Rattle.fmp_judging.specs.declared.fault.RunFault.TheVariants as run
 use Rattle.fmpsim_run.specs.declared.stream.Answering.{Answering}

@@ -2,7 +2,7 @@
 ghost use Rattle.std.specs.Prelude.{◌≡◌, ◌≢◌, ◌⊎◌, ◌≤◌, ◌+◌, ◌-◌, ◌^◌, ◌<◌, ◌++◌, ℕ, Bool, List, [], true, false, IsTrue, OnOk, IfOk, IfErr, Err, Ok, length, vec_capacity, if◌then◌else◌};
 ghost use Rattle.fmp_codes.specs.Records.{processor_of};
 ghost use Rattle.fmp_feed.specs.Feed.{IsDone, IsWanting, new_feed};
-ghost use Rattle.fmp_lists.specs.Stands.{Stands};
+ghost use Rattle.fmp_refinement.specs.Stands.{Stands};
 ghost use Rattle.fmp_machine.specs.Boot.{booted};
 ghost use Rattle.fmp_machine.specs.Arrivals.{State, numbered};
 ghost use Rattle.fmp_setup.specs.Setup.{Setup};

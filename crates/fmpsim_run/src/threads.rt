@@ -1,19 +1,17 @@
 //! The runs of processors that follow scripts, each in a thread of its own or in an order that a seed determines.
 ghost use Rattle.std.specs.Prelude.{◌≡◌, ◌≢◌, ◌+◌, ◌-◌, ◌≤◌, ◌^◌, ◌<◌, ◌++◌, [], length, map, OnOk, IfOk, IfErr, Err, false, if◌then◌else◌};
-ghost use Rattle.fmp_scripts.specs.ScriptGrammar.{SpellsScripts};
-ghost use Rattle.fmp_scripts.specs.Scripts.{AreInBits};
 ghost use Rattle.fmp_trace.specs.Lines.{lines_from};
 ghost use Rattle.fmp_devices.specs.Devices.{BeginsWith, IsKnown, bytes_of};
 ghost use Rattle.fmp_smp.specs.Rounds.{TicksInTurn};
 ghost use Rattle.fmp_world.specs.Ends.{IsSmpRun};
-ghost use Rattle.fmp_judging.specs.Faults.{failed_read, failed_write, is_config, is_read, is_thread_fault, is_text, is_write};
-ghost use Rattle.fmp_judging.specs.Texts.{CountsReads, FirstConfigFault, FirstScriptFault, SaysConfig};
+ghost use Rattle.fmp_judging.specs.Faults.{failed_write, is_config, is_read, is_thread_fault, is_text, is_write};
+ghost use Rattle.fmp_judging.specs.Texts.{CountsReads, FirstConfigFault, FirstScriptFault};
 ghost use Rattle.fmpsim_run.specs.Scripted as spec;
 ghost use Rattle.fmpsim_run.specs.Scripted.{IsPlayBegun, IsPlayed, IsPlayedInOrder};
 
 use fmp_codes::{Answer, Event, Proc, Record};
 use fmp_devices::{Sink, Source, write_out};
-use fmp_judging::{RunFault, Status, config_from, scripts_from};
+use fmp_judging::{RunFault, Status, texts_from};
 use fmp_machine::Config;
 use fmp_scripts::Scripts;
 use fmp_smp::{Gate, SmpFault, run_smp};
@@ -32,30 +30,6 @@ pub const fn status_of_end(ended: Ended) -> Status
         Ended::Quiet => Status::Done,
         Ended::Limit => Status::Limit,
     }
-}
-
-/// The machine and the scripts of two texts. It has no writer in hand, so nothing is written before both are accepted.
-fn texts_from<R: Source, S: Source>(
-    alloc: Global,
-    config: &mut R,
-    scripts: &mut S,
-) -> Result<(Config, Scripts), RunFault>
-    requires config_calls { R.failures config.old < 2 ^ 64 - 1 }
-    requires script_calls { S.failures scripts.old < 2 ^ 64 - 1 }
-    ensures says { IsKnown (R.left config.old) → IfOk result (λ r. SaysConfig (bytes_of (R.left config.old)) r.0) }
-    ensures spells { IsKnown (S.left scripts.old) → IfOk result (λ r. SpellsScripts r.0.names (bytes_of (S.left scripts.old)) r.1) }
-    ensures in_bits { IfOk result (λ r. AreInBits r.1) }
-    ensures config_read { IsKnown (R.left config.old) → OnOk result (bytes_of (R.left config.new) ≡ []) }
-    ensures scripts_read { IsKnown (S.left scripts.old) → OnOk result (bytes_of (S.left scripts.new) ≡ []) }
-    ensures config_fault { IsKnown (R.left config.old) → IfErr result (FirstConfigFault (bytes_of (R.left config.old))) }
-    ensures text_fault { IsKnown (R.left config.old) → IsKnown (S.left scripts.old) → IfErr result (FirstScriptFault (bytes_of (R.left config.old)) (bytes_of (S.left scripts.old))) }
-    ensures reads { CountsReads result (R.failures config.old) (R.failures config.new) (S.failures scripts.old) (S.failures scripts.new) }
-    ensures no_write { failed_write result ≡ false }
-    ensures no_thread_fault { IfErr result (λ fault. is_thread_fault fault ≡ false) }
-{
-    let configuration = config_from(alloc, config)?;
-    let list = scripts_from(alloc, configuration.names(), scripts)?;
-    Ok((configuration, list))
 }
 
 /// The trace of a history, whose records are made again one after the other.

@@ -13,4 +13,5 @@ returns c =
       limits = c.limits_of-limits.ensures;
       seed = seed_read _ (λ bs r. ParsesUnsigned 64 10 bs r × ExplainsUnsignedError 10 bs r × HasUnsignedDigitsIfOk bs r) f (codes "seed") c.get_one-seed.result c.get_one-seed.ensures.none c.get_one-seed.ensures.value (λ u x g. g.0);
       context = flag_read f (codes "context") c.get_flag-context.result c.get_flag-context.ensures.none c.get_flag-context.ensures.value c.get_flag-context.ensures.other;
+      colour = c.colour_of-colour.ensures;
     }

@@ -11,7 +11,8 @@ returns c = record {
   turns = c.turns-turns.result;
   seed = c.seed-seed.result;
   context = c.context-context.result;
-  chain = (c.in_ok-one.one, c.in_ok-one.ensures, (c.in_ok-two.two, c.in_ok-two.ensures, (c.in_ok-three.three, c.in_ok-three.ensures, (c.in_ok-four.four, c.in_ok-four.ensures, (c.in_ok-five.five, c.in_ok-five.ensures, (c.in_ok-six.six, c.in_ok-six.ensures, refl))))));
+  colour = c.colour_option-colour.result;
+  chain = (c.in_ok-one.one, c.in_ok-one.ensures, (c.in_ok-two.two, c.in_ok-two.ensures, (c.in_ok-three.three, c.in_ok-three.ensures, (c.in_ok-four.four, c.in_ok-four.ensures, (c.in_ok-five.five, c.in_ok-five.ensures, (c.in_ok-six.six, c.in_ok-six.ensures, (c.in_ok-seven.seven, c.in_ok-seven.ensures, refl)))))));
   no_arguments = search rules;
   no_groups = search rules;
   no_globals = search rules;
@@ -22,6 +23,7 @@ returns c = record {
   is_turns = c.turns-turns.ensures.kind;
   is_seed = c.seed-seed.ensures.kind;
   is_context = c.context-context.ensures.kind;
+  is_colour = c.colour_option-colour.ensures.kind;
   line =
       let start_is : app_of c.in_ok-start.start ≡ new_app (codes "smp") = search rules in
       let one_is = c.in_ok-one.ensures.shape c.path-config.ensures.kind.optional.local ∙ ap₂ with_rule start_is c.path-config.ensures.rule in
@@ -29,5 +31,6 @@ returns c = record {
       let three_is = c.in_ok-three.ensures.shape c.ticks-ticks.ensures.kind.required.optional.local ∙ ap₂ with_rule two_is c.ticks-ticks.ensures.rule in
       let four_is = c.in_ok-four.ensures.shape c.turns-turns.ensures.kind.required.optional.local ∙ ap₂ with_rule three_is c.turns-turns.ensures.rule in
       let five_is = c.in_ok-five.ensures.shape c.seed-seed.ensures.kind.local ∙ ap₂ with_rule four_is c.seed-seed.ensures.rule in
-      c.in_ok-six.ensures.shape c.context-context.ensures.kind.local ∙ ap₂ with_rule five_is c.context-context.ensures.rule;
+      let six_is = c.in_ok-six.ensures.shape c.context-context.ensures.kind.local ∙ ap₂ with_rule five_is c.context-context.ensures.rule in
+      c.in_ok-seven.ensures.shape c.colour_option-colour.ensures.kind.local ∙ ap₂ with_rule six_is c.colour_option-colour.ensures.rule;
 }

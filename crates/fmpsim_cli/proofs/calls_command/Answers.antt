@@ -8,4 +8,5 @@ returns c =
     let one_is = c.in_ok-one.ensures.shape c.path-config.ensures.kind.optional.local ∙ ap₂ with_rule start_is c.path-config.ensures.rule in
     let two_is = c.in_ok-two.ensures.shape c.path-events.ensures.kind.optional.local ∙ ap₂ with_rule one_is c.path-events.ensures.rule in
     let three_is = c.in_ok-three.ensures.shape c.flag-state.ensures.kind.local ∙ ap₂ with_rule two_is c.flag-state.ensures.rule in
-    c.in_ok-four.ensures.shape c.context-context.ensures.kind.local ∙ ap₂ with_rule three_is c.context-context.ensures.rule
+    let four_is = c.in_ok-four.ensures.shape c.context-context.ensures.kind.local ∙ ap₂ with_rule three_is c.context-context.ensures.rule in
+    c.in_ok-five.ensures.shape c.colour_option-colour.ensures.kind.local ∙ ap₂ with_rule four_is c.colour_option-colour.ensures.rule

@@ -1,7 +1,7 @@
 use Rattle.std.proofs.Common.{refl, codes}
 use Rattle.clap.specs.Matches.{found_of}
 use Rattle.fmp_smp_command.proofs.Read.{flag_read}
-use Rattle.fmpsim_cli.proofs.Lines.{path_or}
+use Rattle.fmp_explore_command.proofs.Texts.{path_or}
 use Rattle.fmpsim_cli.proofs.named_paths.Goals as goal
 
 pub returns : goal.returns

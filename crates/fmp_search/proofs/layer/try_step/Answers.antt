@@ -1,4 +1,5 @@
-use Rattle.std.proofs.Common.{ℕ, Bool, true, Option, Some, subst, arith, ◌≡◌, ◌∙◌, length, refl, sym}
+use Rattle.std.proofs.Common.{ℕ, ◌+◌, ◌≤◌, Bool, true, List, [], ◌∷◌, ◌++◌, Option, Some, subst, arith, ◌≡◌, ◌∙◌, length, refl, sym}
+use Rattle.std.proofs.lemmas.Grind.{common_steps}
 use Rattle.fmp_search.specs.Runs.{Goes}
 use Rattle.fmp_search.proofs.Trees.{made}
 use Rattle.fmp_search.proofs.Layers.{is-shortest}
@@ -8,6 +9,9 @@ use Rattle.fmp_search.proofs.layer.try_step.Goals as goal
 -- the place behind a step that was made
 went : {P : Type 0} (after : P → ℕ → Option P) (p r : P) (s : ℕ) (was : Bool) → Goes (after p s) was r → was ≡ true → after p s ≡ Some r
 went after p r s was goes is = made after (after p s) r (subst (λ b. Goes (after p s) b r) is goes)
+
+one_more : (steps : List ℕ) (s n : ℕ) → length steps ≤ n → length (steps ++ s ∷ []) ≤ n + 1
+one_more steps s n few = grind (arith, common_steps, few)
 
 pub returns-then-is_wanted-clause-steps : goal.returns-then-is_wanted-clause-steps
 returns-then-is_wanted-clause-steps g c =
@@ -22,9 +26,12 @@ returns-then-is_wanted-clause-steps g c =
     let count = depth_there after _ q _ nodes (length c.in_ok-steps.steps.items) at same list c.in_ok-steps.ensures.count in
     let near = c.requires.explored.near at c.requires.place in
     let step = step_there after q _ (g.W.Space.place c.go.new.self) _ c.args.store.now.nodes.items c.args.at c.args.step (c.in_ok-copy_from.ensures.there ∙ c.requires.base) refl (went after (g.W.Space.place c.copy_from.new.self) (g.W.Space.place c.go.new.self) c.args.step c.in_ok-made.made c.in_ok-made.ensures.goes c.if-not-made.false) in
-    rw c.in_ok-push.ensures.items
-    (is-shortest after wanted q nodes c.args.front.depth c.args.front.end at c.args.step c.in_ok-steps.steps.items (g.W.Space.place c.go.new.self) c.requires.explored c.requires.place
-    leads (omega (arith, count, near)) step (sym c.if-is_wanted.ensures))
+    let few : length c.in_ok-steps.steps.items ≤ c.args.front.depth = omega (arith, count, near) in
+    rw c.in_ok-push.ensures.items (
+      one_more c.in_ok-steps.steps.items c.args.step c.args.front.depth few,
+      is-shortest after wanted q nodes c.args.front.depth c.args.front.end at c.args.step c.in_ok-steps.steps.items (g.W.Space.place c.go.new.self) c.requires.explored c.requires.place
+          leads few step (sym c.if-is_wanted.ensures),
+    )
 
 pub overflow_cast-at : goal.overflow_cast-at
 overflow_cast-at g c =

@@ -1,7 +1,7 @@
 use Rattle.std.proofs.Common.{◌++◌, sym, ap, ap₂, ◌∙◌}
 use Rattle.fmp_codes.specs.declared.numbers.Pri.{Pri}
 use Rattle.fmp_machine.specs.declared.machine.Processor.{Processor}
-use Rattle.fmp_queues.specs.Queues.{listed}
+use Rattle.fmp_listed.specs.Queues.{listed}
 use Rattle.fmp_states.specs.States.{without_running}
 use Rattle.fmp_states.proofs.More.{ready_more, ready_none}
 use Rattle.fmp_states.proofs.processors.other_ready.Goals as goal

@@ -1,5 +1,5 @@
 use Rattle.std.proofs.Common.{◌≡◌}
-use Rattle.fmp_queues.specs.Queues.{listed}
+use Rattle.fmp_listed.specs.Queues.{listed}
 use Rattle.fmp_states.specs.States.{ready_to}
 use Rattle.fmp_states.proofs.processors.other_ready.Given as goal
 

@@ -1,5 +1,5 @@
 use Rattle.std.proofs.Common.{◌∙◌}
-use Rattle.fmp_queues.specs.Queues.{listed}
+use Rattle.fmp_listed.specs.Queues.{listed}
 use Rattle.fmp_states.proofs.More.{no_processor_yet, processor_line}
 use Rattle.fmp_states.proofs.processors.put_processors.Goals as goal
 

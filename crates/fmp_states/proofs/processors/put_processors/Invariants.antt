@@ -1,5 +1,5 @@
 use Rattle.std.proofs.Common.{◌≡◌, ◌++◌}
-use Rattle.fmp_queues.specs.Queues.{listed}
+use Rattle.fmp_listed.specs.Queues.{listed}
 use Rattle.fmp_states.specs.States.{processors_text}
 use Rattle.fmp_states.proofs.processors.put_processors.Given as goal
 

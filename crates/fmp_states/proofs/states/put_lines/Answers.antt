@@ -1,5 +1,5 @@
 use Rattle.std.proofs.Common.{ℕ, List, length, ◌++◌, ap, ◌∙◌, append_assoc}
-use Rattle.fmp_queues.specs.Queues.{listed}
+use Rattle.fmp_listed.specs.Queues.{listed}
 use Rattle.fmp_states.specs.States.{processors_text, state_lines, tasks_text}
 use Rattle.fmp_states.proofs.Alike.{states_alike}
 use Rattle.fmp_states.proofs.states.put_lines.Goals as goal

@@ -1,4 +1,4 @@
-use Rattle.fmp_queues.specs.Queues.{listed}
+use Rattle.fmp_listed.specs.Queues.{listed}
 use Rattle.fmp_states.proofs.More.{blocked_line, no_task_yet}
 use Rattle.fmp_states.proofs.tasks.put_tasks.Goals as goal
 

@@ -5,7 +5,7 @@ use Rattle.fmp_kernel_time.specs.Counting.{AreInStep}
 use Rattle.fmp_kernel_time.proofs.Changes.{begun, begun_step}
 use Rattle.fmp_machine.specs.declared.machine.TaskRecord.{TaskRecord}
 use Rattle.fmp_machine.specs.World.{with_item}
-use Rattle.fmp_queues.specs.Queues.{timed_by}
+use Rattle.fmp_listed.specs.Queues.{timed_by}
 use Rattle.fmp_kernel_time.proofs.assigned.Assigned.begin_wait.Goals as goal
 
 pub invariant_of-self : goal.invariant_of-self

@@ -2,7 +2,7 @@ use Rattle.std.proofs.Common.{◌≡◌, true, None, length, sym, ap, subst, ◌
 use Rattle.std.specs.Prelude.{is_some}
 use Rattle.fmp_links.specs.Tasks.{without}
 use Rattle.fmp_machine.specs.World.{item}
-use Rattle.fmp_queues.specs.Queues.{timed_by}
+use Rattle.fmp_listed.specs.Queues.{timed_by}
 use Rattle.fmp_time.specs.declared.item.Item.TheVariants.{Wait}
 use Rattle.fmp_time.specs.Times.{Times, left_of}
 use Rattle.fmp_kernel_time.specs.Assignments.{Assignments, assignments_of, lefts}

@@ -1,0 +1,10 @@
+use Rattle.std.proofs.Common.{ap₂, ◌∙◌}
+use Rattle.clap.specs.Words.{with_rule}
+use Rattle.fmp_explore_command.proofs.explore_command.Goals as goal
+
+pub returns : goal.returns
+returns c =
+    let one_is = c.in_ok-one.ensures.shape c.flag-prompt.ensures.kind.local ∙ ap₂ with_rule c.in_ok-start.ensures c.flag-prompt.ensures.rule in
+    let two_is = c.in_ok-two.ensures.shape c.value-drift.ensures.kind.local ∙ ap₂ with_rule one_is c.value-drift.ensures.rule in
+    let three_is = c.in_ok-three.ensures.shape c.value-places.ensures.kind.local ∙ ap₂ with_rule two_is c.value-places.ensures.rule in
+    c.in_ok-four.ensures.shape c.flag-context.ensures.kind.local ∙ ap₂ with_rule three_is c.flag-context.ensures.rule

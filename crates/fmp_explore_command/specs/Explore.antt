@@ -1,0 +1,82 @@
+-- The command line of a search through all orders, and what it gives.
+use Rattle.std.specs.Prelude.{◌≡◌, ◌⊎◌, ◌≤◌, ◌<◌, ◌^◌, ℕ, Bool, true, List, [], Option, Some, None, codes, unwrap_or}
+use Rattle.std.specs.Option.{SomeIff}
+use Rattle.std.specs.Str.Parse.{IsNumeral, without_leading_plus}
+use Rattle.clap.specs.Words.{App, Row, Rule, Text, first_of, matches_of, new_app, new_rule, one_of, with_rule}
+use Rattle.clap.specs.declared.builder.action.ArgAction.TheVariants.{Set, SetTrue}
+use Rattle.fmp_smp_command.specs.Smp.{IsFlag, number_of, path_rule}
+use Rattle.fmp_explore_command.specs.declared.ExploreRequest.{ExploreRequest}
+
+-- what a parse reads of an option with a value that has to be given
+abbrev pub wanted_rule : Text → Rule
+wanted_rule id = record (new_rule id) { long = Some id; value_names = 1; required = true; action = Some Set }
+
+-- of one with a value that may be left out
+abbrev pub value_rule : Text → Rule
+value_rule id = record (new_rule id) { long = Some id; value_names = 1; action = Some Set }
+
+-- and of a flag
+abbrev pub flag_rule : Text → Rule
+flag_rule id = record (new_rule id) { long = Some id; action = Some SetTrue }
+
+-- the command line up to what has to be given
+abbrev pub wanted_line : App
+wanted_line = with_rule
+    (with_rule
+    (with_rule
+    (with_rule
+    (with_rule (new_app (codes "explore")) (path_rule (codes "CFG")))
+    (path_rule (codes "SCRIPTS")))
+    (wanted_rule (codes "ticks")))
+    (wanted_rule (codes "turns")))
+    (wanted_rule (codes "find"))
+
+-- the whole of it, as a parse reads it
+abbrev pub explore_line : App
+explore_line = with_rule
+    (with_rule
+    (with_rule
+    (with_rule wanted_line (flag_rule (codes "prompt")))
+    (value_rule (codes "drift")))
+    (value_rule (codes "places")))
+    (flag_rule (codes "context"))
+
+-- what clap finds in the words of that command line, by the ids of the arguments
+unfoldable pub found_in : List Text → List Row
+found_in words = matches_of explore_line words
+
+-- the number that a text writes, where it is one within these limits
+abbrev pub IsNumberWithin : ℕ → ℕ → Text → Option ℕ → Type 0
+IsNumberWithin low high t n =
+    SomeIff n (IsNumeral 10 (without_leading_plus t) × (low ≤ number_of t) × (number_of t ≤ high)) (number_of t)
+
+-- no limit for `any`, or the number of a text
+abbrev pub IsTicks : Text → Option ℕ → Type 0
+IsTicks t None = t ≡ codes "any"
+IsTicks t (Some n) = IsNumberWithin 0 1000000 t (Some n)
+
+-- no limit without a text, or its number
+abbrev pub IsDrift : Option Text → Option ℕ → Type 0
+IsDrift None n = n ≡ None
+IsDrift (Some t) n = (k : ℕ) × (n ≡ Some k) × IsNumberWithin 1 1000000 t (Some k)
+
+-- 1,000,000 without a text, or its number
+abbrev pub IsPlaces : Option Text → ℕ → Type 0
+IsPlaces None n = n ≡ 1000000
+IsPlaces (Some t) n = IsNumberWithin 1 100000000 t (Some n)
+
+-- the first text of an id, or none
+abbrev pub text_of : Text → List Row → Text
+text_of id rows = unwrap_or (first_of id rows) []
+
+-- the request is what was found: each of its parts is that of one id
+pub record Asks (rows : List Row) (r : ExploreRequest) : Type 0 where
+  pub config : r.config.now ≡ text_of (codes "CFG") rows
+  pub scripts : r.scripts.now ≡ text_of (codes "SCRIPTS") rows
+  pub question : r.question.now ≡ text_of (codes "find") rows
+  pub ticks : IsTicks (text_of (codes "ticks") rows) r.ticks
+  pub prompt : IsFlag (one_of (codes "prompt") rows) r.prompt
+  pub drift : IsDrift (first_of (codes "drift") rows) r.drift
+  pub turns : IsNumberWithin 1 1000000 (text_of (codes "turns") rows) (Some r.bounds.turns)
+  pub places : IsPlaces (first_of (codes "places") rows) r.bounds.places
+  pub context : IsFlag (one_of (codes "context") rows) r.context

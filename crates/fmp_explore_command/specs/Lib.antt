@@ -1,0 +1,1 @@
+pub mod Explore  -- The command line of a search through all orders, and what it gives.

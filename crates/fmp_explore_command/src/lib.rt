@@ -1,0 +1,242 @@
+//! The command line of `fmpsim explore`.
+//!
+//! [`parse_explore`] says which part of a request is what clap finds under which name in the words of a command line (`specs/Explore`). Its
+//! numbers are read here, since `--ticks` takes a word too; they are in their ranges by the request's type. How the help and the texts
+//! of errors read is tested in `fmpsim`.
+#![tactic(auto)]
+
+ghost use Rattle.std.specs.Prelude.{◌≡◌, IfOk, IfSome, Some, codes, map};
+ghost use Rattle.clap.specs.Words.{app_of, first_of, rule_of};
+ghost use Rattle.fmp_smp_command.specs.Smp.{IsOptional, rows_in};
+ghost use Rattle.fmp_explore_command.specs.Explore.{Asks, IsNumberWithin, IsPlaces, explore_line, flag_rule, found_in, text_of, value_rule, wanted_line, wanted_rule};
+
+mod bounds;
+mod numbers;
+
+use crate::numbers::{drift_in, number_in, places_in, ticks_in};
+pub use bounds::Bounds;
+use clap::error::ErrorKind;
+use clap::{Arg, ArgAction, ArgMatches, Command, Error};
+use fmp_smp_command::path;
+use std::alloc::{AllocError, Global};
+
+const ABOUT: &str = "Goes through every order of what scripts ask, and answers a question";
+
+const HELP: &str = "\
+CFG is a configuration, and SCRIPTS says what the tasks and handlers of a function do, as for
+`fmpsim smp`. It may be `-`, which stands for standard input.
+
+What may happen next on a processor is the next call of its due handler or else of its running
+task, its interrupt where a request is pending and nothing holds it back, and a tick. Every order
+of these is gone through, the shortest first, until one shows what QUESTION asks:
+
+  can two tasks wait for each other       --find 'end & waits sem'
+  can a value be lost                     --find 'lost=*'
+  can a call answer an error              --find 'LOGGER snd_dtq(LOG, *) E_CTX'
+  can A come before B                     --find 'A without B'
+  can B come after A with no C between    --find 'A then B without C'
+  can it take three ticks                 --find 'A then 3 times P1 tick taken without B'
+
+A pattern is words that stand one behind the other in one line of an event: its line of the trace
+without the number, the lines that `fmpsim calls --state` writes below it, and `end` where nothing
+can change any more. In a word * is any number of bytes. `&` stands between patterns that have to
+be there at one event.
+
+With `--ticks any` there is no limit and no count, so that there are fewer places: try it first.
+Where it says `never`, no order of any length shows it.
+
+On standard output is the trace of a shortest order that shows it, `never`, or `not within N`: no
+order of at most N lines does.
+
+Exit status:
+  0  never
+  1  a fault in a text or in the question, told on standard error with its place
+  2  the command line is wrong
+  3  a file could not be read, or the output not be written
+  4  want of memory
+  5  an order shows it; its trace was written
+  6  not within so many lines: --turns or --places did not do for more";
+
+const WRONG_NUMBER: &str =
+    "--ticks is `any` or a number from 0 to 1000000, --turns and --drift are numbers from 1 to 1000000, and --places is one from 1 to 100000000";
+
+/// What the command line of `fmpsim explore` asks for.
+#[derive(Clone, Copy, Debug)]
+pub struct ExploreRequest<'a> {
+    /// The path of the configuration.
+    pub config: &'a str,
+    /// The path of the scripts.
+    pub scripts: &'a str,
+    pub question: &'a str,
+    /// How many ticks each processor takes at most. Without it any number.
+    pub ticks: Option<u32>,
+    /// Whether a request that nothing holds back is taken before its processor's next call.
+    pub prompt: bool,
+    /// How many ticks more than another a processor may have taken. Without it any number.
+    pub drift: Option<u32>,
+    pub bounds: Bounds,
+    /// Whether what stands beside a fault is to be shown.
+    pub context: bool,
+}
+
+/// An option with a value that has to be given.
+fn wanted<'a>(alloc: Global, id: &'a str, value: &'a str, about: &'a str) -> Arg<'a>
+    ensures kind { IsOptional result id.entry.now }
+    ensures rule { rule_of result ≡ wanted_rule id.entry.now }
+{
+    Arg::new(alloc, id)
+        .long(id)
+        .value_name(value)
+        .required(true)
+        .action(ArgAction::Set)
+        .help(about)
+}
+
+/// An option with a value that may be left out.
+fn value<'a>(alloc: Global, id: &'a str, about: &'a str) -> Arg<'a>
+    ensures kind { IsOptional result id.entry.now }
+    ensures rule { rule_of result ≡ value_rule id.entry.now }
+{
+    Arg::new(alloc, id)
+        .long(id)
+        .value_name("N")
+        .action(ArgAction::Set)
+        .help(about)
+}
+
+/// An option without a value.
+fn flag<'a>(alloc: Global, id: &'a str, about: &'a str) -> Arg<'a>
+    ensures kind { IsOptional result id.entry.now }
+    ensures rule { rule_of result ≡ flag_rule id.entry.now }
+{
+    Arg::new(alloc, id)
+        .long(id)
+        .action(ArgAction::SetTrue)
+        .help(about)
+}
+
+/// The command with what has to be given.
+fn wanted_command<'a>(alloc: Global) -> Result<Command<'a>, AllocError>
+    ensures { IfOk result (λ c. app_of c ≡ wanted_line) }
+{
+    let config = path(alloc, "CFG", "Path of the configuration");
+    let scripts = path(
+        alloc,
+        "SCRIPTS",
+        "Path of the scripts, or - for standard input",
+    );
+    let ticks = wanted(
+        alloc,
+        "ticks",
+        "N",
+        "How many ticks each processor takes at most, 0 to 1000000, or any",
+    );
+    let turns = wanted(
+        alloc,
+        "turns",
+        "N",
+        "How many lines the orders have at most, 1 to 1000000",
+    );
+    let find = wanted(
+        alloc,
+        "find",
+        "QUESTION",
+        "What is looked for in the orders",
+    );
+    let start = Command::new(alloc, "explore")
+        .about(ABOUT)
+        .after_help(HELP)
+        .bin_name("fmpsim explore")?;
+    let one = start.arg(config)?;
+    let two = one.arg(scripts)?;
+    let three = two.arg(ticks)?;
+    let four = three.arg(turns)?;
+    let five = four.arg(find)?;
+    Ok(five)
+}
+
+/// The command, for its help and for what is wrong in it.
+pub fn explore_command<'a>(alloc: Global) -> Result<Command<'a>, AllocError>
+    ensures { IfOk result (λ c. app_of c ≡ explore_line) }
+{
+    let prompt = flag(
+        alloc,
+        "prompt",
+        "Takes each interrupt before the next call of its processor, as smp does",
+    );
+    let drift = value(
+        alloc,
+        "drift",
+        "How many ticks more than another a processor may have taken, 1 to 1000000",
+    );
+    let places = value(
+        alloc,
+        "places",
+        "For how many places there is room, 1 to 100000000, or else for 1000000",
+    );
+    let context = flag(
+        alloc,
+        "context",
+        "Shows below a fault its line, its place and what is wanted there",
+    );
+    let start = wanted_command(alloc)?;
+    let one = start.arg(prompt)?;
+    let two = one.arg(drift)?;
+    let three = two.arg(places)?;
+    let four = three.arg(context)?;
+    Ok(four)
+}
+
+/// The value of an option, or nothing.
+fn text_in<'a>(matches: &ArgMatches<'a>, id: &str) -> &'a str
+    ensures { result.now ≡ text_of id.now (rows_in matches.now) }
+{
+    matches.get_str(id).unwrap_or("")
+}
+
+/// How far the search goes, if the numbers are within their ranges.
+fn bounds_of<'a>(matches: &ArgMatches<'a>) -> Option<Bounds>
+    ensures turns { IfSome result (λ b. IsNumberWithin 1 1000000 (text_of (codes "turns") (rows_in matches.now)) (Some b.turns)) }
+    ensures places { IfSome result (λ b. IsPlaces (first_of (codes "places") (rows_in matches.now)) b.places) }
+{
+    let turns = number_in(text_in(matches, "turns"), 1, 1_000_000)?;
+    let places = places_in(matches.get_str("places"))?;
+    Some(Bounds { turns, places })
+}
+
+/// The request that the matches are, if its numbers are within their ranges: each of its parts is what they have under one name.
+fn request_of<'a>(matches: &ArgMatches<'a>) -> Option<ExploreRequest<'a>>
+    ensures { IfSome result (Asks (rows_in matches.now)) }
+{
+    let config = text_in(matches, "CFG");
+    let scripts = text_in(matches, "SCRIPTS");
+    let question = text_in(matches, "find");
+    let ticks = ticks_in(text_in(matches, "ticks"))?;
+    let prompt = matches.get_flag("prompt");
+    let drift = drift_in(matches.get_str("drift"))?;
+    let bounds = bounds_of(matches)?;
+    let context = matches.get_flag("context");
+    Some(ExploreRequest {
+        config,
+        scripts,
+        question,
+        ticks,
+        prompt,
+        drift,
+        bounds,
+        context,
+    })
+}
+
+/// What the words of the command line ask for, from `explore` on. Each part of the request is what clap finds in these words under one
+/// name. Otherwise the error says what is wrong, or that memory ran out.
+pub fn parse_explore<'a>(alloc: Global, words: &'a [String]) -> Result<ExploreRequest<'a>, Error>
+    ensures { IfOk result (Asks (found_in (map (λ w. w.bytes.items) words.now))) }
+{
+    let mut command = explore_command(alloc)?;
+    let matches = command.try_get_matches_from_mut(words)?;
+    match request_of(&matches) {
+        Some(request) => Ok(request),
+        None => Err(command.error(ErrorKind::ValueValidation, WRONG_NUMBER)?),
+    }
+}

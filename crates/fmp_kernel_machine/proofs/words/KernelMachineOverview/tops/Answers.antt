@@ -1,0 +1,18 @@
+use Rattle.std.proofs.Common.{length, ap, ◌∙◌}
+use Rattle.fmp_machine.specs.World.{World}
+use Rattle.fmp_ready.specs.Queues.{top_at, number_of}
+use Rattle.fmp_listed.specs.Queues.{Queues}
+use Rattle.fmp_kernel_machine.proofs.Topping.{small_each, tops_told}
+use Rattle.fmp_kernel_machine.proofs.words.KernelMachineOverview.tops.Goals as goal
+
+pub new-requires : goal.new-requires
+new-requires c = record {
+  few = c.count.ensures.few;
+  tasks = small_each c.self.inside.ready.lists c.tops.result c.tops.ensures.count c.tops.ensures.each;
+}
+
+pub returns : goal.returns
+returns c =
+    c.new.ensures ∙ tops_told c.args.self.now c.tops.result c.count.result (c.count.ensures.value ∙ ap (λ (w : World Queues). length w.processors) c.self.view_is)
+    c.count.ensures.few c.tops.ensures.count
+    (λ k h. c.tops.ensures.each k h ∙ ap (λ (w : World Queues). number_of (top_at w.order.ready k)) c.self.view_is)

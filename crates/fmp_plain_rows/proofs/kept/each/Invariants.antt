@@ -1,5 +1,0 @@
-use Rattle.std.proofs.Common.{◌≡◌, map, take}
-use Rattle.fmp_plain_rows.proofs.kept.each.Given as goal
-
-abbrev pub invariant-loop-setup : goal.invariant-loop-setup
-invariant-loop-setup g l = l.list.items ≡ map g.T.KeptOf.kept (take l.setup-index l.setups)

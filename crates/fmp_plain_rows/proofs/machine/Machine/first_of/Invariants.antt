@@ -1,8 +1,0 @@
-use Rattle.std.proofs.Common.{◌≡◌}
-use Rattle.fmp_machine.specs.World.{first}
-use Rattle.fmp_machine.specs.Arrivals.{in_order}
-use Rattle.fmp_plain_rows.specs.Groups.{is_member, precedes}
-use Rattle.fmp_plain_rows.proofs.machine.Machine.first_of.Given as goal
-
-abbrev pub invariant-loop-index : goal.invariant-loop-index
-invariant-loop-index l = l.best ≡ first (in_order (is_member l.self l.group) (precedes l.self l.group) l.index)

@@ -1,0 +1,1 @@
+pub mod Asked  -- What requests ask for.

@@ -1,0 +1,77 @@
+//! What `fmpsim explore` does.
+ghost use Rattle.std.specs.Prelude.{◌≡◌, ◌≢◌, ◌+◌, ◌-◌, ◌^◌, ◌<◌, [], false, OnOk, IfOk, IfErr, Err, if◌then◌else◌};
+ghost use Rattle.fmp_devices.specs.Devices.{IsKnown, bytes_of};
+ghost use Rattle.fmp_judging.specs.Faults.{failed_write, is_thread_fault};
+ghost use Rattle.fmp_judging.specs.Texts.{CountsReads};
+ghost use Rattle.fmpsim_explore.specs.Explored as spec;
+ghost use Rattle.fmpsim_explore.specs.Explored.{IsBegun, IsExplored};
+ghost use Rattle.fmpsim_explore.specs.Faults as faults;
+ghost use Rattle.fmpsim_explore.specs.declared.finding.Finding.{Finding as AnyFinding};
+ghost use Rattle.fmpsim_commands.specs.Asked as asked;
+
+use fmp_devices::{Sink, Source};
+use fmp_explore_command::ExploreRequest;
+use fmpsim_explore::{ExploreFault, Rules, run_explore};
+use fmpsim_run::{RunFault, Status};
+use std::alloc::Global;
+
+/// Which orders are gone through.
+fn rules_of(request: &ExploreRequest<'_>) -> Rules
+    ensures { result ≡ asked.rules_of request.now }
+{
+    Rules {
+        ticks: request.ticks,
+        prompt: request.prompt,
+        drift: request.drift,
+    }
+}
+
+/// Writes whether an order shows what the request asks. The status says what was found.
+pub fn search<R: Source, S: Source, W: Sink>(
+    alloc: Global,
+    config: &mut R,
+    scripts: &mut S,
+    output: &mut W,
+    request: &ExploreRequest<'_>,
+) -> Result<Status, ExploreFault>
+    requires config_calls { R.failures config.old < 2 ^ 64 - 1 }
+    requires script_calls { S.failures scripts.old < 2 ^ 64 - 1 }
+    requires output_calls { W.failures output.old < 2 ^ 64 - 1 }
+
+    // Both texts were read to their ends, and what is written says what is known of all orders by these rules. None of it is held back.
+    ensures explored { IsKnown (R.left config.old) → IsKnown (S.left scripts.old) → IsKnown (W.written output.old)
+        → IfOk result (λ status. (finding : AnyFinding) × (status ≡ spec.status_of finding)
+        × IsExplored (bytes_of (R.left config.old)) (bytes_of (S.left scripts.old)) request.now.question.now (asked.rules_of request.now) request.now.bounds.turns (bytes_of (W.written output.old)) (bytes_of (W.written output.new)) finding) }
+    ensures known { IsKnown (W.written output.old) → IsKnown (W.written output.new) }
+    ensures passed { OnOk result (W.buffered output.new ≡ []) }
+    ensures config_read { IsKnown (R.left config.old) → OnOk result (bytes_of (R.left config.new) ≡ []) }
+    ensures scripts_read { IsKnown (S.left scripts.old) → OnOk result (bytes_of (S.left scripts.new) ≡ []) }
+
+    // A fault of a text or of the question is its first one.
+    ensures config_fault { IsKnown (R.left config.old) → IfErr result (faults.IsConfigFault (bytes_of (R.left config.old))) }
+    ensures text_fault { IsKnown (R.left config.old) → IsKnown (S.left scripts.old) → IfErr result (faults.IsScriptFault (bytes_of (R.left config.old)) (bytes_of (S.left scripts.old))) }
+    ensures question_fault { IsKnown (R.left config.old) → IfErr result (faults.IsQuestionFault (bytes_of (R.left config.old)) request.now.question.now) }
+
+    // After a failed write or flush a beginning of what tells it is out, and after any other fault nothing is.
+    ensures write { IsKnown (R.left config.old) → IsKnown (S.left scripts.old) → IsKnown (W.written output.old) → (result ≡ Err (ExploreFault.Run RunFault.Write))
+        → IsBegun (bytes_of (R.left config.old)) (bytes_of (S.left scripts.old)) request.now.question.now (asked.rules_of request.now) request.now.bounds.turns (bytes_of (W.written output.old)) (bytes_of (W.written output.new)) }
+    ensures unwritten { IsKnown (W.written output.old) → IfErr result (λ fault. fault ≢ ExploreFault.Run RunFault.Write → bytes_of (W.written output.new) ≡ bytes_of (W.written output.old)) }
+
+    // No thread was started.
+    ensures no_thread_fault { IfErr (faults.as_run result) (λ fault. is_thread_fault fault ≡ false) }
+
+    // Which calls of the devices failed.
+    ensures reads { CountsReads (faults.as_run result) (R.failures config.old) (R.failures config.new) (S.failures scripts.old) (S.failures scripts.new) }
+    ensures writes { W.failures output.new ≡ W.failures output.old + (if failed_write (faults.as_run result) then 1 else 0) }
+{
+    let question = request.question.as_bytes();
+    let rules = rules_of(request);
+    let turns = request.bounds.turns;
+    let places = request.bounds.places;
+    match run_explore(
+        alloc, config, scripts, output, question, rules, turns, places,
+    ) {
+        Ok(finding) => Ok(finding.status()),
+        Err(fault) => Err(fault),
+    }
+}

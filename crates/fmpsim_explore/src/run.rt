@@ -1,0 +1,94 @@
+//! The run through all orders, from bytes to bytes.
+ghost use Rattle.std.specs.Prelude.{◌≡◌, ◌≢◌, ◌+◌, ◌-◌, ◌≤◌, ◌<◌, ◌^◌, [], Ok, Err, OnOk, IfOk, IfErr, false, if◌then◌else◌};
+ghost use Rattle.fmp_devices.specs.Devices.{IsKnown, bytes_of};
+ghost use Rattle.fmp_judging.specs.Faults.{failed_write, is_thread_fault};
+ghost use Rattle.fmp_judging.specs.Texts.{CountsReads};
+ghost use Rattle.fmp_question.specs.Reading.{question_in};
+ghost use Rattle.fmpsim_explore.specs.Explored.{IsBegun, IsExplored};
+ghost use Rattle.fmpsim_explore.specs.Faults as faults;
+
+use crate::fault::ExploreFault;
+use crate::finding::Finding;
+use crate::searching::found;
+use fmp_devices::{Sink, Source, write_out};
+use fmp_judging::{RunFault, texts_from};
+use fmp_names::Names;
+use fmp_orders::Rules;
+use fmp_question::{Question, ReadFault, read_question};
+use std::alloc::Global;
+
+/// The question of a text, or its first fault.
+fn question_from(alloc: Global, names: &Names, text: &[u8]) -> Result<Question, ExploreFault>
+    ensures asks { IfOk result (λ q. question_in names.now text.now ≡ Ok q) }
+    ensures fault { IfErr result (faults.IsNoQuestion names.now text.now) }
+{
+    match read_question(alloc, names, text) {
+        Ok(question) => Ok(question),
+        Err(ReadFault::Memory) => Err(ExploreFault::Run(RunFault::Memory)),
+        Err(ReadFault::Text(fault, place)) => Err(ExploreFault::Question(fault, place)),
+    }
+}
+
+/// Reads a configuration and scripts, goes through every order of what may happen by these rules, and writes whether one of them shows
+/// what the question asks.
+///
+/// It looks at orders of at most so many lines, and has room for so many places, each of which takes 24 bytes. Where the room does not do it
+/// says for how many lines it did.
+pub fn run_explore<R: Source, S: Source, W: Sink>(
+    alloc: Global,
+    config: &mut R,
+    scripts: &mut S,
+    output: &mut W,
+    question: &[u8],
+    rules: Rules,
+    turns: u32,
+    places: u32,
+) -> Result<Finding, ExploreFault>
+    requires config_calls { R.failures config.old < 2 ^ 64 - 1 }
+    requires script_calls { S.failures scripts.old < 2 ^ 64 - 1 }
+    requires output_calls { W.failures output.old < 2 ^ 64 - 1 }
+    requires turns { turns ≤ 1000000 }
+    requires places { 1 ≤ places }
+
+    // Both texts were read to their ends, and what is written says what is known of all orders. None of it is held back.
+    ensures explored { IsKnown (R.left config.old) → IsKnown (S.left scripts.old) → IsKnown (W.written output.old)
+        → IfOk result (IsExplored (bytes_of (R.left config.old)) (bytes_of (S.left scripts.old)) question.now rules turns (bytes_of (W.written output.old)) (bytes_of (W.written output.new))) }
+    ensures known { IsKnown (W.written output.old) → IsKnown (W.written output.new) }
+    ensures passed { OnOk result (W.buffered output.new ≡ []) }
+    ensures config_read { IsKnown (R.left config.old) → OnOk result (bytes_of (R.left config.new) ≡ []) }
+    ensures scripts_read { IsKnown (S.left scripts.old) → OnOk result (bytes_of (S.left scripts.new) ≡ []) }
+
+    // A fault of a text or of the question is its first one.
+    ensures config_fault { IsKnown (R.left config.old) → IfErr result (faults.IsConfigFault (bytes_of (R.left config.old))) }
+    ensures text_fault { IsKnown (R.left config.old) → IsKnown (S.left scripts.old) → IfErr result (faults.IsScriptFault (bytes_of (R.left config.old)) (bytes_of (S.left scripts.old))) }
+    ensures question_fault { IsKnown (R.left config.old) → IfErr result (faults.IsQuestionFault (bytes_of (R.left config.old)) question.now) }
+
+    // After a failed write or flush a beginning of what tells it is out, and after any other fault nothing is.
+    ensures write { IsKnown (R.left config.old) → IsKnown (S.left scripts.old) → IsKnown (W.written output.old) → (result ≡ Err (ExploreFault.Run RunFault.Write))
+        → IsBegun (bytes_of (R.left config.old)) (bytes_of (S.left scripts.old)) question.now rules turns (bytes_of (W.written output.old)) (bytes_of (W.written output.new)) }
+    ensures unwritten { IsKnown (W.written output.old) → IfErr result (λ fault. fault ≢ ExploreFault.Run RunFault.Write → bytes_of (W.written output.new) ≡ bytes_of (W.written output.old)) }
+
+    // No thread was started.
+    ensures no_thread_fault { IfErr (faults.as_run result) (λ fault. is_thread_fault fault ≡ false) }
+
+    // Which calls of the devices failed.
+    ensures reads { CountsReads (faults.as_run result) (R.failures config.old) (R.failures config.new) (S.failures scripts.old) (S.failures scripts.new) }
+    ensures writes { W.failures output.new ≡ W.failures output.old + (if failed_write (faults.as_run result) then 1 else 0) }
+{
+    let (machine, list) = match texts_from(alloc, config, scripts) {
+        Ok(texts) => texts,
+        Err(fault) => return Err(ExploreFault::Run(fault)),
+    };
+    let asked = match question_from(alloc, machine.names(), question) {
+        Ok(asked) => asked,
+        Err(fault) => return Err(fault),
+    };
+    let (finding, text) = match found(alloc, &machine, &list, rules, &asked, turns, places - 1) {
+        Ok(found) => found,
+        Err(_) => return Err(ExploreFault::Run(RunFault::Memory)),
+    };
+    match write_out(output, text.as_slice()) {
+        Ok(()) => Ok(finding),
+        Err(_) => Err(ExploreFault::Run(RunFault::Write)),
+    }
+}
