@@ -3,15 +3,16 @@ _fmpsim() {
     local word=${COMP_WORDS[COMP_CWORD]} words=
     COMPREPLY=()
     case $COMP_CWORD,${COMP_WORDS[1]},$word in
-        1,*) words='calls check wave view smp explore list help --help --version' ;;
+        1,*) words='calls check wave view smp explore shrink list help --help --version' ;;
         *,calls,-*) words='--state --context --color --help' ;;
-        *,check,-*) words='--show --all --context --help' ;;
+        *,check,-*) words='--show --all --partial --context --help' ;;
         *,wave,-*) words='--context --help' ;;
         *,view,-*) words='--context --help' ;;
         *,smp,-*) words='--ticks --turns --seed --context --color --help' ;;
         *,explore,-*) words='--ticks --turns --find --prompt --drift --places --context --help' ;;
+        *,shrink,-*) words='--find --context --help' ;;
         *,list,-*) words='--help' ;;
-        2,help,*) words='calls check wave view smp explore list help' ;;
+        2,help,*) words='calls check wave view smp explore shrink list help' ;;
         2,list,*) words=$("${COMP_WORDS[0]}" list 2> /dev/null | grep -oE "^[A-Za-z][A-Za-z0-9_]*") ;;
     esac
     mapfile -t COMPREPLY < <(compgen -W "$words" -- "$word")

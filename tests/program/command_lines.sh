@@ -15,6 +15,7 @@ command_lines() {
     usage 0 output errors view --help
     usage 0 output errors smp --help
     usage 0 output errors explore --help
+    usage 0 output errors shrink --help
     usage 0 output errors list --help
 }
 
@@ -37,11 +38,15 @@ refused_lines() {
 	check machine.cfg
 	check machine.cfg trace.txt more
 	check --show --all machine.cfg trace.txt
+	check --partial --show machine.cfg trace.txt
+	check --all --partial machine.cfg trace.txt
+	check --partial --partial machine.cfg trace.txt
 	check --all --all machine.cfg trace.txt
 	check --state machine.cfg trace.txt
 	wave machine.cfg
 	wave machine.cfg trace.txt more
 	wave --show machine.cfg trace.txt
+	wave --partial machine.cfg trace.txt
 	view machine.cfg
 	view machine.cfg trace.txt more
 	view --all machine.cfg trace.txt
@@ -50,6 +55,10 @@ refused_lines() {
 	smp machine.cfg scripts.txt --ticks 0
 	smp machine.cfg scripts.txt --turns 1
 	smp machine.cfg --ticks 0 --turns 1
+	shrink machine.cfg events.txt
+	shrink machine.cfg --find end
+	shrink machine.cfg events.txt events.txt --find end
+	shrink machine.cfg events.txt --find end --find end
 	explore machine.cfg scripts.txt
 	explore machine.cfg scripts.txt --ticks any --turns 1
 	explore machine.cfg scripts.txt --ticks any --find end

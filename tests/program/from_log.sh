@@ -1,11 +1,14 @@
 # Logs of a kernel that tools/from-log makes events or a partial trace of. What comes out is what tests/kernel_logs has; the program
-# plays the events.
+# plays the events, and judges the partial trace.
 
 from_log() {
     local tool=$top/tools/from-log logs=$top/tests/kernel_logs
     reads_log events
     run 0 "$logs/answers" /dev/null calls "$logs/machine.cfg" made
     reads_log trace
+    echo yes > yes
+    run 0 yes /dev/null check --partial "$logs/machine.cfg" made
+    log_differs
     reads_texts "$logs/told.txt"
     log_command_lines
 }
@@ -17,6 +20,14 @@ reads_log() {
     (cd "$logs" && "$tool" "${words[@]}") > made 2> told
     [ $? = 0 ] && diff "$logs/$1/made" made && diff "$logs/errors" told && well=yes
     count "$well" '#' tools/from-log "${words[@]}" '# in' "$logs"
+}
+
+# A log of a kernel that answers something else is found out, at its event.
+log_differs() {
+    sed 's/leave to wai_sem ercd=0/leave to wai_sem ercd=-50/' "$logs/kernel.log" > kernel.log
+    "$tool" "$logs/machine.cfg" kernel.log --trace --tick 16 --ipi 65552 > made 2> told
+    echo 'no 2' > no
+    run 5 no /dev/null check --partial "$logs/machine.cfg" made
 }
 
 # reads_texts TABLE: each row has a status, the words, the text of x.log, what is made and what is told, with a tab between two.

@@ -6,7 +6,7 @@ help_texts() {
     # what each status means, wherever it is told, and which ones a command may end with
     local means=('done|yes|all ticks were taken|never' 'a fault in a text|a text has a fault' 'the command line is wrong'
         'output (could )?not be written' 'want of memory|memory ran out' '\bno\b|not the machine|shows it' 'turns')
-    local -A statuses=([calls]='0 1 2 3 4' [check]='0 1 2 3 4 5' [wave]='0 1 2 3 4 5' [view]='0 1 2 3 4 5' [smp]='0 1 2 3 4 6' [explore]='0 1 2 3 4 5 6' [list]='0 2 3 4')
+    local -A statuses=([calls]='0 1 2 3 4' [check]='0 1 2 3 4 5' [wave]='0 1 2 3 4 5' [view]='0 1 2 3 4 5' [smp]='0 1 2 3 4 6' [explore]='0 1 2 3 4 5 6' [shrink]='0 1 2 3 4 5' [list]='0 2 3 4')
     version=$(sed -nE 's/^\.TH FMPSIM 1 "" "(fmpsim [0-9.]+)" .*/\1/p' "$top/man/fmpsim.1")
     run 0 <(echo "$version") /dev/null --version
     unwritten --version
@@ -14,7 +14,7 @@ help_texts() {
     [ "$(sed -nE 's/^## (fmpsim [0-9.]+).*/\1/p' "$top/CHANGELOG.md" | head -n 1)" = "$version" ] && well=yes
     count "$well" '# the version of CHANGELOG.md'
     unwritten --help
-    for command in calls check wave view smp explore list; do
+    for command in calls check wave view smp explore shrink list; do
         unwritten "$command" --help
         well=no
         play "$command" --help

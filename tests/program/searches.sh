@@ -5,6 +5,7 @@ searches() {
     for folder in "$top"/examples/explore-*/; do
         asks "$folder"
     done
+    has_places explore-device 16 --ticks any
     has_places explore-lost-wakeup 36 --ticks 0
     has_places explore-lock-order 47 --ticks 0
     has_places explore-priority-inversion 247 --ticks any

@@ -376,7 +376,7 @@ def values_of(state, tasks):
                 values["tasks", task] = "ready"
             values["tasks", running] = "running"
     for task, *words in state:
-        if not words[0].startswith("run="):
+        if words[0] in ("suspended", "waits"):
             told = ["waiting"] * ("waits" in words[:2]) + ["suspended"] * (words[0] == "suspended")
             values["tasks", task] = "-".join(told)
     return values

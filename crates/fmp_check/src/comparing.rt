@@ -38,6 +38,7 @@ pub struct Comparison {
     pub lines: Vec<u8>,
 }
 
+/// Adds a line of a trace behind `- `, and the machine's own line behind `+ `.
 fn put_pair(out: &mut Vec<u8>, line: &[u8], own: &[u8]) -> Result<(), AllocError>
     ensures { OnOk result (out.new.items ≡ out.old.items ++ difference_text Shown.First (record { number = 0; line = line.now; own = own.now })) }
 {
@@ -49,6 +50,7 @@ fn put_pair(out: &mut Vec<u8>, line: &[u8], own: &[u8]) -> Result<(), AllocError
     Ok(())
 }
 
+/// Adds the head of a hunk of a unified diff, for line n alone.
 #[tactic(auto, unfolding(crate::specs::Differences::hunk_head))]
 fn put_hunk_head(out: &mut Vec<u8>, n: u32) -> Result<(), AllocError>
     ensures { OnOk result (out.new.items ≡ out.old.items ++ hunk_head n) }
@@ -61,6 +63,7 @@ fn put_hunk_head(out: &mut Vec<u8>, n: u32) -> Result<(), AllocError>
     Ok(())
 }
 
+/// Adds line n of a trace and the machine's own line, as a hunk of a unified diff.
 fn put_hunk(out: &mut Vec<u8>, n: u32, line: &[u8], own: &[u8]) -> Result<(), AllocError>
     ensures { OnOk result (out.new.items ≡ out.old.items ++ difference_text Shown.Each (record { number = n; line = line.now; own = own.now })) }
 {
@@ -118,6 +121,7 @@ fn put_shown(out: &mut Vec<u8>, shown: Shown, names: &Names, stop: Stop) -> Resu
     }
 }
 
+/// The verdict on a trace, with the lines that are shown of it.
 #[tactic(auto, unfolding(crate::specs::Comparing::found_in))]
 fn comparison_of(
     alloc: Global,

@@ -27,9 +27,9 @@ fn is_same_rest(a: &[u8], b: &[u8]) -> bool
     a.is_empty() && b.is_empty()
 }
 
-/// Whether a text is the same as another.
+/// Whether a text is the same as another, eight bytes at a time.
 #[inline(always)]
-pub(crate) fn is_same(a: &[u8], b: &[u8]) -> bool
+pub fn is_same(a: &[u8], b: &[u8]) -> bool
     ensures { result ≡ bytes_eq a.now b.now }
 {
     let mut a = a;

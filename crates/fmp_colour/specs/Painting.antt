@@ -2,7 +2,7 @@
 use Rattle.std.specs.Prelude.{ℕ, zero, suc, ◌+◌, ◌-◌, ◌&&◌, Bool, not, List, [], ◌∷◌, ◌++◌, Option, None, Some, length, nat_eq, if◌then◌else◌, codes}
 use Rattle.std.specs.List.{list_all, starts_with}
 use Rattle.std.specs.Option.{option_map_or}
-use Rattle.fmp_bytes.specs.Bytes.{cut_at, is_of, line_feed, pieces_of, space}
+use Rattle.fmp_bytes.specs.Bytes.{cut_at, is_of, line_feed, pieces_of, space, escape}
 use Rattle.fmp_bytes.specs.declared.classes.Class.TheVariants.{Word}
 use Rattle.fmp_colour.specs.declared.painting.Mark.{Mark}
 use Rattle.fmp_colour.specs.declared.painting.Mark.TheVariants.{Plain, Refused, Released, Dispatched}
@@ -26,14 +26,14 @@ mark_of zero word =
 
 -- what stands before a word and behind it: a blank and the colour, and the end of the colour
 abbrev pub before : Mark → List ℕ
-before Plain = 32 ∷ []
-before Refused = 32 ∷ 27 ∷ codes "[31m"
-before Released = 32 ∷ 27 ∷ codes "[32m"
-before Dispatched = 32 ∷ 27 ∷ codes "[36m"
+before Plain = space ∷ []
+before Refused = space ∷ escape ∷ codes "[31m"
+before Released = space ∷ escape ∷ codes "[32m"
+before Dispatched = space ∷ escape ∷ codes "[36m"
 
 abbrev pub behind_word : Mark → List ℕ
 behind_word Plain = []
-behind_word mark = 27 ∷ codes "[0m"
+behind_word mark = escape ∷ codes "[0m"
 
 unfoldable pub painted_word : ℕ → List ℕ → List ℕ
 painted_word plain word = before (mark_of plain word) ++ (word ++ behind_word (mark_of plain word))

@@ -20,6 +20,7 @@ pub enum Mark {
     Dispatched,
 }
 
+/// Whether a word is the error code of a call that was refused.
 #[tactic(auto, unfolding(crate::specs::Painting::is_refusal))]
 fn is_refusal(word: &[u8]) -> bool
     ensures { result ≡ spec.is_refusal word.now }

@@ -1,7 +1,7 @@
 -- What a reader returns, beside what reading gives, and how it is told.
 use Rattle.std.specs.Prelude.{◌≡◌, ℕ, ◌⊎◌, Bool, List, [], ◌∷◌, ◌++◌, length, nat_le, if◌then◌else◌, Result, Ok, Err, codes, decimal}
 use Rattle.std.specs.Str.{is_utf8}
-use Rattle.fmp_bytes.specs.Bytes.{is_identifier}
+use Rattle.fmp_bytes.specs.Bytes.{is_identifier, number_sign}
 use Rattle.fmp_statements.specs.declared.fault.ConfigKind.TheVariants.{Memory}
 use Rattle.fmp_statements.specs.declared.fault.ReadError.{ReadError}
 use Rattle.fmp_statements.specs.declared.fault.ReadError.TheVariants as errors
@@ -11,7 +11,7 @@ use Rattle.fmp_config.specs.Reading.{config_in}
 
 -- the name of a directive has its `#` before it
 abbrev pub spelled : Bool → List ℕ → List ℕ
-spelled marked text = if marked then 35 ∷ text else text
+spelled marked text = if marked then number_sign ∷ text else text
 
 -- a word of at most 64 bytes, or none
 abbrev pub fitting : Bool → List ℕ → List ℕ

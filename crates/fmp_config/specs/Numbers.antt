@@ -56,12 +56,12 @@ AreInRanges c name n = IsInRange (first_range name c.processors c.limits.priorit
 -- ---- classes
 
 -- the processor of a number, from 1 to how many there are
-unfoldable pub processor_of : ℕ → ℕ → Option Proc
-processor_of processors n = if nat_le 1 n && nat_le n processors then Some (as_proc n) else None
+unfoldable pub numbered_processor : ℕ → ℕ → Option Proc
+numbered_processor processors n = if nat_le 1 n && nat_le n processors then Some (as_proc n) else None
 
 -- the processor of a word; its fault has the line of the statement
 unfoldable pub processor_at : Setup → ℕ → Word → Result Proc Fault
-processor_at c line word = value_at c.names word >>= λ n. ok_or (processor_of c.processors n) (fault_in BadClass line word)
+processor_at c line word = value_at c.names word >>= λ n. ok_or (numbered_processor c.processors n) (fault_in BadClass line word)
 
 -- a word of a list that has to be a number
 unfoldable pub number_step : Setup → Unit {0} → Word → Result (Unit {0}) Fault

@@ -1,6 +1,7 @@
 -- Reading a configuration token by token, with the first fault.
 use Rattle.std.specs.Prelude.{ℕ, Bool, ◌&&◌, List, length, Option, Some, None, is_some, Result, Ok, Err, nat_lt, if◌then◌else◌}
 use Rattle.std.specs.Option.{ok_or, option_map_or}
+use Rattle.fmp_bytes.specs.Bytes.{close_brace}
 use Rattle.fmp_tokens.specs.Lexing.{Lexeme, Lexed, lexed_text}
 use Rattle.fmp_tokens.specs.declared.tokens.End.{End}
 use Rattle.fmp_tokens.specs.declared.tokens.End.TheVariants as ends
@@ -49,7 +50,7 @@ placed d t name = option_map_or (λ kind. Err (fault_at kind (word_of t))) (plac
 
 -- the end of the open class
 unfoldable pub ends_class : Draft → Lexeme → Bool
-ends_class d t = is_some d.open_class && is_mark 125 t
+ends_class d t = is_some d.open_class && is_mark close_brace t
 
 -- a token between statements
 unfoldable pub first_token : State → Lexeme → Result State Fault

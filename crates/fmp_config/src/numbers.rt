@@ -79,10 +79,10 @@ pub fn numbers_of<'a>(
 }
 
 /// The processor of a number, from 1 to how many there are.
-#[tactic(auto, unfolding(crate::specs::Numbers::processor_of))]
-fn processor_of(processors: u8, number: u64) -> Option<Proc>
+#[tactic(auto, unfolding(crate::specs::Numbers::numbered_processor))]
+fn numbered_processor(processors: u8, number: u64) -> Option<Proc>
     requires { processors ≤ 8 }
-    ensures { result ≡ spec.processor_of processors number }
+    ensures { result ≡ spec.numbered_processor processors number }
 {
     if 1 <= number && number <= u64::from(processors) {
         Some(Proc::new(number as u8))
@@ -97,7 +97,7 @@ fn processor_at<'a>(parts: &Parts, line: u32, word: &Word<'a>) -> Result<Proc, F
     ensures { result ≡ spec.processor_at (setup_of parts.now) line word.now }
 {
     let number = value_at(&parts.names, word)?;
-    processor_of(parts.names.processors(), number).ok_or(Fault::within(
+    numbered_processor(parts.names.processors(), number).ok_or(Fault::within(
         ConfigKind::BadClass,
         line,
         word,

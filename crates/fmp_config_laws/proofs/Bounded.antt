@@ -13,9 +13,9 @@ use Rattle.fmp_config_laws.specs.Stages.{Stage, Adds}
 use Rattle.fmp_config_laws.specs.Meaning.{Says, members_of, together}
 use Rattle.fmp_codes.specs.Numbers.{as_proc}
 use Rattle.fmp_config_laws.proofs.Stages.{IsBounded}
-use Rattle.fmp_config_laws.proofs.Kept.{Keeps, object_keeps, class_keeps, counted, counting_keeps, same_names, counted_names, definition_processors, definition_priorities, definition_names}
+use Rattle.fmp_config_laws.proofs.Kept.{KeepsNames, object_keeps, class_keeps, counted, counting_keeps, same_names, counted_names, definition_processors, definition_priorities, definition_names}
 
-kept : (before after : Setup) → Keeps before after → IsBounded before → IsBounded after
+kept : (before after : Setup) → KeepsNames before after → IsBounded before → IsBounded after
 kept before after keeps bounded =
     let p = keeps.processors in
     let q = keeps.priorities in

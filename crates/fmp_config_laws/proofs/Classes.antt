@@ -11,7 +11,7 @@ use Rattle.fmp_statements.specs.Faults.{fault_in}
 use Rattle.fmp_statements.specs.Folds.{each}
 use Rattle.fmp_statements.specs.Pieces.{Pieces}
 use Rattle.fmp_statements.specs.Words.{Word}
-use Rattle.fmp_config.specs.Numbers.{value_at, processor_of, processor_at, number_step, member_step, all_numbers, members_in, sound_class, class_of}
+use Rattle.fmp_config.specs.Numbers.{value_at, numbered_processor, processor_at, number_step, member_step, all_numbers, members_in, sound_class, class_of}
 use Rattle.fmp_setup.specs.declared.setup.Class.{Class}
 use Rattle.fmp_setup.specs.Setup.{Setup}
 use Rattle.fmp_setup.specs.Valid.{is_class_of}
@@ -28,7 +28,7 @@ module _ (c : Setup) (few : c.processors ≤ 8) (named : AreNames c.names) where
   -- ---- one processor
 
   processor_at-spelled : (line : ℕ) (word : Word) (n : ℕ) → SpellsNumber c.names word.text n → is_processor c.processors n ≡ true → processor_at c line word ≡ Ok (as_proc n)
-  unfolding processor_at processor_of
+  unfolding processor_at numbered_processor
   processor_at-spelled line word n s is =
       let read = value_at-spelled c.names word n s in
       let parts = and_parts (leb 1 n) (leb n c.processors) is in
@@ -38,10 +38,10 @@ module _ (c : Setup) (few : c.processors ≤ 8) (named : AreNames c.names) where
 
   pub processor_at_is_spelled : (line : ℕ) (word : Word) (p : Proc) → processor_at c line word ≡ Ok p → is_signed word.text ≡ false
       → (n : ℕ) × SpellsNumber c.names word.text n × (is_processor c.processors n ≡ true) × (as_proc n ≡ p)
-  unfolding processor_at processor_of
+  unfolding processor_at numbered_processor
   processor_at_is_spelled line word p e unsigned =
-      let q = bind_parts (value_at c.names word) (λ n. ok_or (processor_of c.processors n) (fault_in BadClass line word)) p e in
-      let t = tested_some (is_processor c.processors q.0) (as_proc q.0) p (ok_or_parts (processor_of c.processors q.0) (fault_in BadClass line word) p q.2) in
+      let q = bind_parts (value_at c.names word) (λ n. ok_or (numbered_processor c.processors n) (fault_in BadClass line word)) p e in
+      let t = tested_some (is_processor c.processors q.0) (as_proc q.0) p (ok_or_parts (numbered_processor c.processors q.0) (fault_in BadClass line word) p q.2) in
       (q.0, value_at_is_spelled c.names named word q.0 q.1 unsigned (small q.0 t.0), t.0, t.1)
 
   -- ---- a list of them

@@ -15,7 +15,7 @@ use Rattle.fmp_config_laws.proofs.Numerals.{AreNames}
 use Rattle.fmp_config_laws.proofs.Results.{none_is}
 
 -- all are as they were
-pub record Keeps (before after : Setup) : Type 0 where
+pub record KeepsNames (before after : Setup) : Type 0 where
   pub processors : after.processors ≡ before.processors
   pub priorities : after.limits.priorities ≡ before.limits.priorities
   pub defined : after.names.defined ≡ before.names.defined
@@ -28,7 +28,7 @@ names_keep : (names : NameLists) (kind : ObjectKind) (name function : List ℕ) 
 unfolding with_object_names
 names_keep names kind name function = elim (cases_Bool (has_function kind)) [ inl t ↦ rw t (function_keeps _ function) | inr f ↦ rw f refl ]
 
-pub object_keeps : (c : Setup) (class : Class) (name function : List ℕ) (f : Fields) → Keeps c (with_object c class name function f)
+pub object_keeps : (c : Setup) (class : Class) (name function : List ℕ) (f : Fields) → KeepsNames c (with_object c class name function f)
 unfolding with_object with_setup
 object_keeps c class name function (Task f) = record { processors = refl; priorities = refl; defined = names_keep c.names _ name function }
 object_keeps c class name function (Semaphore f) = record { processors = refl; priorities = refl; defined = names_keep c.names _ name function }
@@ -39,7 +39,7 @@ object_keeps c class name function (Cyclic f) = record { processors = refl; prio
 object_keeps c class name function Alarm = record { processors = refl; priorities = refl; defined = names_keep c.names _ name function }
 object_keeps c class name function SpinLock = record { processors = refl; priorities = refl; defined = names_keep c.names _ name function }
 
-pub class_keeps : (c : Setup) (name : List ℕ) (class : Class) → Keeps c (with_class c name class)
+pub class_keeps : (c : Setup) (name : List ℕ) (class : Class) → KeepsNames c (with_class c name class)
 unfolding with_class
 class_keeps c name class = record { processors = refl; priorities = refl; defined = refl }
 

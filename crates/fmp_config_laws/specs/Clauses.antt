@@ -1,5 +1,6 @@
 -- What a text says, one after the other, apart from how it is read.
 use Rattle.std.specs.Prelude.{◌≡◌, List, [], ◌∷◌, ◌++◌}
+use Rattle.fmp_bytes.specs.Bytes.{close_brace}
 use Rattle.fmp_statements.specs.declared.table.StatementName.{StatementName}
 use Rattle.fmp_statements.specs.Table.{text_of, parts_of}
 use Rattle.fmp_token_laws.specs.Tokens.{Glyph}
@@ -23,7 +24,7 @@ pub record SpellsStatement (elements : List Element) (name : StatementName) (phr
 
 abbrev pub SpellsClause : List Element → Clause → Type 0
 SpellsClause elements (Statement name phrase definitions) = SpellsStatement elements name phrase definitions
-SpellsClause elements EndOfClass = elements ≡ Plain (symbol 125) ∷ []
+SpellsClause elements EndOfClass = elements ≡ Plain (symbol close_brace) ∷ []
 SpellsClause elements (Defining d) = elements ≡ Defined d.name d.number ∷ []
 SpellsClause elements Skipping = elements ≡ Skipped ∷ []
 

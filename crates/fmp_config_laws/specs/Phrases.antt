@@ -2,7 +2,7 @@
 use Rattle.std.specs.Prelude.{◌≡◌, ℕ, ◌≤◌, ◌<◌, Bool, true, not, ◌&&◌, ◌||◌, List, [], ◌∷◌, ◌++◌, ◌⊎◌, length, map, codes}
 use Rattle.std.specs.List.{list_all}
 use Rattle.std.specs.Str.{bytes_eq}
-use Rattle.fmp_bytes.specs.Bytes.{is_identifier}
+use Rattle.fmp_bytes.specs.Bytes.{is_identifier, comma}
 use Rattle.fmp_names.specs.Names.{is_name, times}
 use Rattle.fmp_statements.specs.declared.parts.Item.{Item}
 use Rattle.fmp_statements.specs.declared.parts.Item.TheVariants as items
@@ -72,13 +72,13 @@ pub record IsFree (glyphs : List Glyph) : Type 0 where
   pub allowed : list_all may_be_free glyphs ≡ true
   pub prefixes : (prefix rest : List Glyph) → glyphs ≡ prefix ++ rest → times (codes ")") (texts prefix) ≤ times (codes "(") (texts prefix)
   pub balanced : times (codes "(") (texts glyphs) ≡ times (codes ")") (texts glyphs)
-  pub commas : (prefix rest : List Glyph) → glyphs ≡ prefix ++ (symbol 44 ∷ rest) → times (codes ")") (texts prefix) < times (codes "(") (texts prefix)
+  pub commas : (prefix rest : List Glyph) → glyphs ≡ prefix ++ (symbol comma ∷ rest) → times (codes ")") (texts prefix) < times (codes "(") (texts prefix)
 
 -- `LOCAL`, or `GLOBAL`, a comma and a number
 abbrev pub SpellsMethod : (Phrase → List Glyph → Type 0) → Phrase → List Glyph → Type 0
 SpellsMethod Follows before glyphs =
     ((rest : List Glyph) × (word : Glyph) × (glyphs ≡ word ∷ rest) × (word.text ≡ codes "LOCAL") × Follows before rest)
-    ⊎ ((rest : List Glyph) × (word : Glyph) × (number : Glyph) × (glyphs ≡ word ∷ symbol 44 ∷ number ∷ rest) × (word.text ≡ codes "GLOBAL") × (may_be items.First number ≡ true)
+    ⊎ ((rest : List Glyph) × (word : Glyph) × (number : Glyph) × (glyphs ≡ word ∷ symbol comma ∷ number ∷ rest) × (word.text ≡ codes "GLOBAL") × (may_be items.First number ≡ true)
     × Follows (with_word items.First number.text before) rest)
 
 -- the tokens of some parts, and the words with theirs

@@ -26,7 +26,7 @@ statement_at text place word = option_or (statement_of word) (last_statement Non
 -- how many bytes follow the last line feed, of which so many did before
 abbrev pub column_after : ℕ → List ℕ → ℕ
 column_after column [] = column
-column_after column (b ∷ bytes) = if b == 10 then column_after 0 bytes else column_after (column + 1) bytes
+column_after column (b ∷ bytes) = if b == line_feed then column_after 0 bytes else column_after (column + 1) bytes
 
 -- the column of a place in its line, and this line
 abbrev pub column_at : List ℕ → ℕ → ℕ

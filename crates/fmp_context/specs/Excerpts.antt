@@ -1,11 +1,11 @@
 -- A line as it is shown, with a caret under one of its bytes.
 use Rattle.std.specs.Prelude.{ℕ, ◌+◌, ◌-◌, Bool, true, false, List, [], ◌∷◌, ◌++◌, length, take, drop, replicate, nat_le, nat_lt, ◌==◌, if◌then◌else◌, codes}
 use Rattle.fmp_bytes.specs.declared.classes.Class.TheVariants.{Printed}
-use Rattle.fmp_bytes.specs.Bytes.{is_of}
+use Rattle.fmp_bytes.specs.Bytes.{is_of, question_mark, space, tab}
 
 -- a tab is a blank, and what is not printed is `?`
 unfoldable pub shown_byte : ℕ → ℕ
-shown_byte b = if b == 9 then 32 else (if is_of Printed b then b else 63)
+shown_byte b = if b == tab then space else (if is_of Printed b then b else question_mark)
 
 abbrev pub shown_bytes : List ℕ → List ℕ
 shown_bytes [] = []
@@ -35,7 +35,7 @@ line_shown line start =
     ++ tail (nat_lt (end_of (length line) start) (length line))
 
 unfoldable pub caret_line : ℕ → List ℕ
-caret_line count = codes "  " ++ replicate count 32 ++ codes "^\n"
+caret_line count = codes "  " ++ replicate count space ++ codes "^\n"
 
 -- the line, and below it a caret
 unfoldable pub excerpt : List ℕ → ℕ → List ℕ

@@ -4,7 +4,7 @@ use Rattle.std.specs.List.{list_all}
 use Rattle.std.specs.Option.{option_map_or}
 use Rattle.std.specs.Str.{bytes_eq}
 use Rattle.fmp_bytes.specs.declared.classes.Class.TheVariants.{Blank, Word, Argument, Line}
-use Rattle.fmp_bytes.specs.Bytes.{is_of, prefix, after, behind}
+use Rattle.fmp_bytes.specs.Bytes.{is_of, prefix, after, behind, close_parenthesis, comma, open_parenthesis}
 use Rattle.fmp_calls.specs.declared.kinds.ArgumentKind.{ArgumentKind}
 use Rattle.fmp_calls.specs.Table.{is_bare, kinds_of, named}
 use Rattle.fmp_codes.specs.declared.calls.Call.{Call}
@@ -55,7 +55,7 @@ argument names judged call kind walk = further walk (λ text. filled names judge
 -- the argument of this index, with a comma before it unless it is the first
 abbrev pub separated : Call → ℕ → Walk → Walk
 separated call zero walk = walk
-separated call (suc i) walk = mark call 44 walk
+separated call (suc i) walk = mark call comma walk
 
 unfoldable pub next_argument : NameLists → Bool → Call → ℕ → ArgumentKind → Walk → Walk
 next_argument names judged call index kind walk = argument names judged call kind (separated call index walk)
@@ -77,7 +77,7 @@ ending wanted walk = further walk (λ text. ended wanted (after Blank text))
 -- the parentheses of a call with its arguments
 unfoldable pub enclosed : NameLists → Bool → Call → List ℕ → Walk
 enclosed names judged call text =
-    ending (wants.CallEnd call) (mark call 41 (arguments names judged call 0 (kinds_of call) (mark call 40 (going text))))
+    ending (wants.CallEnd call) (mark call close_parenthesis (arguments names judged call 0 (kinds_of call) (mark call open_parenthesis (going text))))
 
 -- what follows a call's name: first its form is judged, and then the values of its arguments
 unfoldable pub behind_name : NameLists → Call → List ℕ → Walk

@@ -56,6 +56,7 @@ abbrev pub whole_place : NameLists → TextForm → List ℕ → TextKind → Wa
 whole_place names forms.Events line kind = event_kind_place names line kind
 whole_place names forms.Scripts line kind = script_kind_place names line kind
 whole_place names forms.Trace line kind = trace_place line kind
+whole_place names forms.Partial line kind = trace_place line kind
 
 -- the last line, which has no line feed, is at fault at its end
 abbrev pub place : NameLists → TextForm → List ℕ → Option (List ℕ) → TextKind → Walk

@@ -104,6 +104,7 @@ fn wants_form(kind: ConfigKind) -> bool
     )
 }
 
+/// Adds the form of a statement, behind its label, if there is one.
 fn put_form(out: &mut Vec<u8>, name: Option<StatementName>) -> Result<(), AllocError>
     ensures { OnOk result (out.new.items ≡ out.old.items ++ spec.form_of name) }
 {
@@ -116,6 +117,7 @@ fn put_form(out: &mut Vec<u8>, name: Option<StatementName>) -> Result<(), AllocE
     }
 }
 
+/// Adds the form of the statement at the place of a fault, if the fault is told with it.
 #[tactic(auto, unfolding(crate::specs::Configs::form_at))]
 fn put_form_at(
     out: &mut Vec<u8>,
@@ -134,6 +136,7 @@ fn put_form_at(
     }
 }
 
+/// Adds the line of a fault. Where its place is known a caret follows, and the form of its statement if the fault is told with it.
 #[tactic(auto, unfolding(crate::specs::Configs::shown))]
 fn put_fault(out: &mut Vec<u8>, text: &[u8], fault: &ConfigFault) -> Result<(), AllocError>
     requires { length text.now ≤ most_bytes }

@@ -27,6 +27,7 @@ fn happening<'a>(names: &Names, text: &'a [u8]) -> Walk<'a>
     }
 }
 
+/// A processor, and what happens on it.
 #[tactic(auto, unfolding(crate::specs::Places::on_processor))]
 fn on_processor<'a>(names: &Names, text: &'a [u8]) -> Walk<'a>
     ensures { result ≡ spec.on_processor names.now text.now }

@@ -25,6 +25,7 @@ fn shown_byte(byte: u8) -> u8
     }
 }
 
+/// Adds bytes as they are shown.
 fn put_shown(out: &mut Vec<u8>, bytes: &[u8]) -> Result<(), AllocError>
     ensures { OnOk result (out.new.items ≡ out.old.items ++ spec.shown_bytes bytes.now) }
 {
@@ -34,6 +35,7 @@ fn put_shown(out: &mut Vec<u8>, bytes: &[u8]) -> Result<(), AllocError>
     Ok(())
 }
 
+/// Adds so many blanks.
 fn put_blanks(out: &mut Vec<u8>, count: usize) -> Result<(), AllocError>
     ensures { OnOk result (out.new.items ≡ out.old.items ++ replicate count 32) }
 {
@@ -87,6 +89,7 @@ fn end_of(length: usize, start: usize) -> usize
     }
 }
 
+/// Adds a line as it is shown from its byte `start` on: at most 200 bytes, with `..` where some are cut off.
 #[tactic(auto, unfolding(crate::specs::Excerpts::line_shown))]
 pub(crate) fn put_line(out: &mut Vec<u8>, line: &[u8], start: usize) -> Result<(), AllocError>
     requires { start ≤ length line.now }
@@ -98,6 +101,7 @@ pub(crate) fn put_line(out: &mut Vec<u8>, line: &[u8], start: usize) -> Result<(
     out.extend_from_slice(tail(end < line.len()))
 }
 
+/// Adds the line of a caret, under the shown byte that has so many before it.
 #[tactic(auto, unfolding(crate::specs::Excerpts::caret_line))]
 fn put_caret(out: &mut Vec<u8>, count: usize) -> Result<(), AllocError>
     ensures { OnOk result (out.new.items ≡ out.old.items ++ spec.caret_line count) }

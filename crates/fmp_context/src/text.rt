@@ -20,6 +20,8 @@ pub enum TextForm {
     Events,
     Scripts,
     Trace,
+    /// A trace whose lines may leave out parts.
+    Partial,
 }
 
 /// A function's name, or what stands behind it.
@@ -53,6 +55,7 @@ fn step_place<'a>(names: &Names, text: &'a [u8]) -> Walk<'a>
     }
 }
 
+/// Where a line of a script text is at fault, by the kind of the fault.
 fn script_place<'a>(names: &Names, line: &'a [u8], kind: TextKind) -> Walk<'a>
     ensures { result ≡ spec.script_kind_place names.now line.now kind }
 {
@@ -68,6 +71,7 @@ fn script_place<'a>(names: &Names, line: &'a [u8], kind: TextKind) -> Walk<'a>
     }
 }
 
+/// Where a line of a trace is at fault, by the kind of the fault.
 fn trace_place<'a>(line: &'a [u8], kind: TextKind) -> Walk<'a>
     ensures { result ≡ spec.trace_place line.now kind }
 {
@@ -77,6 +81,7 @@ fn trace_place<'a>(line: &'a [u8], kind: TextKind) -> Walk<'a>
     }
 }
 
+/// Where a line is at fault that ends with a line feed.
 fn whole_place<'a>(names: &Names, form: TextForm, line: &'a [u8], kind: TextKind) -> Walk<'a>
     ensures { result ≡ spec.whole_place names.now form line.now kind }
 {
@@ -84,7 +89,7 @@ fn whole_place<'a>(names: &Names, form: TextForm, line: &'a [u8], kind: TextKind
         (TextForm::Events, TextKind::TooMany) => Walk::going(skip(Class::Blank, line)),
         (TextForm::Events, _) => event_place(names, line),
         (TextForm::Scripts, _) => script_place(names, line, kind),
-        (TextForm::Trace, _) => trace_place(line, kind),
+        (TextForm::Trace | TextForm::Partial, _) => trace_place(line, kind),
     }
 }
 
@@ -137,6 +142,7 @@ fn told(
     }
 }
 
+/// What is told of a line that is at fault, with what follows its line feed, if it has one.
 #[tactic(auto, unfolding(crate::specs::Texts::told_line))]
 fn told_line(
     alloc: Global,

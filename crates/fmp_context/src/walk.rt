@@ -60,6 +60,7 @@ impl<'a> Walk<'a> {
     }
 }
 
+/// Goes on over this byte of a call, with blanks before it.
 #[tactic(auto, unfolding(crate::specs::Places::mark))]
 fn mark<'a>(call: Call, byte: u8, walk: Walk<'a>) -> Walk<'a>
     ensures { result ≡ spec.mark call byte walk.entry }
@@ -82,6 +83,7 @@ fn fits(names: &Names, judged: bool, kind: ArgumentKind, token: &[u8]) -> bool
     is_argument(token) && (!judged || value_at(names, kind, token).is_ok())
 }
 
+/// Goes on over an argument of this kind, with blanks before it.
 #[tactic(auto, unfolding(crate::specs::Places::argument))]
 fn argument<'a>(
     names: &Names,
@@ -104,6 +106,7 @@ fn argument<'a>(
     }
 }
 
+/// Goes on over an argument, with the comma before it where it is not the first.
 #[tactic(auto, unfolding(crate::specs::Places::next_argument))]
 fn next_argument<'a>(
     names: &Names,
@@ -123,6 +126,7 @@ fn next_argument<'a>(
     argument(names, judged, call, kind, walk)
 }
 
+/// Goes on over the arguments of a call, in their order.
 fn arguments<'a>(
     names: &Names,
     judged: bool,

@@ -31,6 +31,7 @@ pub enum Wanted {
     Function,
 }
 
+/// What stands before what is wanted.
 #[tactic(auto, unfolding(crate::specs::Wanted::label))]
 pub(crate) fn label() -> &'static [u8]
     ensures { result.now ≡ spec.label }
@@ -54,6 +55,7 @@ fn words(wanted: Wanted) -> &'static [u8]
     }
 }
 
+/// Adds that a processor of the machine is wanted.
 #[tactic(auto, unfolding(crate::specs::Wanted::processors))]
 fn put_processors(out: &mut Vec<u8>, processors: u8) -> Result<(), AllocError>
     ensures { OnOk result (out.new.items ≡ out.old.items ++ spec.processors processors) }
@@ -64,6 +66,7 @@ fn put_processors(out: &mut Vec<u8>, processors: u8) -> Result<(), AllocError>
     out.extend_from_slice(b"\n")
 }
 
+/// Adds that this byte is wanted at the place.
 #[tactic(auto, unfolding(crate::specs::Wanted::mark_line))]
 fn put_mark(out: &mut Vec<u8>, byte: u8) -> Result<(), AllocError>
     ensures { OnOk result (out.new.items ≡ out.old.items ++ spec.mark_line byte) }
@@ -73,6 +76,7 @@ fn put_mark(out: &mut Vec<u8>, byte: u8) -> Result<(), AllocError>
     out.extend_from_slice(b"`\n")
 }
 
+/// Adds that the end of the line is wanted at the place.
 #[tactic(auto, unfolding(crate::specs::Wanted::end_line))]
 fn put_end(out: &mut Vec<u8>) -> Result<(), AllocError>
     ensures { OnOk result (out.new.items ≡ out.old.items ++ spec.end_line) }

@@ -19,7 +19,7 @@ use Rattle.fmp_count_laws.proofs.Booted.{booted_life, booted_wakeups}
 use Rattle.fmp_count_laws.proofs.Ready.{Ready, ready_next, ready_at_boot, ready_after, prefix_told, prefix_on}
 use Rattle.fmp_count_laws.specs.Wakeups.{queued_after, queued_by, WakeupBalance, TakesWhatIsQueued}
 use Rattle.fmp_count_laws.proofs.Sparing.{tally}
-use Rattle.fmp_count_laws.proofs.Wakeups.{Queues, queue_step, takes_step}
+use Rattle.fmp_count_laws.proofs.Wakeups.{QueuedWakeups, queue_step, takes_step}
 
 lives_run : (c : Setup) (t : Task) → t.number ≤ length c.tasks → (pending : OpenWaits) (m : State) (es : List Event) → Ready c pending m es →
     life (task m t) + sum_by (activated t) (answers numbered m es)
@@ -41,12 +41,12 @@ activations_balance c events valid on n t here =
     let first = booted_life c valid.few_tasks t here in
     subst (λ rs. ActivationBalance c rs (replay numbered (booted c) es) t) (prefix_told n (booted c) events) (omega (arith, all, first))
 
-queue_run : (c : Setup) (t : Task) → t.number ≤ length c.tasks → (pending : OpenWaits) (m : State) (es : List Event) (n : ℕ) → Ready c pending m es → Queues n (tally (task m t)) → Queues (queued_by t (answers numbered m es) n) (tally (task (replay numbered m es) t))
+queue_run : (c : Setup) (t : Task) → t.number ≤ length c.tasks → (pending : OpenWaits) (m : State) (es : List Event) (n : ℕ) → Ready c pending m es → QueuedWakeups n (tally (task m t)) → QueuedWakeups (queued_by t (answers numbered m es) n) (tally (task (replay numbered m es) t))
 queue_run c t here pending m [] n h queue = queue
 queue_run c t here pending m (e ∷ es) n h queue =
     queue_run c t here (after_record c pending (step numbered m e).1) (step numbered m e).0 es (queued_after t (step numbered m e).1 n) (ready_next c pending m e es h) (queue_step numbered m t n queue h.sound.few_tasks (rw h.tasks here) e)
 
-queue_from_boot : (c : Setup) (t : Task) (es : List Event) → IsValid c → AreOn c.processors es → t.number ≤ length c.tasks → Queues (queued_by t (answers numbered (booted c) es) 0) (tally (task (replay numbered (booted c) es) t))
+queue_from_boot : (c : Setup) (t : Task) (es : List Event) → IsValid c → AreOn c.processors es → t.number ≤ length c.tasks → QueuedWakeups (queued_by t (answers numbered (booted c) es) 0) (tally (task (replay numbered (booted c) es) t))
 queue_from_boot c t es valid on here = queue_run c t here nobody_waits (booted c) es 0 (ready_at_boot c valid es on) (record { active = λ e. booted_wakeups c valid.few_tasks t; dormant = λ e. refl })
 
 pub wakeups_balance : (c : Setup) (events : List Event) → IsValid c → AreOn c.processors events → (n : ℕ) (t : Task) → t.number ≤ length c.tasks →

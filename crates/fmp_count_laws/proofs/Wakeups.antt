@@ -48,7 +48,7 @@ use Rattle.fmp_safety.specs.Safe.{Safe}
 use Rattle.fmp_safety.proofs.Items.{task_same}
 
 -- Of an active task so many wakeups are queued, and of a dormant one none.
-pub record Queues (queued : ℕ) (x : Tally) : Type 0 where
+pub record QueuedWakeups (queued : ℕ) (x : Tally) : Type 0 where
   pub active : x.active ≡ true → x.wakeups ≡ queued
   pub dormant : x.active ≡ false → queued ≡ 0
 
@@ -68,34 +68,34 @@ nothing_queued t r n refused no_end =
     ∙ cond-false (sleeps t r.runner r.event && is_accepted r.answer) _ _ (not_both (sleeps t r.runner r.event) _ refused)
     ∙ cond-false (wakes t r.runner r.event && is_accepted r.answer && releases_nobody r.releases) _ _ (ap (λ (b : Bool). b && releases_nobody r.releases) (not_both (wakes t r.runner r.event) _ refused))
 
-module _ {Q : Type 0} (w : World Q) (t : Task) (n : ℕ) (old : Queues n (tally (task w t))) where
-  spared_queue : (v : World Q) → Spares t w v → Queues n (tally (task v t))
-  spared_queue v h = subst (Queues n) (sym h.counts) old
+module _ {Q : Type 0} (w : World Q) (t : Task) (n : ℕ) (old : QueuedWakeups n (tally (task w t))) where
+  spared_queue : (v : World Q) → Spares t w v → QueuedWakeups n (tally (task v t))
+  spared_queue v h = subst (QueuedWakeups n) (sym h.counts) old
 
   module _ (here : t.number ≤ length w.tasks) (u : Task) (v : World Q) (r : TaskRecord) (e : v.tasks ≡ with_item w.tasks u.number r) where
     -- u has another record, and so much is queued for it then
-    queue_changed : (m : ℕ) (b : Bool) → b ≡ (u.number == t.number) → (Queues n (tally (task w u)) → Queues m (tally r)) → Queues (if b then m else n) (tally (task v t))
+    queue_changed : (m : ℕ) (b : Bool) → b ≡ (u.number == t.number) → (QueuedWakeups n (tally (task w u)) → QueuedWakeups m (tally r)) → QueuedWakeups (if b then m else n) (tally (task v t))
     queue_changed m b same new =
-        subst (λ (x : Bool). Queues (if x then m else n) (tally (task v t))) (sym same)
-        (by_task (λ x c. Queues n (tally (task w x)) → Queues (if c then m else n) (tally (task v x))) u t
+        subst (λ (x : Bool). QueuedWakeups (if x then m else n) (tally (task v t))) (sym same)
+        (by_task (λ x c. QueuedWakeups n (tally (task w x)) → QueuedWakeups (if c then m else n) (tally (task v x))) u t
         (λ at o. rw (e, changed_here w u r (rw at here)) (new o))
         (λ d o. rw (e, changed_there w u r t d) o) old)
 
     -- what is queued stays
-    queue_kept : (Queues n (tally (task w u)) → Queues n (tally r)) → Queues n (tally (task v t))
-    queue_kept new = rw e (after_change w u r t (λ o. Queues n (tally o)) new old)
+    queue_kept : (QueuedWakeups n (tally (task w u)) → QueuedWakeups n (tally r)) → QueuedWakeups n (tally (task v t))
+    queue_kept new = rw e (after_change w u r t (λ o. QueuedWakeups n (tally o)) new old)
 
-module _ {Q : Type 0} (k : Ordering Q) (w : World Q) (p : Proc) (t : Task) (n : ℕ) (old : Queues n (tally (task w t))) (few : length w.tasks ≤ 64) (here : t.number ≤ length w.tasks) where
+module _ {Q : Type 0} (k : Ordering Q) (w : World Q) (p : Proc) (t : Task) (n : ℕ) (old : QueuedWakeups n (tally (task w t))) (few : length w.tasks ≤ 64) (here : t.number ≤ length w.tasks) where
   abbrev QueuesNow : Call → World Q × Effect → Type 0
-  QueuesNow c did = Queues (queued_after t (told (event.Call p c) (runner_of w p) did.1) n) (tally (task did.0 t))
+  QueuesNow c did = QueuedWakeups (queued_after t (told (event.Call p c) (runner_of w p) did.1) n) (tally (task did.0 t))
 
   refused_queue : (c : Call) (x : Code) → refuses x ≡ true → QueuesNow c (w, refused x)
   refused_queue c x e =
       let r : Record = told (event.Call p c) (runner_of w p) (refused x) in
-      subst (λ (m : ℕ). Queues m (tally (task w t))) (sym (nothing_queued t r n (not_accepted x e) (refused_ends t (runner_of w p) x (event.Call p c) (not_accepted x e)))) old
+      subst (λ (m : ℕ). QueuedWakeups m (tally (task w t))) (sym (nothing_queued t r n (not_accepted x e) (refused_ends t (runner_of w p) x (event.Call p c) (not_accepted x e)))) old
 
   abbrev Kept : World Q × Effect → Type 0
-  Kept did = Queues n (tally (task did.0 t))
+  Kept did = QueuedWakeups n (tally (task did.0 t))
 
   kept : (row : Row Q) → Kept row.effect → Kept (called w p row)
   kept row accepted = either_way w p Kept row (λ c. old) accepted
@@ -107,19 +107,19 @@ module _ {Q : Type 0} (k : Ordering Q) (w : World Q) (p : Proc) (t : Task) (n : 
   kept_activation : (u : Task) (to : Proc) (on : Option Proc) → Kept (words.activate k w u to on, done)
   kept_activation u to on =
       let r : TaskRecord = record (task w u) { activations = 1; kept = on } in
-      cond_both (task w u).active (with_task w u r) (words.start k w u to) (λ (v : World Q). Queues n (tally (task v t)))
+      cond_both (task w u).active (with_task w u r) (words.start k w u to) (λ (v : World Q). QueuedWakeups n (tally (task v t)))
       (λ _. queue_kept w t n old here u (with_task w u r) r refl (λ h. record { active = h.active; dormant = h.dormant }))
       (λ dormant. queue_kept w t n old here u (words.start k w u to) (words.started (task w u) to) refl (λ h. record { active = λ e. sym (h.dormant dormant); dormant = λ e. absurd (true≢false e) }))
 
-  none_at_end : (r : TaskRecord) → Queues 0 (tally (words.ended r))
+  none_at_end : (r : TaskRecord) → QueuedWakeups 0 (tally (words.ended r))
   none_at_end r =
-      cond_both (nat_lt 0 r.activations) _ _ (λ (o : TaskRecord). Queues 0 (tally o)) (λ _. record { active = λ e. refl; dormant = λ e. refl }) (λ _. record { active = λ e. absurd (false≢true e); dormant = λ e. refl })
+      cond_both (nat_lt 0 r.activations) _ _ (λ (o : TaskRecord). QueuedWakeups 0 (tally o)) (λ _. record { active = λ e. refl; dormant = λ e. refl }) (λ _. record { active = λ e. absurd (false≢true e); dormant = λ e. refl })
 
   abbrev SleepsNow : World Q × Effect → Type 0
-  SleepsNow did = Queues (if is_task t (runner_of w p) && is_accepted did.1.answer then n - 1 else n) (tally (task did.0 t))
+  SleepsNow did = QueuedWakeups (if is_task t (runner_of w p) && is_accepted did.1.answer then n - 1 else n) (tally (task did.0 t))
 
-  asleep : (v : World Q) (a : Answer) → is_accepted a ≡ false → Queues n (tally (task v t)) → SleepsNow (v, plain a)
-  asleep v a none h = subst (λ (m : ℕ). Queues m (tally (task v t))) (sym (cond-false (is_task t (runner_of w p) && is_accepted a) (n - 1) n (not_both (is_task t (runner_of w p)) _ none))) h
+  asleep : (v : World Q) (a : Answer) → is_accepted a ≡ false → QueuedWakeups n (tally (task v t)) → SleepsNow (v, plain a)
+  asleep v a none h = subst (λ (m : ℕ). QueuedWakeups m (tally (task v t))) (sym (cond-false (is_task t (runner_of w p) && is_accepted a) (n - 1) n (not_both (is_task t (runner_of w p)) _ none))) h
 
   queue_sleep : (timeout : ℤ) → SleepsNow (called w p (tslp_tsk k w p timeout))
   unfolding tslp_tsk
@@ -130,7 +130,7 @@ module _ {Q : Type 0} (k : Ordering Q) (w : World Q) (p : Proc) (t : Task) (n : 
       (λ a.
       cond_both (nat_lt 0 (task w u).wakeups) _ _ SleepsNow
       (λ _.
-      subst (λ (b : Bool). Queues (if b then n - 1 else n) (tally (task (with_task w u r) t))) (sym (with_true (is_task t (runner_of w p))))
+      subst (λ (b : Bool). QueuedWakeups (if b then n - 1 else n) (tally (task (with_task w u r) t))) (sym (with_true (is_task t (runner_of w p))))
       (queue_changed w t n old here u (with_task w u r) r refl (n - 1) (is_task t (runner_of w p)) (is_caller_of w p t (from_task w p false true a.rule))
       (λ h. record { active = λ e. ap (λ (m : ℕ). m - 1) (h.active e); dormant = λ e. ap (λ (m : ℕ). m - 1) (h.dormant e) })))
       (λ _. cond_both (is_zero timeout) _ _ SleepsNow (λ _. asleep w (refused code.TimedOut).answer refl old)
@@ -139,11 +139,11 @@ module _ {Q : Type 0} (k : Ordering Q) (w : World Q) (p : Proc) (t : Task) (n : 
       asleep v answer.Wait refl (spared_queue w t n old v (spares_begin t w k u wait.Sleep (ticks_of timeout))))))
 
   abbrev WakesNow : Bool → World Q × Effect → Type 0
-  WakesNow b did = Queues (if b && is_accepted did.1.answer && releases_nobody did.1.releases then n + 1 else n) (tally (task did.0 t))
+  WakesNow b did = QueuedWakeups (if b && is_accepted did.1.answer && releases_nobody did.1.releases then n + 1 else n) (tally (task did.0 t))
 
-  nobody_wakes : (b : Bool) (v : World Q) (c : Code) → is_accepted (refused c).answer ≡ false → Queues n (tally (task v t)) → WakesNow b (v, refused c)
+  nobody_wakes : (b : Bool) (v : World Q) (c : Code) → is_accepted (refused c).answer ≡ false → QueuedWakeups n (tally (task v t)) → WakesNow b (v, refused c)
   nobody_wakes b v c none h =
-      subst (λ (m : ℕ). Queues m (tally (task v t))) (sym (cond-false (b && is_accepted (refused c).answer && true) (n + 1) n (ap (λ (x : Bool). x && true) (not_both b _ none)))) h
+      subst (λ (m : ℕ). QueuedWakeups m (tally (task v t))) (sym (cond-false (b && is_accepted (refused c).answer && true) (n + 1) n (ap (λ (x : Bool). x && true) (not_both b _ none)))) h
 
   -- a wakeup that is queued, or releases
   queue_wup : (b : Bool) (o : Option Task) → b ≡ ((the o).number == t.number) → (task w (the o)).active ≡ true → WakesNow b (wup k w o).effect
@@ -153,10 +153,10 @@ module _ {Q : Type 0} (k : Ordering Q) (w : World Q) (p : Proc) (t : Task) (n : 
       let r : TaskRecord = record (task w u) { wakeups = (task w u).wakeups + 1 } in
       cond_both (is_sleep (task w u).wait) _ _ (WakesNow b)
       (λ _.
-      subst (λ (m : ℕ). Queues m (tally (task (words.make_ready k w u) t))) (sym (cond-false (b && true && false) (n + 1) n (not_both (b && true) false refl)))
+      subst (λ (m : ℕ). QueuedWakeups m (tally (task (words.make_ready k w u) t))) (sym (cond-false (b && true && false) (n + 1) n (not_both (b && true) false refl)))
       (spared_queue w t n old (words.make_ready k w u) (spares_ready t w k u)))
       (λ _.
-      subst (λ (x : Bool). Queues (if x then n + 1 else n) (tally (task (with_task w u r) t))) (sym (with_true (b && true) ∙ with_true b))
+      subst (λ (x : Bool). QueuedWakeups (if x then n + 1 else n) (tally (task (with_task w u r) t))) (sym (with_true (b && true) ∙ with_true b))
       (queue_changed w t n old here u (with_task w u r) r refl (n + 1) b same
       (λ h. record { active = λ e. ap (λ (m : ℕ). m + 1) (h.active e); dormant = λ e. absurd (both_ways _ e active) })))
 
@@ -198,7 +198,7 @@ module _ {Q : Type 0} (k : Ordering Q) (w : World Q) (p : Proc) (t : Task) (n : 
       let b : Bool = names_task t (runner_of w p) id in
       by_called w p (QueuesNow (call.Task (tasks.CanWup id))) (can_wup w o) (refl, tt) (refused_queue (call.Task (tasks.CanWup id)))
       (λ a.
-      subst (λ (x : Bool). Queues (if x then 0 else n) (tally (task (with_task w (the o) r) t))) (sym (with_true b))
+      subst (λ (x : Bool). QueuedWakeups (if x then 0 else n) (tally (task (with_task w (the o) r) t))) (sym (with_true b))
       (queue_changed w t n old here (the o) (with_task w (the o) r) r refl 0 b (named_or_caller_is w p t id few (from_task w p false false a.rule) a.known)
       (λ h. record { active = λ e. refl; dormant = λ e. refl })))
   queue_task (tasks.RelWai id) = kept (rel_wai k w (task_named w id)) (spared_queue w t n old _ (spares_rel k w p t (task_named w id)))
@@ -209,18 +209,18 @@ module _ {Q : Type 0} (k : Ordering Q) (w : World Q) (p : Proc) (t : Task) (n : 
 
   queue_call : (c : Call) → QueuesNow c (called w p (row_of k w p c))
   queue_call (call.Task c) = queue_task c
-  queue_call c = subst (Queues n) (sym (tally_call k w p t c refl)) old
+  queue_call c = subst (QueuedWakeups n) (sym (tally_call k w p t c refl)) old
 
 -- after each step as many wakeups are queued as its record says
-pub queue_step : {Q : Type 0} (k : Ordering Q) (w : World Q) (t : Task) (n : ℕ) → Queues n (tally (task w t)) → length w.tasks ≤ 64 → t.number ≤ length w.tasks → (e : Event) →
-    Queues (queued_after t (step k w e).1 n) (tally (task (step k w e).0 t))
+pub queue_step : {Q : Type 0} (k : Ordering Q) (w : World Q) (t : Task) (n : ℕ) → QueuedWakeups n (tally (task w t)) → length w.tasks ≤ 64 → t.number ≤ length w.tasks → (e : Event) →
+    QueuedWakeups (queued_after t (step k w e).1 n) (tally (task (step k w e).0 t))
 queue_step k w t n old few here e =
-    by_event k w (λ v r. Queues (queued_after t r n) (tally (task v t))) (λ v cs r x ps h. h)
+    by_event k w (λ v r. QueuedWakeups (queued_after t r n) (tally (task v t))) (λ v cs r x ps h. h)
     (λ p c. queue_call k w p t n old few here c)
     (λ p c.
     let r : Record = told (event.Call p c) (runner_of w p) (plain answer.Idle) in
-    subst (λ (m : ℕ). Queues m (tally (task w t))) (sym (nothing_queued t r n refl (idle_ends t (runner_of w p) (event.Call p c)))) old)
-    (λ p. subst (Queues n) (sym (spares_tick k p t w)) old) (λ p. old) (λ p. old) (λ p a h. old) e
+    subst (λ (m : ℕ). QueuedWakeups m (tally (task w t))) (sym (nothing_queued t r n refl (idle_ends t (runner_of w p) (event.Call p c)))) old)
+    (λ p. subst (QueuedWakeups n) (sym (spares_tick k p t w)) old) (λ p. old) (λ p. old) (λ p a h. old) e
 
 -- What is taken was queued.
 
@@ -238,7 +238,7 @@ nothing_asked t n r no_sleep no_cancel = record {
   cancelled = λ e. absurd (both_ways _ no_cancel (and_parts (cancels t r.runner r.event) (is_accepted r.answer) e).0);
 }
 
-module _ {Q : Type 0} (k : Ordering Q) (w : World Q) (p : Proc) (t : Task) (n : ℕ) (old : Queues n (tally (task w t))) (few : length w.tasks ≤ 64) (s : Safe k w) where
+module _ {Q : Type 0} (k : Ordering Q) (w : World Q) (p : Proc) (t : Task) (n : ℕ) (old : QueuedWakeups n (tally (task w t))) (few : length w.tasks ≤ 64) (s : Safe k w) where
   abbrev Takes : Call → World Q × Effect → Type 0
   Takes c did = TakesWhatIsQueued t n (told (event.Call p c) (runner_of w p) did.1)
 
@@ -251,7 +251,7 @@ module _ {Q : Type 0} (k : Ordering Q) (w : World Q) (p : Proc) (t : Task) (n : 
       let u : Task = caller w p in
       let here : u ≡ t = task_same u t (eqb-true u.number t.number (sym (is_caller_of w p t f) ∙ same)) in
       let active : (task w u).active ≡ true = (running_may k w p s u f.running).active in
-      let queue : Queues n (tally (task w u)) = subst (λ (x : Task). Queues n (tally (task w x))) (sym here) old in
+      let queue : QueuedWakeups n (tally (task w u)) = subst (λ (x : Task). QueuedWakeups n (tally (task w x))) (sym here) old in
       omega (arith, ltb-true 0 (task w u).wakeups some, queue.active active)
 
   abbrev SleepTakes : World Q × Effect → Type 0
@@ -281,7 +281,7 @@ module _ {Q : Type 0} (k : Ordering Q) (w : World Q) (p : Proc) (t : Task) (n : 
         cancelled = λ e.
             let same : (u.number == t.number) ≡ true = sym (named_or_caller_is w p t id few (from_task w p false false a.rule) a.known) ∙ (and_parts _ true e).0 in
             let here : u ≡ t = task_same u t (eqb-true u.number t.number same) in
-            let queue : Queues n (tally (task w u)) = subst (λ (x : Task). Queues n (tally (task w x))) (sym here) old in
+            let queue : QueuedWakeups n (tally (task w u)) = subst (λ (x : Task). QueuedWakeups n (tally (task w x))) (sym here) old in
             ap (λ (m : ℕ). Some (pos m)) (queue.active (not-false _ a.errors.0));
       })
   takes_task c = nothing_asked t n (told (event.Call p (call.Task c)) (runner_of w p) (called w p (task_row k w p c)).1) refl refl
@@ -291,7 +291,7 @@ module _ {Q : Type 0} (k : Ordering Q) (w : World Q) (p : Proc) (t : Task) (n : 
   takes_call c = nothing_asked t n (told (event.Call p c) (runner_of w p) (called w p (row_of k w p c)).1) refl refl
 
 -- each step takes only what is queued
-pub takes_step : {Q : Type 0} (k : Ordering Q) (w : World Q) (t : Task) (n : ℕ) → Queues n (tally (task w t)) → length w.tasks ≤ 64 → Safe k w → (e : Event) → TakesWhatIsQueued t n (step k w e).1
+pub takes_step : {Q : Type 0} (k : Ordering Q) (w : World Q) (t : Task) (n : ℕ) → QueuedWakeups n (tally (task w t)) → length w.tasks ≤ 64 → Safe k w → (e : Event) → TakesWhatIsQueued t n (step k w e).1
 takes_step k w t n old few s e =
     by_event k w (λ v r. TakesWhatIsQueued t n r) (λ v cs r x ps h. record { taken = h.taken; cancelled = h.cancelled }) (λ p c. takes_call k w p t n old few s c)
     (λ p c. nothing_taken t n (told (event.Call p c) (runner_of w p) (plain answer.Idle)) refl)

@@ -7,7 +7,7 @@
 //! `Dtq::new` takes the memory for as many values as the configuration says. No other call allocates.
 #![tactic(auto)]
 
-ghost use Rattle.std.specs.Prelude.{◌≡◌, ◌≤◌, ◌<◌, ◌++◌, ◌∷◌, [], length, map, ℤ, Some, IfOk, IsTrue};
+ghost use Rattle.std.specs.Prelude.{◌≡◌, ◌≤◌, ◌<◌, ◌++◌, ◌∷◌, [], length, map, slice_get, ℤ, Some, IfOk, IsTrue};
 ghost use Rattle.fmp_machine.specs.World.{first, rest};
 ghost use Rattle.fmp_links.specs.Tasks.{AreDistinct};
 ghost use Rattle.fmp_waitq.specs.Queue.{task_of, has_waiter, left_by, joined_by, waiter_of};
@@ -83,6 +83,13 @@ impl Dtq {
         ensures { result ≡ first self.now.values }
     {
         self.values.front().copied()
+    }
+
+    /// The value at a place behind the oldest one, if there are so many.
+    pub fn value(&self, index: usize) -> Option<i64>
+        ensures { result ≡ slice_get self.now.values index }
+    {
+        self.values.get(index).copied()
     }
 
     /// Takes out its oldest value, if it has one.

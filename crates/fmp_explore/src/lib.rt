@@ -6,4 +6,5 @@ mod space;
 mod ticks;
 mod walker;
 
+pub use sights::{has_to_look, is_over, look, put_sight};
 pub use walker::Walker;

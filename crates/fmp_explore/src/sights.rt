@@ -40,7 +40,7 @@ fn are_idle(config: &Config, kernel: &Kernel) -> bool
 
 /// Whether nothing can change any more.
 #[tactic(auto, unfolding(fmp_orders::specs::Sights::is_over))]
-pub(crate) fn is_over(config: &Config, rules: Rules, taken: &[u32; 8], kernel: &Kernel) -> bool
+pub fn is_over(config: &Config, rules: Rules, taken: &[u32; 8], kernel: &Kernel) -> bool
     ensures { result ≡ sights.is_over config.now rules (count_in taken.now) kernel.now }
 {
     are_idle(config, kernel) && (kernel.is_untimed() || is_out_of_time(config, rules, taken))
@@ -48,7 +48,7 @@ pub(crate) fn is_over(config: &Config, rules: Rules, taken: &[u32; 8], kernel: &
 
 /// Replaces a text by the lines of an event: its line of a trace with the number 1, those of the state after it, and `end` where
 /// nothing can change any more.
-pub(crate) fn put_sight(
+pub fn put_sight(
     text: &mut Vec<u8>,
     names: &Names,
     kernel: &Kernel,
@@ -67,7 +67,7 @@ pub(crate) fn put_sight(
 
 /// Whether it may depend on the lines of an event whether it may be marked so, where so many steps of the question were seen.
 #[tactic(auto, unfolding(fmp_question::specs::Questions::allows))]
-pub(crate) fn has_to_look(question: &Question, seen: u32, marked: bool) -> bool
+pub fn has_to_look(question: &Question, seen: u32, marked: bool) -> bool
     ensures { result ≡ false → (text : List ℕ) → spec.allows question.now seen marked text ≡ not marked }
 {
     match question.steps().get(seen as usize) {
@@ -78,7 +78,7 @@ pub(crate) fn has_to_look(question: &Question, seen: u32, marked: bool) -> bool
 
 /// Whether an event may be marked so, where so many steps of the question were seen. A number of one digit and a blank stand before its
 /// lines.
-pub(crate) fn look(
+pub fn look(
     line: &mut Vec<u8>,
     text: &[u8],
     question: &Question,

@@ -80,7 +80,7 @@ pub struct ExploreRequest<'a> {
 }
 
 /// An option with a value that has to be given.
-fn wanted<'a>(alloc: Global, id: &'a str, value: &'a str, about: &'a str) -> Arg<'a>
+pub fn wanted<'a>(alloc: Global, id: &'a str, value: &'a str, about: &'a str) -> Arg<'a>
     ensures kind { IsOptional result id.entry.now }
     ensures rule { rule_of result ≡ wanted_rule id.entry.now }
 {
@@ -105,7 +105,7 @@ fn value<'a>(alloc: Global, id: &'a str, about: &'a str) -> Arg<'a>
 }
 
 /// An option without a value.
-fn flag<'a>(alloc: Global, id: &'a str, about: &'a str) -> Arg<'a>
+pub fn flag<'a>(alloc: Global, id: &'a str, about: &'a str) -> Arg<'a>
     ensures kind { IsOptional result id.entry.now }
     ensures rule { rule_of result ≡ flag_rule id.entry.now }
 {
@@ -188,7 +188,7 @@ pub fn explore_command<'a>(alloc: Global) -> Result<Command<'a>, AllocError>
 }
 
 /// The value of an option, or nothing.
-fn text_in<'a>(matches: &ArgMatches<'a>, id: &str) -> &'a str
+pub fn text_in<'a>(matches: &ArgMatches<'a>, id: &str) -> &'a str
     ensures { result.now ≡ text_of id.now (rows_in matches.now) }
 {
     matches.get_str(id).unwrap_or("")

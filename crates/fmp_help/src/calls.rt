@@ -57,6 +57,7 @@ fn written(kind: ArgumentKind) -> &'static [u8]
     }
 }
 
+/// Adds the kinds of a call's arguments, with commas between them.
 fn put_kinds(out: &mut Vec<u8>, kinds: &[ArgumentKind]) -> Result<(), AllocError>
     ensures { OnOk result (out.new.items ≡ out.old.items ++ spec.kinds_from 0 kinds.now) }
 {
@@ -96,6 +97,7 @@ pub fn put_argument(out: &mut Vec<u8>, kind: ArgumentKind) -> Result<(), AllocEr
     out.extend_from_slice(b"\n")
 }
 
+/// Adds for each of these kinds of arguments what may be written.
 fn put_arguments(out: &mut Vec<u8>, kinds: &[ArgumentKind]) -> Result<(), AllocError>
     ensures { OnOk result (out.new.items ≡ out.old.items ++ spec.arguments_of kinds.now) }
 {
@@ -114,6 +116,7 @@ pub(crate) fn put_about(out: &mut Vec<u8>, call: Call) -> Result<(), AllocError>
     put_arguments(out, form(call).kinds)
 }
 
+/// Adds a line for each of these calls on tasks.
 #[tactic(auto, unfolding(crate::specs::Calls::lines_of))]
 fn put_task_lines(out: &mut Vec<u8>, calls: &[TaskCall]) -> Result<(), AllocError>
     ensures { OnOk result (out.new.items ≡ out.old.items ++ spec.lines_of families.Task calls.now) }
@@ -124,6 +127,7 @@ fn put_task_lines(out: &mut Vec<u8>, calls: &[TaskCall]) -> Result<(), AllocErro
     Ok(())
 }
 
+/// Adds a line for each of these calls on semaphores and eventflags.
 #[tactic(auto, unfolding(crate::specs::Calls::lines_of))]
 fn put_sync_lines(out: &mut Vec<u8>, calls: &[SyncCall]) -> Result<(), AllocError>
     ensures { OnOk result (out.new.items ≡ out.old.items ++ spec.lines_of families.Sync calls.now) }
@@ -134,6 +138,7 @@ fn put_sync_lines(out: &mut Vec<u8>, calls: &[SyncCall]) -> Result<(), AllocErro
     Ok(())
 }
 
+/// Adds a line for each of these calls on data queues and pools.
 #[tactic(auto, unfolding(crate::specs::Calls::lines_of))]
 fn put_buffer_lines(out: &mut Vec<u8>, calls: &[BufferCall]) -> Result<(), AllocError>
     ensures { OnOk result (out.new.items ≡ out.old.items ++ spec.lines_of families.Buffer calls.now) }
@@ -144,6 +149,7 @@ fn put_buffer_lines(out: &mut Vec<u8>, calls: &[BufferCall]) -> Result<(), Alloc
     Ok(())
 }
 
+/// Adds a line for each of these calls on cyclic handlers and alarms.
 #[tactic(auto, unfolding(crate::specs::Calls::lines_of))]
 fn put_time_lines(out: &mut Vec<u8>, calls: &[TimeCall]) -> Result<(), AllocError>
     ensures { OnOk result (out.new.items ≡ out.old.items ++ spec.lines_of families.Time calls.now) }
@@ -154,6 +160,7 @@ fn put_time_lines(out: &mut Vec<u8>, calls: &[TimeCall]) -> Result<(), AllocErro
     Ok(())
 }
 
+/// Adds a line for each of these calls on the processors and the state of dispatching.
 #[tactic(auto, unfolding(crate::specs::Calls::lines_of))]
 fn put_system_lines(out: &mut Vec<u8>, calls: &[SystemCall]) -> Result<(), AllocError>
     ensures { OnOk result (out.new.items ≡ out.old.items ++ spec.lines_of families.System calls.now) }
@@ -164,6 +171,7 @@ fn put_system_lines(out: &mut Vec<u8>, calls: &[SystemCall]) -> Result<(), Alloc
     Ok(())
 }
 
+/// Adds a line for each of these calls on spin locks.
 #[tactic(auto, unfolding(crate::specs::Calls::lines_of))]
 fn put_spin_lines(out: &mut Vec<u8>, calls: &[SpinCall]) -> Result<(), AllocError>
     ensures { OnOk result (out.new.items ≡ out.old.items ++ spec.lines_of families.Spin calls.now) }
@@ -174,6 +182,7 @@ fn put_spin_lines(out: &mut Vec<u8>, calls: &[SpinCall]) -> Result<(), AllocErro
     Ok(())
 }
 
+/// Adds a line for each call on tasks.
 #[tactic(auto, unfolding(crate::specs::Calls::task_calls))]
 fn put_task_calls(out: &mut Vec<u8>) -> Result<(), AllocError>
     ensures { OnOk result (out.new.items ≡ out.old.items ++ spec.task_calls) }
@@ -181,6 +190,7 @@ fn put_task_calls(out: &mut Vec<u8>) -> Result<(), AllocError>
     put_task_lines(out, TASK_CALLS)
 }
 
+/// Adds a line for each call on semaphores and eventflags.
 #[tactic(auto, unfolding(crate::specs::Calls::sync_calls))]
 fn put_sync_calls(out: &mut Vec<u8>) -> Result<(), AllocError>
     ensures { OnOk result (out.new.items ≡ out.old.items ++ spec.sync_calls) }
@@ -188,6 +198,7 @@ fn put_sync_calls(out: &mut Vec<u8>) -> Result<(), AllocError>
     put_sync_lines(out, SYNC_CALLS)
 }
 
+/// Adds a line for each call on data queues and pools.
 #[tactic(auto, unfolding(crate::specs::Calls::buffer_calls))]
 fn put_buffer_calls(out: &mut Vec<u8>) -> Result<(), AllocError>
     ensures { OnOk result (out.new.items ≡ out.old.items ++ spec.buffer_calls) }
@@ -195,6 +206,7 @@ fn put_buffer_calls(out: &mut Vec<u8>) -> Result<(), AllocError>
     put_buffer_lines(out, BUFFER_CALLS)
 }
 
+/// Adds a line for each call on cyclic handlers and alarms.
 #[tactic(auto, unfolding(crate::specs::Calls::time_calls))]
 fn put_time_calls(out: &mut Vec<u8>) -> Result<(), AllocError>
     ensures { OnOk result (out.new.items ≡ out.old.items ++ spec.time_calls) }
@@ -202,6 +214,7 @@ fn put_time_calls(out: &mut Vec<u8>) -> Result<(), AllocError>
     put_time_lines(out, TIME_CALLS)
 }
 
+/// Adds a line for each call on the processors and the state of dispatching.
 #[tactic(auto, unfolding(crate::specs::Calls::system_calls))]
 fn put_system_calls(out: &mut Vec<u8>) -> Result<(), AllocError>
     ensures { OnOk result (out.new.items ≡ out.old.items ++ spec.system_calls) }
@@ -209,6 +222,7 @@ fn put_system_calls(out: &mut Vec<u8>) -> Result<(), AllocError>
     put_system_lines(out, SYSTEM_CALLS)
 }
 
+/// Adds a line for each call on spin locks.
 #[tactic(auto, unfolding(crate::specs::Calls::spin_calls))]
 fn put_spin_calls(out: &mut Vec<u8>) -> Result<(), AllocError>
     ensures { OnOk result (out.new.items ≡ out.old.items ++ spec.spin_calls) }

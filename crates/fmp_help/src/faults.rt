@@ -91,6 +91,7 @@ fn text_advice(kind: TextKind) -> &'static [u8]
     }
 }
 
+/// Adds the line of a fault of a configuration: its number and its words.
 #[tactic(auto, unfolding(crate::specs::Faults::config_line))]
 fn put_config_line(out: &mut Vec<u8>, kind: ConfigKind) -> Result<(), AllocError>
     ensures { OnOk result (out.new.items ≡ out.old.items ++ spec.config_line kind) }
@@ -101,6 +102,7 @@ fn put_config_line(out: &mut Vec<u8>, kind: ConfigKind) -> Result<(), AllocError
     out.extend_from_slice(b"\n")
 }
 
+/// Adds the line of a fault of events, scripts or a trace: its number and its words.
 #[tactic(auto, unfolding(crate::specs::Faults::text_line))]
 fn put_text_line(out: &mut Vec<u8>, kind: TextKind) -> Result<(), AllocError>
     ensures { OnOk result (out.new.items ≡ out.old.items ++ spec.text_line kind) }
@@ -111,6 +113,7 @@ fn put_text_line(out: &mut Vec<u8>, kind: TextKind) -> Result<(), AllocError>
     out.extend_from_slice(b"\n")
 }
 
+/// Adds the line of what to do about a fault.
 #[tactic(auto, unfolding(crate::specs::Faults::advice_line))]
 fn put_advice(out: &mut Vec<u8>, advice: &[u8]) -> Result<(), AllocError>
     ensures { OnOk result (out.new.items ≡ out.old.items ++ spec.advice_line advice.now) }
@@ -152,6 +155,7 @@ pub(crate) fn put_about_text(out: &mut Vec<u8>, kind: TextKind) -> Result<(), Al
     put_advice(out, text_advice(kind))
 }
 
+/// Adds a line for each of these faults of a configuration.
 fn put_config_lines(out: &mut Vec<u8>, kinds: &[ConfigKind]) -> Result<(), AllocError>
     ensures { OnOk result (out.new.items ≡ out.old.items ++ spec.config_lines kinds.now) }
 {
@@ -169,6 +173,7 @@ pub(crate) fn put_config_faults(out: &mut Vec<u8>) -> Result<(), AllocError>
     put_config_lines(out, &CONFIG_KINDS)
 }
 
+/// Adds a line for each of these faults of events, scripts or a trace.
 fn put_text_lines(out: &mut Vec<u8>, kinds: &[TextKind]) -> Result<(), AllocError>
     ensures { OnOk result (out.new.items ≡ out.old.items ++ spec.text_lines kinds.now) }
 {

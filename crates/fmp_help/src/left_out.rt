@@ -48,6 +48,7 @@ const NAMES: [&[u8]; 32] = [
     b"TMO_NBLK",
 ];
 
+/// Whether a word begins with one of these.
 fn begins_with_one(beginnings: &[&[u8]], word: &[u8]) -> bool
     ensures { result ≡ list_any (λ beginning. starts_with ◌==◌ word.now beginning.now) beginnings.now }
 {
@@ -56,12 +57,14 @@ fn begins_with_one(beginnings: &[&[u8]], word: &[u8]) -> bool
         .any(|beginning| word.starts_with(beginning))
 }
 
+/// Whether a word ends with one of these.
 fn ends_with_one(endings: &[&[u8]], word: &[u8]) -> bool
     ensures { result ≡ list_any (λ ending. ends_with ◌==◌ word.now ending.now) endings.now }
 {
     endings.iter().any(|ending| word.ends_with(ending))
 }
 
+/// Whether a word is one of these names.
 fn is_one(names: &[&[u8]], word: &[u8]) -> bool
     ensures { result ≡ list_any (λ name. bytes_eq name.now word.now) names.now }
 {

@@ -31,6 +31,7 @@ pub fn everything(alloc: Global) -> Result<Vec<u8>, AllocError>
     Ok(out)
 }
 
+/// Adds that a service call or a statement is left out.
 #[tactic(auto, unfolding(crate::specs::Listing::left_out_line))]
 fn put_left_out(out: &mut Vec<u8>, word: &[u8]) -> Result<(), AllocError>
     ensures { OnOk result (out.new.items ≡ out.old.items ++ spec.left_out_line word.now) }

@@ -7,11 +7,13 @@ use fmp_statements::{Attribute, Item, Part, Range, STATEMENT_NAMES, StatementNam
 use itoa::Buffer;
 use std::alloc::AllocError;
 
-/// The most processors and priorities that a machine may have.
+/// The most processors that a machine may have.
 const MOST_PROCESSORS: u8 = 8;
 
+/// The most priorities that a machine may have.
 const MOST_PRIORITIES: u8 = 32;
 
+/// The word for an item of a statement.
 fn word_of(item: Item) -> &'static [u8]
     ensures { result.now ≡ spec.word_of item }
 {
@@ -26,6 +28,7 @@ fn word_of(item: Item) -> &'static [u8]
     }
 }
 
+/// Adds a part of a statement as it is written.
 #[tactic(auto, unfolding(crate::specs::Statements::part_of))]
 fn put_part(out: &mut Vec<u8>, part: Part) -> Result<(), AllocError>
     ensures { OnOk result (out.new.items ≡ out.old.items ++ spec.part_of part) }
@@ -45,6 +48,7 @@ fn put_part(out: &mut Vec<u8>, part: Part) -> Result<(), AllocError>
     }
 }
 
+/// Adds the parts of a statement, one behind the other.
 fn put_parts(out: &mut Vec<u8>, parts: &[Part]) -> Result<(), AllocError>
     ensures { OnOk result (out.new.items ≡ out.old.items ++ spec.parts_of parts.now) }
 {
@@ -64,6 +68,7 @@ fn put_statement(out: &mut Vec<u8>, name: StatementName) -> Result<(), AllocErro
     out.extend_from_slice(b"\n")
 }
 
+/// Adds attributes, each behind a blank.
 #[tactic(auto, unfolding(crate::specs::Statements::attributes_of))]
 fn put_attributes(out: &mut Vec<u8>, attributes: &[Attribute]) -> Result<(), AllocError>
     ensures { OnOk result (out.new.items ≡ out.old.items ++ spec.attributes_of attributes.now) }
@@ -75,6 +80,7 @@ fn put_attributes(out: &mut Vec<u8>, attributes: &[Attribute]) -> Result<(), All
     Ok(())
 }
 
+/// What stands before the attributes.
 #[tactic(auto, unfolding(crate::specs::Statements::attribute_label))]
 fn attribute_label() -> &'static [u8]
     ensures { result.now ≡ spec.attribute_label }
@@ -82,6 +88,7 @@ fn attribute_label() -> &'static [u8]
     b"  attribute:"
 }
 
+/// What stands before the range of the first number.
 #[tactic(auto, unfolding(crate::specs::Statements::first_label))]
 fn first_label() -> &'static [u8]
     ensures { result.now ≡ spec.first_label }
@@ -89,6 +96,7 @@ fn first_label() -> &'static [u8]
     b"  first number: within "
 }
 
+/// What stands before the range of the second number.
 #[tactic(auto, unfolding(crate::specs::Statements::second_label))]
 fn second_label() -> &'static [u8]
     ensures { result.now ≡ spec.second_label }
@@ -96,6 +104,7 @@ fn second_label() -> &'static [u8]
     b"  second number: within "
 }
 
+/// Adds the line of these attributes.
 #[tactic(auto, unfolding(crate::specs::Statements::attributes_line))]
 fn put_attributes_line(out: &mut Vec<u8>, attributes: &[Attribute]) -> Result<(), AllocError>
     ensures { OnOk result (out.new.items ≡ out.old.items ++ spec.attributes_line attributes.now) }
@@ -105,6 +114,7 @@ fn put_attributes_line(out: &mut Vec<u8>, attributes: &[Attribute]) -> Result<()
     out.extend_from_slice(b"\n")
 }
 
+/// Adds the line of the attributes that a kind of objects allows.
 #[tactic(auto, unfolding(crate::specs::Statements::allowed_to))]
 fn put_allowed(out: &mut Vec<u8>, kind: ObjectKind) -> Result<(), AllocError>
     ensures { OnOk result (out.new.items ≡ out.old.items ++ spec.allowed_to kind) }
@@ -123,6 +133,7 @@ fn put_allowed_line(out: &mut Vec<u8>, name: StatementName) -> Result<(), AllocE
     }
 }
 
+/// Adds a number in decimal digits.
 fn put_number(out: &mut Vec<u8>, number: u64) -> Result<(), AllocError>
     ensures { OnOk result (out.new.items ≡ out.old.items ++ decimal number) }
 {
@@ -167,6 +178,7 @@ pub fn put_about(out: &mut Vec<u8>, name: StatementName) -> Result<(), AllocErro
     put_ranges(out, name)
 }
 
+/// Adds a line for each of these statements.
 fn put_lines(out: &mut Vec<u8>, names: &[StatementName]) -> Result<(), AllocError>
     ensures { OnOk result (out.new.items ≡ out.old.items ++ spec.lines_of names.now) }
 {

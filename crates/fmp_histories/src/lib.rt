@@ -9,4 +9,4 @@ mod choice;
 mod positions;
 
 pub use choice::asked_at;
-pub use positions::{advance_handler, advance_task, is_taken, processor_of};
+pub use positions::{advance_handler, advance_task, is_taken};

@@ -1,20 +1,21 @@
 //! The state of the kernel. Where there is none of a number, a read gives a blank record and a write does nothing.
-ghost use Rattle.std.specs.Prelude.{◌≡◌, ◌≤◌, ◌&&◌, true, [], None, is_none, length, IfOk, IsTrue, ◌↔◌};
+ghost use Rattle.std.specs.Prelude.{◌≡◌, ◌≤◌, ◌&&◌, true, [], None, is_none, length, slice_get, IfOk, IsTrue, ◌↔◌};
 ghost use Rattle.std.specs.List.{list_all};
 ghost use Rattle.fmp_codes.specs.declared.numbers.Task.{Task as AnyTask};
 ghost use Rattle.fmp_links.specs.Tasks.{has_task};
 ghost use Rattle.fmp_machine.specs.Boot.{blank};
 ghost use Rattle.fmp_machine.specs.Due.{IsNextDue};
 ghost use Rattle.fmp_kernel_machine.specs.Alike.{AreAlike};
+ghost use Rattle.fmp_machine.specs.Objects.{pool, values};
 ghost use Rattle.fmp_machine.specs.World.{item};
 ghost use Rattle.fmp_listed.specs.Queues.{listed, no_queues};
 
 use arrayvec::ArrayVec;
-use fmp_codes::{Pri, Proc, Runner, Task};
+use fmp_codes::{Object, Pri, Proc, Runner, Task};
 use fmp_dispatch::Dispatch;
 use fmp_kernel_objects::Resources;
 use fmp_kernel_time::Assigned;
-use fmp_machine::Config;
+use fmp_machine::{Config, Pool};
 use fmp_parts::{Digest, Part};
 use fmp_ready::ReadyQueues;
 use fmp_same::Same;
@@ -88,11 +89,39 @@ impl KernelMachine {
         self.assigned.wait_left(t)
     }
 
+    /// The ticks left of a cyclic handler, where it is started.
+    pub fn cyclic_left(&self, c: Object) -> Option<u64>
+        ensures { result ≡ item None self.now.cyclics_left c.number }
+    {
+        self.assigned.cyclic_left(c)
+    }
+
+    /// The ticks left of an alarm, where it is started.
+    pub fn alarm_left(&self, a: Object) -> Option<u64>
+        ensures { result ≡ item None self.now.alarms_left a.number }
+    {
+        self.assigned.alarm_left(a)
+    }
+
+    /// The value at a place behind the oldest one of a data queue, if there are so many.
+    pub fn value(&self, d: Object, index: usize) -> Option<i64>
+        ensures { result ≡ slice_get (values self.now d) index }
+    {
+        self.resources.value(d, index)
+    }
+
     /// The handlers that are due on a processor, the running one first.
     pub fn due(&self, p: Proc) -> ArrayVec<Runner, 64>
         ensures { result.items ≡ item [] self.now.due p.number }
     {
         self.dispatch.due(p)
+    }
+
+    /// A pool, with a mark for each block that is handed out.
+    pub fn pool(&self, m: Object) -> Pool
+        ensures { result ≡ pool self.now m }
+    {
+        self.resources.pool(m)
     }
 
     /// The least ticks left for which a tick on a processor counts, if there are some.

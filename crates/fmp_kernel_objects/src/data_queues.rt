@@ -1,5 +1,5 @@
 //! All data queues.
-ghost use Rattle.std.specs.Prelude.{◌≡◌, ◌≤◌, ◌<◌, ◌++◌, ◌∷◌, [], length, map, slice_index_or, slice_set, IfOk, IsTrue, ◌↔◌};
+ghost use Rattle.std.specs.Prelude.{◌≡◌, ◌≤◌, ◌<◌, ◌++◌, ◌∷◌, [], length, map, slice_get, slice_index_or, slice_set, IfOk, IsTrue, ◌↔◌};
 ghost use Rattle.fmp_machine.specs.Objects.{no_data_queue};
 ghost use Rattle.fmp_machine.specs.World.{first, rest, item, with_item};
 ghost use Rattle.fmp_setup.specs.declared.setup.Order.TheVariants as order;
@@ -176,6 +176,14 @@ impl DataQueues {
         ensures { result ≡ first (item [] self.now.contents o.number) }
     {
         self.items.get(o.index())?.first_value()
+    }
+
+    /// The value at a place behind the oldest one, if one has so many.
+    #[tactic(auto, using(crate::proofs::KindLists::values_at))]
+    pub(crate) fn value(&self, o: Object, index: usize) -> Option<i64>
+        ensures { result ≡ slice_get (item [] self.now.contents o.number) index }
+    {
+        self.items.get(o.index())?.value(index)
     }
 
     /// Takes the oldest value out of one, if it has one.

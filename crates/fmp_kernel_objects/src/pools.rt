@@ -8,7 +8,7 @@ ghost use Rattle.fmp_kernel_objects.specs.Kinds.{no_pool, is_handed_in};
 
 use arrayvec::ArrayVec;
 use fmp_codes::{Object, Pri, Task};
-use fmp_machine::{Order, PoolSetup};
+use fmp_machine::{Order, Pool, PoolSetup};
 use fmp_mpf::Mpf;
 use fmp_parts::{Digest, Part, add_all, are_same, copy_all};
 use std::alloc::{AllocError, Global};
@@ -93,6 +93,17 @@ impl Pools {
         match self.items.get(o.index()) {
             Some(pool) => pool.setup().order,
             None => Order::First,
+        }
+    }
+
+    /// One, with a mark for each block that is handed out.
+    #[tactic(auto, using(crate::proofs::KindLists::pool_at))]
+    pub(crate) fn pool(&self, o: Object) -> Pool
+        ensures { result ≡ item blank_pool self.now.pools o.number }
+    {
+        match self.items.get(o.index()) {
+            Some(pool) => pool.pool(),
+            None => Pool::default(),
         }
     }
 

@@ -1,5 +1,5 @@
 //! All objects for which tasks wait.
-ghost use Rattle.std.specs.Prelude.{◌≡◌, ◌≤◌, ◌<◌, ◌≤ℤ◌, ◌++◌, ◌∷◌, [], pos, not, length, map, take, slice_set, IfOk, IsTrue, ◌↔◌};
+ghost use Rattle.std.specs.Prelude.{◌≡◌, ◌≤◌, ◌<◌, ◌≤ℤ◌, ◌++◌, ◌∷◌, [], pos, not, length, map, take, slice_get, slice_set, IfOk, IsTrue, ◌↔◌};
 ghost use Rattle.std.specs.List.{position};
 ghost use Rattle.fmp_machine.specs.Objects.{blank_semaphore, blank_eventflag, no_data_queue, blank_pool};
 ghost use Rattle.fmp_machine.specs.World.{first, rest, item, with_item};
@@ -14,7 +14,7 @@ use crate::pools::Pools;
 use crate::semaphores::Semaphores;
 use arrayvec::ArrayVec;
 use fmp_codes::{Object, Pri, Task};
-use fmp_machine::{Config, DataQueueSetup, Eventflag, Order, QueueKind, Semaphore, Wait};
+use fmp_machine::{Config, DataQueueSetup, Eventflag, Order, Pool, QueueKind, Semaphore, Wait};
 use fmp_parts::{Digest, Part};
 use std::alloc::AllocError;
 use std::marker::Model;
@@ -227,6 +227,13 @@ impl Resources {
         self.data_queues.first_value(d)
     }
 
+    /// The value at a place behind the oldest one of a data queue, if there are so many.
+    pub fn value(&self, d: Object, index: usize) -> Option<i64>
+        ensures { result ≡ slice_get (item [] self.now.contents d.number) index }
+    {
+        self.data_queues.value(d, index)
+    }
+
     /// Takes the oldest value out of a data queue, if there is one.
     pub fn drop_value(&mut self, d: Object)
         ensures { let values = item [] self.old.contents d.number in
@@ -252,6 +259,13 @@ impl Resources {
         ensures few { result ≤ 32 }
     {
         self.pools.len()
+    }
+
+    /// A pool, with a mark for each block that is handed out.
+    pub fn pool(&self, m: Object) -> Pool
+        ensures { result ≡ item blank_pool self.now.pools m.number }
+    {
+        self.pools.pool(m)
     }
 
     /// The least block of a pool that is not handed out.

@@ -6,7 +6,6 @@ use crate::kernel_and_plain::{LOCAL, busy_processor, machine, same_record, stand
 use crate::random_calls::{RandomEvents, Range};
 use fmp_codes::{BufferCall, Call, Event, Proc, SyncCall, SystemCall, TaskCall, TimeCall};
 use fmp_config::read_config;
-use fmp_histories::processor_of;
 use fmp_kernel::Kernel;
 use fmp_part_tests::random::{Random, SEEDS};
 use std::alloc::Global;
@@ -49,6 +48,7 @@ fn go_on(
     }
 }
 
+/// Plays the events of a seed on a kernel of so many processors, and on a copy of it.
 fn play_both(rt: &impl Abort, alloc: Global, processors: usize, seed: u64) -> Result<(), Fail>
     requires least { 1 ≤ processors }
     requires most { processors ≤ 8 }
@@ -80,6 +80,7 @@ CLASS(C1) {
 CLASS(C2) { CRE_TSK(T3, {TA_ACT, 0, m, 4, 64, NULL}); }
 ";
 
+/// A call on the processor of this number.
 fn call(processor: u8, call: Call) -> Event
     requires least { 1 ≤ processor }
     requires most { processor ≤ 8 }
@@ -92,7 +93,7 @@ fn after(rt: &impl Abort, alloc: Global, events: &[Event]) -> Result<Kernel, Fai
     let config = read_config(alloc, WAYS.as_bytes())?;
     let mut kernel = Kernel::boot(&config)?;
     for event in events {
-        assert!(rt; processor_of(*event).index() < kernel.processors());
+        assert!(rt; event.processor().index() < kernel.processors());
         kernel.step(*event);
     }
     Ok(kernel)

@@ -147,11 +147,13 @@ fn same_queues(kernel: &Kernel, plain: &Plain, o: Object) -> bool {
         == machine.waiters(*kind, o).as_slice())
 }
 
+/// The kernel shows of all processors and queues what the plain machine has.
 fn same_views(kernel: &Kernel, plain: &Plain) -> bool {
     (0..kernel.processors()).all(|i| same_processor(kernel, plain, Proc::from_index(i)))
         && (1..=3u8).all(|n| same_queues(kernel, plain, Object::new(n)))
 }
 
+/// Whether two records are equal.
 pub fn same_record(a: &Record, b: &Record) -> bool {
     a.event == b.event
         && a.runner == b.runner
@@ -176,6 +178,7 @@ pub fn busy_processor(random: &mut RandomEvents, kernel: &Kernel, processors: us
     Proc::from_index(random.below(processors))
 }
 
+/// What goes on on a processor.
 pub fn standing(kernel: &Kernel, p: Proc) -> Standing {
     if kernel.handler(p).is_some() {
         Standing::Handler

@@ -25,6 +25,7 @@ fn call(on: Proc, call: Call, due: [Option<u64>; 2]) -> Row {
     }
 }
 
+/// A tick of a processor.
 fn tick(on: Proc, due: [Option<u64>; 2]) -> Row {
     Row {
         on,
@@ -33,6 +34,7 @@ fn tick(on: Proc, due: [Option<u64>; 2]) -> Row {
     }
 }
 
+/// The least ticks left of both processors.
 fn due(kernel: &Kernel) -> [Option<u64>; 2] {
     [kernel.next_due(Proc::new(1)), kernel.next_due(Proc::new(2))]
 }

@@ -52,10 +52,12 @@ impl RandomEvents {
         self.below(9) as i32
     }
 
+    /// A pattern of the lowest three bits.
     fn pattern(&mut self) -> u32 {
         self.below(8) as u32
     }
 
+    /// One of the two modes of a wait for an eventflag.
     fn mode(&mut self) -> Mode {
         if self.below(2) == 0 {
             Mode::Andw
@@ -64,7 +66,7 @@ impl RandomEvents {
         }
     }
 
-    /// Ends of tasks and waits for ever are rare, so that tasks go on to run.
+    /// A call on a task. Ends of tasks and waits for ever are rare, so that tasks go on to run.
     fn task_call(&mut self, tasks: usize, processors: usize) -> TaskCall
         requires tasks { tasks < 64 }
         requires processors { processors < 64 }
@@ -96,6 +98,7 @@ impl RandomEvents {
         }
     }
 
+    /// A call on a semaphore or an eventflag.
     fn sync_call(&mut self) -> SyncCall {
         let o = self.id(OBJECTS);
         let n = self.small();
@@ -115,6 +118,7 @@ impl RandomEvents {
         }
     }
 
+    /// A call on a data queue or a pool.
     fn buffer_call(&mut self) -> BufferCall {
         let o = self.id(OBJECTS);
         let n = self.small();
@@ -136,6 +140,7 @@ impl RandomEvents {
         }
     }
 
+    /// A call on a cyclic handler or an alarm.
     fn time_call(&mut self, processors: usize) -> TimeCall
         requires { processors < 64 }
     {
@@ -155,6 +160,7 @@ impl RandomEvents {
         }
     }
 
+    /// A call on the processors or the state of dispatching, and rather one that unlocks than one that locks.
     fn system_call(&mut self, processors: usize) -> SystemCall
         requires { processors < 64 }
     {
@@ -182,6 +188,7 @@ impl RandomEvents {
         }
     }
 
+    /// A call on a spin lock.
     fn spin_call(&mut self) -> SpinCall {
         let l = self.id(OBJECTS);
         match self.below(8) {
@@ -194,6 +201,7 @@ impl RandomEvents {
         }
     }
 
+    /// A call of any kind, `ret_hdr` among them.
     fn call(&mut self, range: Range) -> Call
         requires tasks { range.tasks < 64 }
         requires processors { range.processors < 64 }

@@ -114,6 +114,17 @@ impl Assigned {
         cyclic.unwrap_or(Cyclic::default())
     }
 
+    /// The ticks left of a cyclic handler, where it is started.
+    pub fn cyclic_left(&self, c: Object) -> Option<u64>
+        ensures { result ≡ item None self.now.cyclics_left c.number }
+    {
+        if c.index() < self.cyclics.len() {
+            self.timers.left(Item::Cyclic(c))
+        } else {
+            None
+        }
+    }
+
     /// How many cyclic handlers there are.
     pub fn cyclic_count(&self) -> usize
         ensures value { result ≡ length self.now.cyclics }
@@ -128,6 +139,17 @@ impl Assigned {
     {
         let alarm = self.alarms.as_slice().get(a.index()).copied();
         alarm.unwrap_or(Alarm::default())
+    }
+
+    /// The ticks left of an alarm, where it is started.
+    pub fn alarm_left(&self, a: Object) -> Option<u64>
+        ensures { result ≡ item None self.now.alarms_left a.number }
+    {
+        if a.index() < self.alarms.len() {
+            self.timers.left(Item::Alarm(a))
+        } else {
+            None
+        }
     }
 
     /// How many alarms there are.

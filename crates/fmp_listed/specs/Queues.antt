@@ -3,7 +3,7 @@ use Rattle.std.specs.Prelude.{ℕ, Option, None, Some, List, [], ◌∷◌, ◌+
 use Rattle.fmp_codes.specs.declared.numbers.Task.{Task}
 use Rattle.fmp_codes.specs.declared.numbers.Object.{Object}
 use Rattle.fmp_links.specs.Tasks.{without}
-use Rattle.fmp_ready.specs.Queues.{list_number, list_at, push_last, take_out, top_of}
+use Rattle.fmp_ready.specs.Queues.{list_number, queue_at, push_last, take_out, top_of}
 use Rattle.fmp_waitq.specs.Queue.{Waiter, task_of, waiter_of, left_by, joined_by}
 use Rattle.fmp_machine.specs.declared.machine.Wait.{Wait}
 use Rattle.fmp_machine.specs.declared.machine.Wait.TheVariants as wait
@@ -78,7 +78,7 @@ listed = record {
   put_last = λ q r t. record q { ready = push_last (take_out q.ready t) (list_number r.assigned r.priority) t };
   take_out = λ q r t. record q { ready = take_out q.ready t };
   top = λ q tasks p. top_of q.ready p;
-  ready = λ q tasks p n. list_at q.ready (list_number p n);
+  ready = λ q tasks p n. queue_at q.ready (list_number p n);
   join = λ q o r left t. record q {
     waits = changed q.waits (place_in r.wait) (joined_by (waiter_of o t r.priority));
     timed = timed_by left t q.timed;

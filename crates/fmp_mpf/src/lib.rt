@@ -15,10 +15,10 @@ ghost use Rattle.fmp_mpf.specs.Operations.{IsServed};
 mod marks;
 mod operations;
 
-use crate::marks::{first_free, is_marked, no_marks, with_mark};
+use crate::marks::{all_marks, first_free, is_marked, no_marks, with_mark};
 use arrayvec::ArrayVec;
 use fmp_codes::{Pri, Task};
-use fmp_machine::PoolSetup;
+use fmp_machine::{Pool, PoolSetup};
 use fmp_parts::{Digest, Part};
 use fmp_same::Same;
 use fmp_waitq::WaitQueue;
@@ -63,6 +63,16 @@ impl Mpf {
         ensures { result ≡ self.now.pool.setup }
     {
         self.setup
+    }
+
+    /// What the configuration says of it, and a mark for each block that is handed out.
+    pub fn pool(&self) -> Pool
+        ensures { result ≡ self.now.pool }
+    {
+        Pool {
+            setup: self.setup,
+            handed: all_marks(self.handed),
+        }
     }
 
     /// The least block that is not handed out.

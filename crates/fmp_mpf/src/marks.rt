@@ -31,6 +31,17 @@ pub(crate) fn is_marked(word: u64, block: u8) -> bool
     block < 64 && word >> block & 1 == 1
 }
 
+/// The marks of a word, one after the other.
+pub(crate) fn all_marks(word: u64) -> [bool; 64]
+    ensures { result ≡ marks word }
+{
+    let mut all = [false; 64];
+    for block in 0..64u8 {
+        all[usize::from(block)] = is_marked(word, block);
+    }
+    all
+}
+
 /// The word with a block marked or not.
 pub(crate) fn with_mark(word: u64, block: u8, marked: bool) -> u64
     ensures { marks result ≡ slice_set (marks word) block marked }

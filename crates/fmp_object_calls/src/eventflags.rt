@@ -48,10 +48,10 @@ fn cleared<M: Objects>(machine: &M, f: Object, x: u32) -> u32
 
 /// Sets the bits of an eventflag, and releases those of these tasks whose waits they meet, in their order. Each release is told
 /// as the last one.
-fn serve<M: Objects>(machine: &mut M, f: Object, x: u32, tasks: &[Task], told: &mut Releases)
-    requires few { length told.old + length tasks.now ≤ 64 }
+fn serve<M: Objects>(machine: &mut M, f: Object, x: u32, tasks: &[Task], releases: &mut Releases)
+    requires few { length releases.old + length tasks.now ≤ 64 }
     requires room { length tasks.now ≤ M.room machine.old }
-    ensures state { (M.world machine.new, told.new) ≡ and_releases told.old (served M.ordering (M.world machine.old) f x tasks.now) }
+    ensures state { (M.world machine.new, releases.new) ≡ and_releases releases.old (served M.ordering (M.world machine.old) f x tasks.now) }
     ensures room { M.room machine.old ≤ M.room machine.new + length tasks.now }
 {
     let mut bits = x;
@@ -60,7 +60,7 @@ fn serve<M: Objects>(machine: &mut M, f: Object, x: u32, tasks: &[Task], told: &
         if is_met(bits, wait) {
             let rest = cleared(machine, f, bits);
             make_ready(machine, *t);
-            told.push(Release {
+            releases.push(Release {
                 task: *t,
                 code: Code::Accepted,
                 value: Some(i64::from(bits)),
@@ -79,11 +79,11 @@ pub(crate) fn set_flg<M: Objects>(
     context: Context,
     id: i32,
     pattern: u32,
-    told: &mut Releases,
+    releases: &mut Releases,
 ) -> Result<Effect, Code>
     requires room { 64 ≤ M.room machine.old }
-    requires empty { told.old ≡ [] }
-    ensures row { let w = M.world machine.old in (M.world machine.new, adding told.new (effect_of result)) ≡ called w p (form_from context (set_flg M.ordering w id pattern)) }
+    requires empty { releases.old ≡ [] }
+    ensures row { let w = M.world machine.old in (M.world machine.new, adding releases.new (effect_of result)) ≡ called w p (form_from context (set_flg M.ordering w id pattern)) }
     ensures once { (effect_of result).releases ≡ [] }
     ensures room { M.room machine.old ≤ M.room machine.new + 64 }
 {
@@ -91,7 +91,7 @@ pub(crate) fn set_flg<M: Objects>(
     let f = eventflag_named(machine, id)?;
     let bits = machine.eventflag(f).pattern | pattern;
     let waiters = machine.waiters(QueueKind::Eventflag, f);
-    serve(machine, f, bits, waiters.as_slice(), told);
+    serve(machine, f, bits, waiters.as_slice(), releases);
     Ok(Effect::done())
 }
 

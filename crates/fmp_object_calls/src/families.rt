@@ -28,12 +28,12 @@ pub fn sync_call<M: Objects>(
     machine: &mut M,
     p: Proc,
     call: SyncCall,
-    told: &mut Releases,
+    releases: &mut Releases,
 ) -> Result<Effect, Code>
     requires room { 64 ≤ M.room machine.old }
-    requires empty { told.old ≡ [] }
-    ensures row { let w = M.world machine.old in (M.world machine.new, adding told.new (effect_of result)) ≡ called w p (sync_row M.ordering w p call) }
-    ensures once { TellsOnce told.new (effect_of result) }
+    requires empty { releases.old ≡ [] }
+    ensures row { let w = M.world machine.old in (M.world machine.new, adding releases.new (effect_of result)) ≡ called w p (sync_row M.ordering w p call) }
+    ensures once { TellsOnce releases.new (effect_of result) }
     ensures room { M.room machine.old ≤ M.room machine.new + 64 }
 {
     match call {
@@ -42,8 +42,15 @@ pub fn sync_call<M: Objects>(
         SyncCall::WaiSem(id) => twai_sem(machine, p, id, FOREVER),
         SyncCall::TwaiSem(id, timeout) => twai_sem(machine, p, id, timeout),
         SyncCall::PolSem(id) => pol_sem(machine, p, id),
-        SyncCall::SetFlg(id, pattern) => set_flg(machine, p, Context::Task, id, pattern, told),
-        SyncCall::IsetFlg(id, pattern) => set_flg(machine, p, Context::Handler, id, pattern, told),
+        SyncCall::SetFlg(id, pattern) => set_flg(machine, p, Context::Task, id, pattern, releases),
+        SyncCall::IsetFlg(id, pattern) => set_flg(
+            machine,
+            p,
+            Context::Handler,
+            id,
+            pattern,
+            releases,
+        ),
         SyncCall::ClrFlg(id, pattern) => clr_flg(machine, p, id, pattern),
         SyncCall::WaiFlg(id, pattern, mode) => twai_flg(machine, p, id, pattern, mode, FOREVER),
         SyncCall::TwaiFlg(id, pattern, mode, timeout) => {

@@ -150,9 +150,10 @@ function orderOf(p, n) {
 }
 const readyOf = (p, n) => orderOf(p, n).filter(t => t !== running(p, n));
 
-// The trace with its states, as `fmpsim calls --state` writes it: what the page shows where its address ends with #states.
+// The trace with its states, as `fmpsim calls --state` writes it but for the values in data queues and the ticks that handlers have left: what the
+// page shows where its address ends with #states.
 function statesText() {
-  const out = [];
+  const out = [], told = (word, number) => number ? ' ' + word + '=' + number : '';
   for (let n = 0; n <= N; n++) {
     if (n) out.push(line(n));
     for (let p = 1; p <= model.processors; p++) {
@@ -161,9 +162,13 @@ function statesText() {
         + list('due', due === '-' ? [] : due.split(',').map(objectName)));
     }
     model.tasks.forEach((task, i) => {
-      const { letter, kind, object, left } = wait(i + 1, n);
-      if ('wsx'.includes(letter)) out.push('  ' + task.name + (letter !== 'w' ? ' suspended' : '') + (kind ? ' waits ' + kind + (object ? ' ' + object : '') : '') + (left >= 0 ? ' left=' + left : ''));
+      const { letter, kind, object, left } = wait(i + 1, n), [, priority, activations, wakeups] = value('a' + (i + 1), n).split(' ').map(Number);
+      const numbers = letter === '-' ? '' : told('pri', priority === task.priority ? 0 : priority) + told('act', activations) + told('wup', wakeups);
+      if ('wsx'.includes(letter) || numbers) out.push('  ' + task.name + ('sx'.includes(letter) ? ' suspended' : '') + (kind ? ' waits ' + kind + (object ? ' ' + object : '') : '') + (left >= 0 ? ' left=' + left : '') + numbers);
     });
+    for (const [kind, word] of [['sem', ' count='], ['flg', ' pattern='], ['mpf', ' free='], ['spn', ' held=P']]) {
+      for (const o of model.objects) if (o.kind === kind && value(o.id, n) !== value(o.id, 0)) out.push('  ' + o.name + word + value(o.id, n));
+    }
     out.push('  end');
   }
   return out.join(LF) + LF;

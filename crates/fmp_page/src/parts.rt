@@ -24,6 +24,7 @@ pub fn put_tail(out: &mut Vec<u8>) -> Result<(), AllocError>
     out.extend_from_slice(CONTROLS)
 }
 
+/// Adds what stands before the name of a text.
 #[tactic(auto, unfolding(crate::specs::Parts::name_begin))]
 fn put_name_begin(out: &mut Vec<u8>) -> Result<(), AllocError>
     ensures { OnOk result (out.new.items ≡ out.old.items ++ spec.name_begin) }
@@ -31,6 +32,7 @@ fn put_name_begin(out: &mut Vec<u8>) -> Result<(), AllocError>
     out.extend_from_slice(b"<pre hidden id='")
 }
 
+/// Adds what stands between the name of a text and the text.
 #[tactic(auto, unfolding(crate::specs::Parts::name_end))]
 fn put_name_end(out: &mut Vec<u8>) -> Result<(), AllocError>
     ensures { OnOk result (out.new.items ≡ out.old.items ++ spec.name_end) }

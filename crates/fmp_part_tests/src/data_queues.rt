@@ -205,6 +205,7 @@ const WITHOUT_ROOM_ROWS: [Row; 11] = [
     (Command::Send(6), Answer::Sent(Sent::To(T2)), 0, &[], &[]),
 ];
 
+/// The answer to a receive, by what was received.
 fn received(received: Option<Received>) -> Answer {
     match received {
         Some(received) => Answer::Received(received.value, received.sender),
@@ -232,6 +233,7 @@ fn wait_to_receive(queue: &mut Dtq, task: Task, priority: Pri) {
     }
 }
 
+/// The answer to a command.
 fn carry_out(queue: &mut Dtq, command: Command) -> Answer {
     match command {
         Command::Send(value) => Answer::Sent(queue.send(value)),
@@ -250,6 +252,7 @@ fn carry_out(queue: &mut Dtq, command: Command) -> Answer {
     }
 }
 
+/// Asserts the answer to each command, and how many values there are and which tasks wait afterwards.
 fn are_answered(rt: &impl Abort, mut queue: Dtq, rows: &[Row]) -> Result<(), Fail> {
     for (number, (command, expected, values, senders, receivers)) in rows.iter().enumerate() {
         let found = carry_out(&mut queue, *command);

@@ -171,6 +171,7 @@ fn is_idle(dispatch: &Dispatch, p: Proc) -> bool {
         && are_due(dispatch, p, &[])
 }
 
+/// Asserts what each command does to the second processor, and that the others stay idle.
 fn are_answered(rt: &impl Abort, rows: &[Row]) -> Result<(), Fail> {
     let mut dispatch = Dispatch::new(3);
     for (number, (command, expected, running, pending, held, due)) in rows.iter().enumerate() {

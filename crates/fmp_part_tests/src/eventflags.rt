@@ -226,6 +226,7 @@ fn are_released(found: ArrayVec<(Task, u32), 64>, expected: Releases) -> bool {
         .eq(expected.iter().copied())
 }
 
+/// Asserts the answer to each command with its releases, and the pattern and the waiting tasks afterwards.
 fn are_answered(rt: &impl Abort, setup: EventflagSetup, rows: &[Row]) -> Result<(), Fail> {
     let mut flag = Flag::new(setup);
     for (number, (command, expected, releases, pattern, waiting)) in rows.iter().enumerate() {

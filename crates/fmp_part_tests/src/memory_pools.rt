@@ -110,6 +110,7 @@ fn wait(pool: &mut Mpf, task: Task, priority: Pri) {
     }
 }
 
+/// The answer to a command.
 fn carry_out(pool: &mut Mpf, command: Command) -> Answer {
     match command {
         Command::Get => match pool.get() {
@@ -125,6 +126,7 @@ fn carry_out(pool: &mut Mpf, command: Command) -> Answer {
     }
 }
 
+/// Asserts the answer to each command, and which tasks wait afterwards.
 fn are_answered(rt: &impl Abort, pool: &mut Mpf, rows: &[Row]) -> Result<(), Fail> {
     for (number, (command, expected, waiting)) in rows.iter().enumerate() {
         let found = carry_out(pool, *command);

@@ -31,22 +31,26 @@ struct Ready {
 struct Plain(Vec<Ready>);
 
 impl Plain {
+    /// A task is ready no more.
     fn remove(&mut self, task: Task) {
         self.0.retain(|ready| ready.task != task);
     }
 
+    /// A task becomes ready, behind all others, wherever it was ready before.
     fn put_last(&mut self, ready: Ready) -> Result<(), AllocError> {
         self.remove(ready.task);
         self.0.push(ready)?;
         Ok(())
     }
 
+    /// The first ready task of a priority on a processor.
     fn first(&self, processor: Proc, priority: Pri) -> Option<Task> {
         let first = self.0.iter().find(|ready| ready.processor == processor
             && ready.priority == priority)?;
         Some(first.task)
     }
 
+    /// The first ready task of a priority on a processor becomes the last.
     fn rotate(&mut self, processor: Proc, priority: Pri) -> Result<(), AllocError> {
         if let Some(task) = self.first(processor, priority) {
             self.put_last(Ready {
@@ -58,6 +62,7 @@ impl Plain {
         Ok(())
     }
 
+    /// The task that comes first on a processor.
     fn top(&self, processor: Proc) -> Option<Task> {
         for number in 1..33u8 {
             let first = self.first(processor, Pri::new(number));

@@ -99,6 +99,7 @@ fn wait(semaphore: &mut Sem, task: Task, priority: Pri) {
     }
 }
 
+/// The answer to a command.
 fn carry_out(semaphore: &mut Sem, command: Command) -> Answer {
     match command {
         Command::Signal => Answer::Signalled(semaphore.signal()),
@@ -111,6 +112,7 @@ fn carry_out(semaphore: &mut Sem, command: Command) -> Answer {
     }
 }
 
+/// Asserts the answer to each command, and the count and the waiting tasks afterwards.
 fn are_answered(rt: &impl Abort, setup: SemaphoreSetup, rows: &[Row]) -> Result<(), Fail> {
     let mut semaphore = Sem::new(setup);
     for (number, (command, expected, count, waiting)) in rows.iter().enumerate() {

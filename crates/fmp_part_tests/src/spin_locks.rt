@@ -62,6 +62,7 @@ fn held_by(spins: &Spins, p: Proc) -> u8 {
     spins.held_by(p).map_or(0, |lock| lock.number)
 }
 
+/// Asserts the answer to each command, and who holds which locks afterwards.
 fn are_answered(rt: &impl Abort, rows: &[Row]) -> Result<(), Fail> {
     let mut spins = Spins::new(3);
     for (number, (command, expected, holders, held)) in rows.iter().enumerate() {

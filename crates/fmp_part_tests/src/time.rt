@@ -17,20 +17,24 @@ struct Count {
 struct Plain(Vec<Count>);
 
 impl Plain {
+    /// Where an item counts, and its ticks left, if it counts.
     fn find(&self, item: Item) -> Option<Count> {
         self.0.iter().find(|count| count.item == item).copied()
     }
 
+    /// An item counts no more.
     fn cancel(&mut self, item: Item) {
         self.0.retain(|count| count.item != item);
     }
 
+    /// An item begins to count, or begins anew.
     fn arm(&mut self, count: Count) -> Result<(), AllocError> {
         self.cancel(count.item);
         self.0.push(count)?;
         Ok(())
     }
 
+    /// An item that counts goes on with its ticks left, as the one that began last.
     fn renew(&mut self, item: Item) -> Result<(), AllocError> {
         match self.find(item) {
             Some(count) => self.arm(count),
@@ -38,6 +42,7 @@ impl Plain {
         }
     }
 
+    /// An item that counts goes on with its ticks left on another processor.
     fn move_to(&mut self, item: Item, processor: Proc) {
         for count in &mut self.0 {
             if count.item == item {
@@ -46,6 +51,7 @@ impl Plain {
         }
     }
 
+    /// All that counts on a processor has one tick less left, but no less than 0.
     fn lower(&mut self, processor: Proc) {
         for count in &mut self.0 {
             if count.processor == processor {

@@ -17,18 +17,21 @@ struct Waiter {
 struct Plain(Vec<Waiter>);
 
 impl Plain {
+    /// A task waits no more. Says whether it waited.
     fn leave(&mut self, task: Task) -> bool {
         let count = self.0.len();
         self.0.retain(|waiter| waiter.task != task);
         self.0.len() != count
     }
 
+    /// A task waits, or begins to wait anew, behind those of its rank.
     fn join(&mut self, waiter: Waiter) -> Result<(), AllocError> {
         self.leave(waiter.task);
         self.0.push(waiter)?;
         self.0.sort_by_key(|waiter| waiter.rank)
     }
 
+    /// Whether the same tasks wait in a queue, in the same order.
     fn has(&self, queue: &WaitQueue) -> bool {
         let tasks = queue.list();
         let first = self.0.as_slice().first().map(|waiter| waiter.task);

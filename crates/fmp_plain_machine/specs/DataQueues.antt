@@ -9,7 +9,7 @@ pub record Queue : Type 0 where
   pub values : List ℤ
 
 -- the same of all data queues, in the order of their numbers
-pub record Queues : Type 0 where
+pub record AllQueues : Type 0 where
   pub setups : List DataQueueSetup
   pub contents : List (List ℤ)
 
@@ -18,5 +18,5 @@ abbrev pub no_queue : Queue
 no_queue = record { setup = no_data_queue; values = [] }
 
 -- these as one value
-abbrev pub all_of : List Queue → Queues
+abbrev pub all_of : List Queue → AllQueues
 all_of qs = record { setups = map (λ q. q.setup) qs; contents = map (λ q. q.values) qs }

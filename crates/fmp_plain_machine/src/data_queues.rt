@@ -18,9 +18,9 @@ pub(crate) struct DataQueues {
 
 impl Model for DataQueues {
     ghost use Rattle.std.specs.Prelude.{◌≤◌, length};
-    ghost use Rattle.fmp_plain_machine.specs.DataQueues.{Queues, all_of};
+    ghost use Rattle.fmp_plain_machine.specs.DataQueues.{AllQueues, all_of};
 
-    ghost Value = { Queues };
+    ghost Value = { AllQueues };
 
     ghost view = { λ a. all_of a.queues.items };
 

@@ -1,59 +1,60 @@
 //! Groups of tasks that have an order.
-ghost use Rattle.std.specs.Prelude.{◌≡◌, ◌≤◌};
+ghost use Rattle.std.specs.Prelude.{◌≡◌};
 ghost use Rattle.fmp_machine.specs.World.{item};
 ghost use Rattle.fmp_machine.specs.Arrivals.{priority_in, rank_in};
-ghost use Rattle.fmp_plain_machine.specs.Groups.{is_member, rank, numbers, candidates, precedes};
+ghost use Rattle.fmp_plain_machine.specs.Groups.{takes, rule_of, rank, numbers, precedes};
 
-use crate::counts::is_over;
 use crate::machine::PlainMachine;
+use crate::tops::is_runnable;
 use crate::waiting::waits_in;
 use fmp_codes::{Object, Pri, Proc, Task};
-use fmp_machine::{Order, QueueKind};
+use fmp_machine::{Order, QueueKind, TaskRecord};
 
 /// A group of tasks that have an order.
 #[derive(Clone, Copy, Debug)]
 pub(crate) enum Group {
-    /// The ready tasks of a processor.
-    Ready(Proc),
-    /// Those of one priority.
+    /// The ready tasks of a processor and a priority.
     ReadyAt(Proc, Pri),
     /// The tasks that wait in a queue of an object, which is in this order.
     Queue(QueueKind, Object, Order),
-    /// The tasks whose waits have no ticks left.
-    Over,
+}
+
+/// What decides which of two tasks comes first.
+#[derive(Clone, Copy, Debug)]
+pub(crate) enum Rule {
+    /// Their priorities, and where these are equal when they became ready.
+    Ready,
+    /// Their ranks in a queue of this order, and where these are equal when their waits began.
+    Waits(Order),
+}
+
+/// Whether a task of this record is of a group.
+#[inline(always)]
+pub(crate) fn takes(group: Group, task: &TaskRecord) -> bool
+    ensures { result ≡ takes group task.now }
+{
+    match group {
+        Group::ReadyAt(p, priority) => {
+            is_runnable(task)
+                && task.assigned.number == p.number
+                && task.priority.number == priority.number
+        }
+        Group::Queue(kind, o, _) => waits_in(kind, o, task.wait),
+    }
+}
+
+/// What decides who of a group comes first.
+#[inline(always)]
+pub(crate) fn rule_of(group: Group) -> Rule
+    ensures { result ≡ rule_of group }
+{
+    match group {
+        Group::ReadyAt(_, _) => Rule::Ready,
+        Group::Queue(_, _, order) => Rule::Waits(order),
+    }
 }
 
 impl PlainMachine {
-    /// How many tasks may be of a group.
-    #[inline(always)]
-    pub(crate) fn candidates(&self, group: Group) -> usize
-        ensures value { result ≡ candidates self.now group }
-        ensures few { result ≤ 64 }
-    {
-        match group {
-            Group::Ready(_) | Group::ReadyAt(_, _) | Group::Queue(_, _, _) => self
-                .tasks
-                .records()
-                .len(),
-            Group::Over => self.waits_left.len(),
-        }
-    }
-
-    /// Whether a task is of a group.
-    #[inline(always)]
-    pub(crate) fn is_member(&self, group: Group, t: Task) -> bool
-        ensures { result ≡ is_member self.now group t }
-    {
-        match group {
-            Group::Ready(p) => self.tasks.is_ready_on(p, t),
-            Group::ReadyAt(p, priority) => {
-                self.tasks.is_ready_on(p, t) && self.priority_in(t) == priority.number
-            }
-            Group::Queue(kind, o, _) => waits_in(kind, o, self.tasks.wait(t)),
-            Group::Over => is_over(self.wait_left(t)),
-        }
-    }
-
     fn priority_in(&self, t: Task) -> u8
         ensures { result ≡ priority_in self.now.tasks t }
     {
@@ -71,15 +72,14 @@ impl PlainMachine {
         }
     }
 
+    /// The rank of a task by a rule.
     #[inline(always)]
-    fn rank(&self, group: Group, t: Task) -> u8
-        ensures { result ≡ rank self.now group t }
+    fn rank(&self, rule: Rule, t: Task) -> u8
+        ensures { result ≡ rank self.now rule t }
     {
-        match group {
-            Group::Ready(_) => self.priority_in(t),
-            Group::ReadyAt(_, _) => self.priority_in(t),
-            Group::Queue(_, _, order) => self.rank_in(order, t),
-            Group::Over => 0,
+        match rule {
+            Rule::Ready => self.priority_in(t),
+            Rule::Waits(order) => self.rank_in(order, t),
         }
     }
 
@@ -99,24 +99,22 @@ impl PlainMachine {
 
     /// The number of a task, which decides where ranks are equal.
     #[inline(always)]
-    fn number(&self, group: Group, t: Task) -> u64
-        ensures { result ≡ item 0 (numbers self.now group) t.number }
+    fn number(&self, rule: Rule, t: Task) -> u64
+        ensures { result ≡ item 0 (numbers self.now rule) t.number }
     {
-        match group {
-            Group::Ready(_) => self.ready_number(t),
-            Group::ReadyAt(_, _) => self.ready_number(t),
-            Group::Queue(_, _, _) => self.begun_number(t),
-            Group::Over => self.begun_number(t),
+        match rule {
+            Rule::Ready => self.ready_number(t),
+            Rule::Waits(_) => self.begun_number(t),
         }
     }
 
-    /// Whether a task comes before another one.
+    /// Whether a task comes before another one by a rule.
     #[inline(always)]
-    pub(crate) fn precedes(&self, group: Group, t: Task, u: Task) -> bool
-        ensures { result ≡ precedes self.now group t u }
+    pub(crate) fn precedes(&self, rule: Rule, t: Task, u: Task) -> bool
+        ensures { result ≡ precedes self.now rule t u }
     {
-        let a = self.rank(group, t);
-        let b = self.rank(group, u);
-        a < b || (a == b && self.number(group, t) < self.number(group, u))
+        let a = self.rank(rule, t);
+        let b = self.rank(rule, u);
+        a < b || (a == b && self.number(rule, t) < self.number(rule, u))
     }
 }

@@ -24,6 +24,7 @@ mod numbers;
 mod object_words;
 mod order;
 mod resources;
+mod signs;
 mod tops;
 mod waiting;
 mod words;

@@ -180,7 +180,7 @@ impl Objects for PlainMachine {
 
     #[tactic(auto, unfolding(fmp_machine::specs::Arrivals::numbered), using(crate::proofs::Expired::over_in_order))]
     fn expired_waits(&self) -> ArrayVec<Task, 64> {
-        self.members(Group::Over)
+        self.waits_over()
     }
 
     fn expired_alarms(&self) -> ArrayVec<Object, 32> {

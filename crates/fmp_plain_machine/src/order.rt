@@ -3,12 +3,14 @@ ghost use Rattle.std.specs.Prelude.{◌≡◌, ◌+◌, ◌≤◌, ◌<◌, leng
 ghost use Rattle.fmp_machine.specs.World.{first};
 ghost use Rattle.fmp_machine.specs.Arrivals.{inserted};
 ghost use Rattle.fmp_plain_machine.specs.Better.{better};
-ghost use Rattle.fmp_plain_machine.specs.Groups.{members, precedes};
+ghost use Rattle.fmp_plain_machine.specs.Groups.{members, precedes, waits_over};
 
-use crate::groups::Group;
+use crate::counts::is_over;
+use crate::groups::{Group, Rule, rule_of, takes};
 use crate::machine::PlainMachine;
 use arrayvec::ArrayVec;
 use fmp_codes::Task;
+use fmp_machine::Order;
 
 impl PlainMachine {
     /// The task of a group that comes first.
@@ -18,23 +20,22 @@ impl PlainMachine {
         ensures { result ≡ first (members self.now group) }
     {
         let mut best: Option<Task> = None;
-        for index in 0..self.candidates(group) {
-            let t = Task::from_index(index);
-            if self.is_member(group, t) {
-                best = self.better(group, t, best);
+        for (index, record) in self.tasks.records().iter().enumerate() {
+            if takes(group, record) {
+                best = self.better(rule_of(group), Task::from_index(index), best);
             }
         }
         best
     }
 
     #[inline(always)]
-    fn better(&self, group: Group, t: Task, best: Option<Task>) -> Option<Task>
-        ensures { result ≡ better (precedes self.now group) t best }
+    fn better(&self, rule: Rule, t: Task, best: Option<Task>) -> Option<Task>
+        ensures { result ≡ better (precedes self.now rule) t best }
     {
         match best {
             None => Some(t),
             Some(u) => {
-                if self.precedes(group, t, u) {
+                if self.precedes(rule, t, u) {
                     Some(t)
                 } else {
                     Some(u)
@@ -50,10 +51,27 @@ impl PlainMachine {
         ensures { result.items ≡ members self.now group }
     {
         let mut list = ArrayVec::new();
-        for index in 0..self.candidates(group) {
-            let t = Task::from_index(index);
-            if self.is_member(group, t) {
-                self.insert(group, t, &mut list);
+        for (index, record) in self.tasks.records().iter().enumerate() {
+            if takes(group, record) {
+                self.insert(rule_of(group), Task::from_index(index), &mut list);
+            }
+        }
+        list
+    }
+
+    /// The tasks whose waits have no ticks left, in the order in which these began.
+    #[inline(always)]
+    pub(crate) fn waits_over(&self) -> ArrayVec<Task, 64>
+        ensures { result.items ≡ waits_over self.now }
+    {
+        let mut list = ArrayVec::new();
+        for (index, left) in self.waits_left.as_slice().iter().enumerate() {
+            if is_over(*left) {
+                self.insert(
+                    Rule::Waits(Order::First),
+                    Task::from_index(index),
+                    &mut list,
+                );
             }
         }
         list
@@ -61,23 +79,23 @@ impl PlainMachine {
 
     /// Puts a task before those that it comes before.
     #[inline(always)]
-    fn insert(&self, group: Group, t: Task, list: &mut ArrayVec<Task, 64>)
+    fn insert(&self, rule: Rule, t: Task, list: &mut ArrayVec<Task, 64>)
         requires { length list.old.items < 64 }
-        ensures list { list.new.items ≡ inserted (precedes self.now group) t list.old.items }
+        ensures list { list.new.items ≡ inserted (precedes self.now rule) t list.old.items }
         ensures length { length list.new.items ≡ length list.old.items + 1 }
     {
-        let place = self.place_of(group, t, list.as_slice());
+        let place = self.place_of(rule, t, list.as_slice());
         list.insert(place, t);
     }
 
     /// The place in a list of the first task that another one comes before, or else its end.
     #[inline(always)]
-    fn place_of(&self, group: Group, t: Task, list: &[Task]) -> usize
+    fn place_of(&self, rule: Rule, t: Task, list: &[Task]) -> usize
         ensures within { result ≤ length list.now }
-        ensures place { insert list.now result t ≡ inserted (precedes self.now group) t list.now }
+        ensures place { insert list.now result t ≡ inserted (precedes self.now rule) t list.now }
     {
         for (index, u) in list.iter().enumerate() {
-            if self.precedes(group, t, *u) {
+            if self.precedes(rule, t, *u) {
                 return index;
             }
         }

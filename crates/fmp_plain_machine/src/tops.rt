@@ -1,15 +1,17 @@
 //! The records of the tasks, and what comes first on each processor.
 ghost use Rattle.std.specs.Prelude.{◌≡◌, ◌≤◌, ◌-◌, false, IsTrue, None, length, map, slice_index_or};
 ghost use Rattle.fmp_machine.specs.Ordering.{is_runnable};
-ghost use Rattle.fmp_machine.specs.Arrivals.{comes_before, is_ready_on, priority_in};
+ghost use Rattle.fmp_machine.specs.Arrivals.{comes_before, priority_in};
 ghost use Rattle.fmp_machine.specs.World.{item, with_item, no_task, resting};
 ghost use Rattle.fmp_plain_machine.specs.Better.{better};
+ghost use Rattle.fmp_plain_machine.specs.Signs.{kind_of, place_of};
 ghost use Rattle.fmp_plain_machine.specs.Tops.{AreTops, ahead, is_task, raised, rank_of, top_among};
 
 use crate::kept::each;
+use crate::signs::Signs;
 use arrayvec::ArrayVec;
 use fmp_codes::{Proc, Task};
-use fmp_machine::{TaskRecord, TaskSetup, Wait};
+use fmp_machine::{TaskRecord, TaskSetup};
 use std::marker::Model;
 
 /// The records of the tasks, and for each when it last became ready or was put last. What comes first on each processor is looked
@@ -19,16 +21,18 @@ pub(crate) struct Tasks {
     records: ArrayVec<TaskRecord, 64>,
     ready: ArrayVec<u64, 64>,
     tops: [Option<Task>; 8],
+    signs: Signs,
 }
 
 impl Model for Tasks {
+    ghost use Rattle.fmp_plain_machine.specs.Signs.{AreSigns};
     ghost use Rattle.fmp_plain_machine.specs.Tops.{Ranked, AreTops};
 
     ghost Value = { Ranked };
 
     ghost view = { λ a. record { records = a.records.items; ready = a.ready.items } };
 
-    ghost invariant = { λ a. AreTops a.records.items a.ready.items a.tops };
+    ghost invariant = { λ a. AreTops a.records.items a.ready.items a.tops × AreSigns a.records.items a.signs.kinds.items a.signs.places.items };
 }
 
 /// Whether a task is active, with no wait and not suspended.
@@ -46,27 +50,6 @@ fn record_of(records: &[TaskRecord], t: Task) -> TaskRecord
         .get(t.index())
         .copied()
         .unwrap_or(TaskRecord::default())
-}
-
-#[inline(always)]
-fn wait_of(records: &[TaskRecord], t: Task) -> Option<Wait>
-    ensures { result ≡ (item no_task records.now t.number).wait }
-{
-    match records.get(t.index()) {
-        Some(record) => record.wait,
-        None => TaskRecord::default().wait,
-    }
-}
-
-/// Whether a task is ready on a processor.
-#[inline(always)]
-fn is_ready_on(records: &[TaskRecord], p: Proc, t: Task) -> bool
-    ensures { result ≡ is_ready_on records.now p t }
-{
-    match records.get(t.index()) {
-        Some(record) => is_runnable(record) && record.assigned.number == p.number,
-        None => false,
-    }
 }
 
 #[inline(always)]
@@ -244,10 +227,12 @@ impl Tasks {
         let records = each(setups);
         let ready = each(setups);
         let tops = tops_of(records.as_slice(), ready.as_slice());
+        let signs = Signs::of(records.as_slice());
         Tasks {
             records,
             ready,
             tops,
+            signs,
         }
     }
 
@@ -259,25 +244,27 @@ impl Tasks {
         self.records.as_slice()
     }
 
+    /// How each stands.
+    pub(crate) fn kinds(&self) -> &[u8]
+        ensures kinds { result.now ≡ map kind_of self.now.records }
+        ensures few { length result.now ≤ 64 }
+    {
+        self.signs.kinds.as_slice()
+    }
+
+    /// The number of the processor of each.
+    pub(crate) fn places(&self) -> &[u8]
+        ensures places { result.now ≡ map place_of self.now.records }
+        ensures few { length result.now ≤ 64 }
+    {
+        self.signs.places.as_slice()
+    }
+
     /// The record of a task.
     pub(crate) fn record(&self, t: Task) -> TaskRecord
         ensures { result ≡ item no_task self.now.records t.number }
     {
         record_of(self.records.as_slice(), t)
-    }
-
-    /// What a task waits for, if it does.
-    pub(crate) fn wait(&self, t: Task) -> Option<Wait>
-        ensures { result ≡ (item no_task self.now.records t.number).wait }
-    {
-        wait_of(self.records.as_slice(), t)
-    }
-
-    /// Whether a task is ready on a processor.
-    pub(crate) fn is_ready_on(&self, p: Proc, t: Task) -> bool
-        ensures { result ≡ is_ready_on self.now.records p t }
-    {
-        is_ready_on(self.records.as_slice(), p, t)
     }
 
     /// The priority of a task.
@@ -307,6 +294,7 @@ impl Tasks {
     {
         let same = ranks_alike(&self.record(t), &changed);
         let was_top = is_top(&self.records, &self.tops, t);
+        self.signs.note(t, &changed);
         write(&mut self.records, t, changed);
         if !same {
             renew(&mut self.tops, &self.records, &self.ready, t, was_top);
@@ -318,6 +306,7 @@ impl Tasks {
         ensures { self.new ≡ record self.old { records = with_item self.old.records t.number changed; ready = with_item self.old.ready t.number number } }
     {
         let was_top = is_top(&self.records, &self.tops, t);
+        self.signs.note(t, &changed);
         write(&mut self.records, t, changed);
         write_number(&mut self.ready, t, number);
         renew(&mut self.tops, &self.records, &self.ready, t, was_top);

@@ -12,7 +12,7 @@ use fmp_codes::Code;
 use fmp_names::Names;
 
 /// The words of a trace and of a state, besides names, processors, calls and codes.
-pub const TRACE_WORDS: [&[u8]; 31] = [
+pub const TRACE_WORDS: [&[u8]; 39] = [
     b"tick",
     b"ipi",
     b"wait",
@@ -40,6 +40,14 @@ pub const TRACE_WORDS: [&[u8]; 31] = [
     b"rdtq",
     b"mpf",
     b"left",
+    b"stopped",
+    b"pri",
+    b"act",
+    b"wup",
+    b"count",
+    b"pattern",
+    b"values",
+    b"free",
     b"end",
     b"TSK_SELF",
     b"TWF_ANDW",

@@ -7,15 +7,15 @@ use Rattle.fmp_links.specs.Lists as links
 use Rattle.fmp_links.specs.Lists.{has}
 use Rattle.fmp_links.specs.Tasks.{AreDistinct, has_task, task_at, without}
 use Rattle.fmp_links.proofs.Tasks.{distinct-map, first_of-map, gone_from, has_task-map, without-map, without_lacking}
-use Rattle.fmp_ready.specs.Queues.{Queues, list_at, push_last, take_out, rotated, first_of, top_at, bit_of, AreDisjoint}
+use Rattle.fmp_ready.specs.Queues.{PriorityLists, queue_at, push_last, take_out, rotated, first_of, top_at, bit_of, AreDisjoint}
 use Rattle.fmp_ready.specs.Kept.{tasks_of}
 
-pub list_at-tasks_of : (q : List (List ℕ)) (i : ℕ) → list_at (tasks_of q) i ≡ map task_at (links.list_at q i)
+pub list_at-tasks_of : (q : List (List ℕ)) (i : ℕ) → queue_at (tasks_of q) i ≡ map task_at (links.list_at q i)
 list_at-tasks_of [] i = refl
 list_at-tasks_of (x ∷ q) zero = refl
 list_at-tasks_of (x ∷ q) (suc i) = list_at-tasks_of q i
 
-pub first_in : (q : List (List ℕ)) (i : ℕ) → links.first_of (list_at (tasks_of q) i) ≡ option_map task_at (links.first_of (links.list_at q i))
+pub first_in : (q : List (List ℕ)) (i : ℕ) → links.first_of (queue_at (tasks_of q) i) ≡ option_map task_at (links.first_of (links.list_at q i))
 first_in q i = ap links.first_of (list_at-tasks_of q i) ∙ first_of-map (links.list_at q i)
 
 pub set_tasks : (q : List (List ℕ)) (i : ℕ) (xs : List ℕ) → tasks_of (set q i xs) ≡ set (tasks_of q) i (map task_at xs)
@@ -28,14 +28,14 @@ push_tasks q i k t e =
     set_tasks q i (links.list_at q i ++ k ∷ []) ∙ ap (set (tasks_of q) i) (map_push task_at (links.list_at q i) k ∙ ap (λ (u : Task). map task_at (links.list_at q i) ++ u ∷ []) e
     ∙ ap (λ (xs : List Task). xs ++ t ∷ []) (sym (list_at-tasks_of q i)))
 
-pub rotate_tasks : (q : List (List ℕ)) (i : ℕ) → tasks_of (set q i (links.rotated (links.list_at q i))) ≡ set (tasks_of q) i (rotated (list_at (tasks_of q) i))
+pub rotate_tasks : (q : List (List ℕ)) (i : ℕ) → tasks_of (set q i (links.rotated (links.list_at q i))) ≡ set (tasks_of q) i (rotated (queue_at (tasks_of q) i))
 rotate_tasks q i = set_tasks q i (links.rotated (links.list_at q i)) ∙ ap (set (tasks_of q) i) (turn (links.list_at q i) ∙ ap rotated (sym (list_at-tasks_of q i)))
   where
     turn : (xs : List ℕ) → map task_at (links.rotated xs) ≡ rotated (map task_at xs)
     turn [] = refl
     turn (x ∷ xs) = map_push task_at xs x
 
-pub has_task-tasks_of : (q : List (List ℕ)) (t : Task) (k i : ℕ) → k + 1 ≡ t.number → ((i u : ℕ) → has u (links.list_at q i) ≡ true → u < 64) → has_task t (list_at (tasks_of q) i) ≡ has k (links.list_at q i)
+pub has_task-tasks_of : (q : List (List ℕ)) (t : Task) (k i : ℕ) → k + 1 ≡ t.number → ((i u : ℕ) → has u (links.list_at q i) ≡ true → u < 64) → has_task t (queue_at (tasks_of q) i) ≡ has k (links.list_at q i)
 has_task-tasks_of q t k i e h = ap (has_task t) (list_at-tasks_of q i) ∙ has_task-map t k (links.list_at q i) e (h i)
 
 pub remove_tasks : (q : List (List ℕ)) (t : Task) (k : ℕ) → k + 1 ≡ t.number → ((i u : ℕ) → has u (links.list_at q i) ≡ true → u < 64) → tasks_of (links.take_out q k) ≡ take_out (tasks_of q) t
@@ -44,12 +44,12 @@ remove_tasks (x ∷ q) t k e h =
     rw (without-map t k x e (h 0)) (ap (λ (r : List (List Task)). without t (map task_at x) ∷ r) (remove_tasks q t k e (λ i u g. h (suc i) u g)))
 
 -- what was taken out stands nowhere, and taking out what stands nowhere changes nothing
-pub gone : (q : List (List Task)) (t : Task) (i : ℕ) → has_task t (list_at (take_out q t) i) ≡ false
+pub gone : (q : List (List Task)) (t : Task) (i : ℕ) → has_task t (queue_at (take_out q t) i) ≡ false
 gone [] t i = refl
 gone (x ∷ q) t zero = gone_from t x
 gone (x ∷ q) t (suc i) = gone q t i
 
-pub take_out-lacking : (q : List (List Task)) (t : Task) → ((i : ℕ) → has_task t (list_at q i) ≡ false) → take_out q t ≡ q
+pub take_out-lacking : (q : List (List Task)) (t : Task) → ((i : ℕ) → has_task t (queue_at q i) ≡ false) → take_out q t ≡ q
 take_out-lacking [] t h = refl
 take_out-lacking (x ∷ q) t h = rw (without_lacking t x (h 0)) (ap (λ (r : List (List Task)). x ∷ r) (take_out-lacking q t (λ i. h (suc i))))
 
@@ -57,7 +57,7 @@ pub take_out-twice : (q : List (List Task)) (t : Task) → take_out (take_out q 
 take_out-twice q t = take_out-lacking (take_out q t) t (gone q t)
 
 -- a task that stands in no other list leaves this one alone
-pub take_out-alone : (q : List (List Task)) (t : Task) (i : ℕ) → ((j : ℕ) → (j ≡ i → ⊥) → has_task t (list_at q j) ≡ false) → take_out q t ≡ set q i (without t (list_at q i))
+pub take_out-alone : (q : List (List Task)) (t : Task) (i : ℕ) → ((j : ℕ) → (j ≡ i → ⊥) → has_task t (queue_at q j) ≡ false) → take_out q t ≡ set q i (without t (queue_at q i))
 take_out-alone [] t i h = refl
 take_out-alone (x ∷ q) t zero h = ap (λ (r : List (List Task)). without t x ∷ r) (take_out-lacking q t (λ j. h (suc j) (λ f. omega (arith, f))))
 take_out-alone (x ∷ q) t (suc i) h =
@@ -70,23 +70,23 @@ disjoint-tasks_of q d = record {
   one = λ i j t e f. d.one i j (t.number - 1) (sym (item t i) ∙ e) (sym (item t j) ∙ f);
 }
   where
-    item : (t : Task) (i : ℕ) → has_task t (list_at (tasks_of q) i) ≡ has (t.number - 1) (links.list_at q i)
+    item : (t : Task) (i : ℕ) → has_task t (queue_at (tasks_of q) i) ≡ has (t.number - 1) (links.list_at q i)
     item t i = has_task-tasks_of q t (t.number - 1) i (let low = t.least in omega (arith, low)) d.small
 
 -- the first of some lists
-first_at : (qs : List (List Task)) (k : ℕ) (t : Task) (ts : List Task) → ((j : ℕ) → j < k → list_at qs j ≡ []) → list_at qs k ≡ t ∷ ts → first_of qs ≡ Some t
+first_at : (qs : List (List Task)) (k : ℕ) (t : Task) (ts : List Task) → ((j : ℕ) → j < k → queue_at qs j ≡ []) → queue_at qs k ≡ t ∷ ts → first_of qs ≡ Some t
 first_at [] k t ts none e = cc
 first_at ([] ∷ qs) zero t ts none e = cc
 first_at ((u ∷ us) ∷ qs) zero t ts none e = let same : u ≡ t = cc in ap Some same
 first_at ([] ∷ qs) (suc k) t ts none e = first_at qs k t ts (λ j h. none (suc j) (omega (arith, h))) e
 first_at ((u ∷ us) ∷ qs) (suc k) t ts none e = let bad : u ∷ us ≡ [] = none 0 (omega arith) in cc
 
-first_none : (qs : List (List Task)) → ((j : ℕ) → list_at qs j ≡ []) → first_of qs ≡ None
+first_none : (qs : List (List Task)) → ((j : ℕ) → queue_at qs j ≡ []) → first_of qs ≡ None
 first_none [] none = refl
 first_none ([] ∷ qs) none = first_none qs (λ j. none (suc j))
 first_none ((u ∷ us) ∷ qs) none = let bad : u ∷ us ≡ [] = none 0 in cc
 
-list_at-window : (q : List (List ℕ)) (p j : ℕ) → j < 32 → list_at (take 32 (drop (32 * p) (tasks_of q))) j ≡ map task_at (links.list_at q (32 * p + j))
+list_at-window : (q : List (List ℕ)) (p j : ℕ) → j < 32 → queue_at (take 32 (drop (32 * p) (tasks_of q))) j ≡ map task_at (links.list_at q (32 * p + j))
 list_at-window q p j h = get_or-take 32 (drop (32 * p) (tasks_of q)) j [] h ∙ get_or-drop (32 * p) (tasks_of q) j [] ∙ list_at-tasks_of q (32 * p + j)
 
 pub top_some : (q : List (List ℕ)) (k x i : ℕ) → k < 32 → ((j : ℕ) → j < k → links.list_at q (32 * i + j) ≡ []) → links.first_of (links.list_at q (32 * i + k)) ≡ Some x →
@@ -106,17 +106,17 @@ top_none q i none =
     first_none qs (λ j. ⊎_elim (λ (h : j < 32). list_at-window q i j h ∙ ap (map task_at) (none j h))
     (λ (h : 32 ≤ j). get_or_past qs j [] (omega (arith, h, length-take 32 (drop (32 * i) (tasks_of q))))) (cases_lt j 32))
 
-pub bit_tasks : (q : List (List ℕ)) (i : ℕ) → bit_of (list_at (tasks_of q) i) ≡ bit_of (links.list_at q i)
+pub bit_tasks : (q : List (List ℕ)) (i : ℕ) → bit_of (queue_at (tasks_of q) i) ≡ bit_of (links.list_at q i)
 bit_tasks q i = ap bit_of (list_at-tasks_of q i) ∙ by (links.list_at q i)
   where
     by : (xs : List ℕ) → bit_of (map task_at xs) ≡ bit_of xs
     by [] = refl
     by (x ∷ xs) = refl
 
-pub queues_same : (a b : List (List Task)) → a ≡ b → ◌≡◌ {A = Queues} (record { lists = a }) (record { lists = b })
+pub queues_same : (a b : List (List Task)) → a ≡ b → ◌≡◌ {A = PriorityLists} (record { lists = a }) (record { lists = b })
 queues_same a b e = ap the e
   where
-    the : List (List Task) → Queues
+    the : List (List Task) → PriorityLists
     the l = record { lists = l }
 
 pub empty_from_bit : (xs : List ℕ) → bit_of xs ≡ 0 → xs ≡ []

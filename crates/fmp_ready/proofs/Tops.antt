@@ -7,18 +7,18 @@ use Rattle.fmp_codes.specs.declared.numbers.Task.{Task}
 use Rattle.fmp_links.specs.Lists as links
 use Rattle.fmp_links.specs.Tasks.{task_at}
 use Rattle.fmp_links.proofs.Tasks.{task_same}
-use Rattle.fmp_ready.specs.Queues.{list_at, first_of, top_at, number_of}
+use Rattle.fmp_ready.specs.Queues.{queue_at, first_of, top_at, number_of}
 use Rattle.fmp_ready.specs.Kept.{tasks_of, AreTops}
 use Rattle.fmp_ready.proofs.Tasks.{list_at-tasks_of}
 
 -- lists that are the same up to a place have the same first task there
-none_first : (n : ℕ) (r : List (List Task)) → ((j : ℕ) → j < n → list_at r j ≡ []) → first_of (take n r) ≡ None
+none_first : (n : ℕ) (r : List (List Task)) → ((j : ℕ) → j < n → queue_at r j ≡ []) → first_of (take n r) ≡ None
 none_first zero r h = refl
 none_first (suc n) [] h = refl
 none_first (suc n) ([] ∷ r) h = none_first n r (λ j l. h (suc j) (omega (arith, l)))
 none_first (suc n) ((t ∷ ts) ∷ r) h = let bad : t ∷ ts ≡ [] = h 0 (omega arith) in cc
 
-same_first : (n : ℕ) (q r : List (List Task)) → ((j : ℕ) → j < n → list_at r j ≡ list_at q j) → first_of (take n r) ≡ first_of (take n q)
+same_first : (n : ℕ) (q r : List (List Task)) → ((j : ℕ) → j < n → queue_at r j ≡ queue_at q j) → first_of (take n r) ≡ first_of (take n q)
 same_first zero q r h = refl
 same_first (suc n) [] r h = none_first (suc n) r h
 same_first (suc n) (x ∷ q) [] h = sym (none_first (suc n) (x ∷ q) (λ j l. sym (h j l)))

@@ -5,15 +5,15 @@ use Rattle.fmp_codes.specs.declared.numbers.Pri.{Pri}
 use Rattle.fmp_codes.specs.declared.numbers.Task.{Task}
 use Rattle.fmp_links.specs.Tasks.{has_task, without, AreDistinct}
 
-pub record Queues : Type 0 where
+pub record PriorityLists : Type 0 where
   pub lists : List (List Task)  -- of each processor the lists of its priorities, from the highest
 
 -- the place of the list of a processor and a priority among all lists
 abbrev pub list_number : Proc → Pri → ℕ
 list_number p n = 32 * (p.number - 1) + (n.number - 1)
 
-abbrev pub list_at : List (List Task) → ℕ → List Task
-list_at q i = slice_index_or q i []
+abbrev pub queue_at : List (List Task) → ℕ → List Task
+queue_at q i = slice_index_or q i []
 
 -- the first task goes last
 abbrev pub rotated : List Task → List Task
@@ -21,7 +21,7 @@ rotated [] = []
 rotated (t ∷ ts) = ts ++ t ∷ []
 
 abbrev pub push_last : List (List Task) → ℕ → Task → List (List Task)
-push_last q i t = slice_set q i (list_at q i ++ t ∷ [])
+push_last q i t = slice_set q i (queue_at q i ++ t ∷ [])
 
 -- a task is in no list any more
 abbrev pub take_out : List (List Task) → Task → List (List Task)
@@ -53,5 +53,5 @@ bit_of (x ∷ xs) = 1
 
 -- no list has a task twice, and no two lists have one
 pub record AreDisjoint (q : List (List Task)) : Type 0 where
-  pub apart : (i : ℕ) → AreDistinct (list_at q i)
-  pub one : (i j : ℕ) (t : Task) → has_task t (list_at q i) ≡ true → has_task t (list_at q j) ≡ true → i ≡ j
+  pub apart : (i : ℕ) → AreDistinct (queue_at q i)
+  pub one : (i j : ℕ) (t : Task) → has_task t (queue_at q i) ≡ true → has_task t (queue_at q j) ≡ true → i ≡ j

@@ -15,7 +15,7 @@ ghost use Rattle.fmp_codes.specs.declared.numbers.Pri.{Pri as AnyPri};
 ghost use Rattle.fmp_codes.specs.declared.numbers.Task.{Task as AnyTask};
 ghost use Rattle.fmp_links.specs.Lists.{first_of};
 ghost use Rattle.fmp_links.specs.Tasks.{has_task};
-ghost use Rattle.fmp_ready.specs.Queues.{list_number, list_at, push_last, take_out, rotated, top_of, top_at, number_of, bit_of, AreDisjoint};
+ghost use Rattle.fmp_ready.specs.Queues.{list_number, queue_at, push_last, take_out, rotated, top_of, top_at, number_of, bit_of, AreDisjoint};
 ghost use Rattle.fmp_ready.specs.Kept.{tasks_of, IsKept};
 
 use arrayvec::ArrayVec;
@@ -34,9 +34,9 @@ pub struct ReadyQueues {
 }
 
 impl Model for ReadyQueues {
-    ghost use Rattle.fmp_ready.specs.Queues.{Queues};
+    ghost use Rattle.fmp_ready.specs.Queues.{PriorityLists};
 
-    ghost Value = { Queues };
+    ghost Value = { PriorityLists };
 
     ghost use Rattle.fmp_ready.specs.Kept.{tasks_of, IsKept, AreTops};
 
@@ -59,7 +59,7 @@ impl ReadyQueues {
 
     /// A task that stands in no list becomes the last of its priority on a processor.
     pub fn insert(&mut self, processor: Proc, priority: Pri, task: Task)
-        requires { (i : ℕ) → has_task task (list_at self.old.lists i) ≡ false }
+        requires { (i : ℕ) → has_task task (queue_at self.old.lists i) ≡ false }
         ensures { self.new ≡ record self.old { lists = push_last self.old.lists (list_number processor priority) task } }
     {
         let list = list_of(processor, priority);
@@ -91,7 +91,7 @@ impl ReadyQueues {
 
     /// The first task of a list becomes its last.
     pub fn rotate(&mut self, processor: Proc, priority: Pri)
-        ensures { let i = list_number processor priority in self.new ≡ record self.old { lists = slice_set self.old.lists i (rotated (list_at self.old.lists i)) } }
+        ensures { let i = list_number processor priority in self.new ≡ record self.old { lists = slice_set self.old.lists i (rotated (queue_at self.old.lists i)) } }
     {
         let list = list_of(processor, priority);
         self.links.rotate(list);
@@ -115,7 +115,7 @@ impl ReadyQueues {
 
     /// The first task of a priority on a processor.
     pub fn first(&self, processor: Proc, priority: Pri) -> Option<Task>
-        ensures { result ≡ first_of (list_at self.now.lists (list_number processor priority)) }
+        ensures { result ≡ first_of (queue_at self.now.lists (list_number processor priority)) }
     {
         let item = self.links.first(list_of(processor, priority))?;
         Some(Task::from_index(item))
@@ -123,7 +123,7 @@ impl ReadyQueues {
 
     /// The list of a processor and a priority.
     pub fn list(&self, processor: Proc, priority: Pri) -> ArrayVec<Task, 64>
-        ensures items { result.items ≡ list_at self.now.lists (list_number processor priority) }
+        ensures items { result.items ≡ queue_at self.now.lists (list_number processor priority) }
         ensures disjoint { AreDisjoint self.now.lists }
     {
         let mut tasks = ArrayVec::new();
@@ -142,7 +142,7 @@ impl ReadyQueues {
 
     /// A bit for each priority of a processor, the lowest for the highest, set where that list is not empty.
     pub fn word(&self, processor: Proc) -> u32
-        ensures { (priority : AnyPri) → bit_at result (priority.number - 1) ≡ bit_of (list_at self.now.lists (list_number processor priority)) }
+        ensures { (priority : AnyPri) → bit_at result (priority.number - 1) ≡ bit_of (queue_at self.now.lists (list_number processor priority)) }
     {
         self.words[processor.index()]
     }

@@ -19,11 +19,11 @@ use Rattle.fmp_machine.specs.Tasks.{start, started}
 use Rattle.fmp_machine.specs.Rows.{done}
 use Rattle.fmp_machine.specs.Boot.{blank, all_started, with_top_running, with_tops_running, boot, booted, unnumbered}
 use Rattle.fmp_safety.proofs.Items.{item_after}
-use Rattle.fmp_ready.specs.Queues.{list_number, list_at}
+use Rattle.fmp_ready.specs.Queues.{list_number, queue_at}
 use Rattle.fmp_waitq.specs.Queue.{task_of}
 use Rattle.fmp_listed.specs.Queues.{WaitQueues, Queues, queue, queues, listed, no_queues}
 use Rattle.fmp_refinement.specs.Listing.{IsListOf}
-use Rattle.fmp_refinement.specs.Stands.{record_in, runs_in, waits_for, is_ready_at, is_waiter_of, has_ticks, AreNumbered, AreRanked, count_in, with_order, Keeps, Stands}
+use Rattle.fmp_refinement.specs.Stands.{record_in, runs_in, waits_for, is_ready_at, is_waiter_of, has_ticks, AreNumbered, AreRanked, count_in, with_order, AreListsOf, Stands}
 use Rattle.fmp_refinement.proofs.Matching.{placed_free}
 use Rattle.fmp_refinement.proofs.Steps.{same_tops}
 
@@ -69,7 +69,7 @@ module _ (c : Setup) (few : length c.tasks ≤ 64) where
   none_numbered : (q : Task → Bool) (ns : List ℕ) (next : ℕ) → ((t : Task) → q t ≡ false) → AreNumbered q ns next
   none_numbered q ns next none = record { distinct = λ t u e. absurd (false≢true (sym (none t) ∙ e)); below = λ t e. absurd (false≢true (sym (none t) ∙ e)) }
 
-  blank_list : (i : ℕ) → list_at (replicate 256 []) i ≡ []
+  blank_list : (i : ℕ) → queue_at (replicate 256 []) i ≡ []
   blank_list i = ⊎_elim (λ (l : i < 256). get_or-replicate 256 i [] [] l) (λ (l : 256 ≤ i). get_or_past (replicate 256 []) i [] (rw (length-replicate {A = List Task} 256 []) l)) (cases_lt i 256)
 
   as_many : (x : QueueKind) → length (queues ws x) ≡ count_in (blank (unnumbered c) c) x
@@ -79,10 +79,10 @@ module _ (c : Setup) (few : length c.tasks ≤ 64) where
   as_many kind.Receive = length-map c.data_queues _
   as_many kind.Pool = length-map c.pools _ ∙ sym (length-map c.pools _)
 
-  blank_keeps : Keeps (no_queues c) (blank (unnumbered c) c)
+  blank_keeps : AreListsOf (no_queues c) (blank (unnumbered c) c)
   blank_keeps = record {
     ready = record {
-      lists = λ p n. empty_list (is_ready_at tasks p n) _ (λ t. and_left _ _ (and_left _ _ (none_runs t))) (list_at (replicate 256 []) (list_number p n)) (blank_list (list_number p n));
+      lists = λ p n. empty_list (is_ready_at tasks p n) _ (λ t. and_left _ _ (and_left _ _ (none_runs t))) (queue_at (replicate 256 []) (list_number p n)) (blank_list (list_number p n));
       numbered = none_numbered (runs_in tasks) _ 0 none_runs;
       sized = length-replicate {A = List Task} 256 [];
       counted = length-map c.tasks _ ∙ sym (length-map c.tasks resting);
@@ -108,12 +108,12 @@ NoneWaits m = (u : Task) → (task m u).wait ≡ None
 abbrev StartAlike : State → Queues → ℕ → List TaskSetup → Type 0
 StartAlike m q t ss = Stands (all_started listed (with_order m q) t ss) (all_started numbered m t ss)
 
-started_stands : (m : State) (q : Queues) → Keeps q m → NoneWaits m → (t : ℕ) (ss : List TaskSetup) → 1 ≤ t → t + length ss ≤ length m.tasks + 1 → length m.tasks ≤ 64 → StartAlike m q t ss
+started_stands : (m : State) (q : Queues) → AreListsOf q m → NoneWaits m → (t : ℕ) (ss : List TaskSetup) → 1 ≤ t → t + length ss ≤ length m.tasks + 1 → length m.tasks ≤ 64 → StartAlike m q t ss
 started_stands m q s free t [] one h few = record { same = refl; order = s }
 started_stands m q s free t (x ∷ ss) one h few = go x.starts (λ n y k f a b. started_stands n y k f (t + 1) ss (omega (arith, one)) a b)
   where
     GoesOn : Type 0
-    GoesOn = (n : State) (y : Queues) → Keeps y n → NoneWaits n → t + 1 + length ss ≤ length n.tasks + 1 → length n.tasks ≤ 64 → StartAlike n y (t + 1) ss
+    GoesOn = (n : State) (y : Queues) → AreListsOf y n → NoneWaits n → t + 1 + length ss ≤ length n.tasks + 1 → length n.tasks ≤ 64 → StartAlike n y (t + 1) ss
 
     -- a task is started or not, and then the others
     go : (b : Bool) → GoesOn →
@@ -130,7 +130,7 @@ started_stands m q s free t (x ∷ ss) one h few = go x.starts (λ n y k f a b. 
 
 -- The processors run their tops.
 
-running_stands : (m : State) (q : Queues) → Keeps q m → (ps : List Proc) → Stands (with_tops_running listed (with_order m q) ps) (with_tops_running numbered m ps)
+running_stands : (m : State) (q : Queues) → AreListsOf q m → (ps : List Proc) → Stands (with_tops_running listed (with_order m q) ps) (with_tops_running numbered m ps)
 running_stands m q s [] = record { same = refl; order = s }
 running_stands m q s (p ∷ ps) =
     subst (λ (f : Proc → Option Task). Stands (with_tops_running listed (with_order (running (f p)) q) ps) (with_tops_running numbered (with_top_running numbered m p) ps))

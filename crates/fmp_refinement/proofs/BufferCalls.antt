@@ -22,14 +22,14 @@ use Rattle.fmp_machine.specs.BufferCalls.{with_values, sent, tsnd_dtq, psnd_dtq,
 use Rattle.fmp_safety.specs.Safe.{IsNumberOf, Safe}
 use Rattle.fmp_safety.proofs.Calls.{from}
 use Rattle.fmp_listed.specs.Queues.{Queues, listed}
-use Rattle.fmp_refinement.specs.Stands.{with_order, Keeps, Matches}
+use Rattle.fmp_refinement.specs.Stands.{with_order, AreListsOf, Matches}
 use Rattle.fmp_refinement.proofs.Words.{by_tests}
 use Rattle.fmp_refinement.proofs.Matching.{matches, released, called_matches}
 use Rattle.fmp_refinement.proofs.ObjectValues.{keeps_handed}
 use Rattle.fmp_refinement.proofs.Waiting.{object_within, same_queue, by_first, same_checks, in_place, does_or_waits}
 use Rattle.fmp_refinement.proofs.Releases.{freed}
 
-module _ (m : State) (q : Queues) (s : Keeps q m) where
+module _ (m : State) (q : Queues) (s : AreListsOf q m) where
   abbrev w : World Queues
   w = with_order m q
 

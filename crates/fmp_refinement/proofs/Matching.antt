@@ -22,7 +22,7 @@ use Rattle.fmp_machine.specs.Rows.{Row, check, called, called_by, wait_for, done
 use Rattle.fmp_safety.proofs.Calls.{Accepts, accepts}
 use Rattle.fmp_waitq.specs.Queue.{rank_of}
 use Rattle.fmp_listed.specs.Queues.{Queues, place_in, listed}
-use Rattle.fmp_refinement.specs.Stands.{count_in, with_order, Keeps, IsOrderOf, Matches}
+use Rattle.fmp_refinement.specs.Stands.{count_in, with_order, AreListsOf, IsOrderOf, Matches}
 use Rattle.fmp_refinement.proofs.Places.{stands_at, HasPlace}
 use Rattle.fmp_refinement.proofs.Waits.{SameRank}
 use Rattle.fmp_refinement.proofs.Words.{by_tests, order_with_task, order_place, order_end, order_begin, order_anew, order_stays, order_at}
@@ -31,10 +31,10 @@ no_wait_ended : (r : TaskRecord) → (ended r).wait ≡ None
 no_wait_ended r = cond_both (nat_lt 0 r.activations) _ _ (λ (x : TaskRecord). x.wait ≡ None) (λ _. refl) (λ _. refl)
 
 -- where nothing moves in an order
-pub matches : (m : State) (q : Queues) → Keeps q m → (e : Effect) → Matches (with_order m q, e) (m, e)
+pub matches : (m : State) (q : Queues) → AreListsOf q m → (e : Effect) → Matches (with_order m q, e) (m, e)
 matches m q s e = record { stands = record { same = refl; order = s }; effect = refl }
 
-module _ (m : State) (q : Queues) (s : Keeps q m) where
+module _ (m : State) (q : Queues) (s : AreListsOf q m) where
   abbrev w : World Queues
   w = with_order m q
 

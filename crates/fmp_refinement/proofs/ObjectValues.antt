@@ -17,7 +17,7 @@ use Rattle.fmp_machine.specs.SyncCalls.{with_count, with_pattern}
 use Rattle.fmp_machine.specs.BufferCalls.{with_handed}
 use Rattle.fmp_safety.proofs.Items.{item_after}
 use Rattle.fmp_listed.specs.Queues.{Queues}
-use Rattle.fmp_refinement.specs.Stands.{count_in, Keeps, IsOrderOf}
+use Rattle.fmp_refinement.specs.Stands.{count_in, AreListsOf, IsOrderOf}
 
 -- as many objects, of the same orders
 record AreAlike {X : Type 0} (order : X → Order) (blank : X) (xs ys : List X) : Type 0 where
@@ -43,9 +43,9 @@ eventflag_order f = f.setup.order
 abbrev pool_order : Pool → Order
 pool_order p = p.setup.order
 
-module _ (m : State) (q : Queues) (s : Keeps q m) where
+module _ (m : State) (q : Queues) (s : AreListsOf q m) where
   keeps_alike : (ss : List Semaphore) (fs : List Eventflag) (ps : List Pool) → AreAlike semaphore_order blank_semaphore m.semaphores ss → AreAlike eventflag_order blank_eventflag m.eventflags fs →
-      AreAlike pool_order blank_pool m.pools ps → Keeps q (record m { semaphores = ss; eventflags = fs; pools = ps })
+      AreAlike pool_order blank_pool m.pools ps → AreListsOf q (record m { semaphores = ss; eventflags = fs; pools = ps })
   keeps_alike ss fs ps a b c =
       subst (λ (n : QueueKind → ℕ). IsOrderOf m.tasks (order_in v) n m.waits_left q m.order) (λ i x. counts x i)
       (subst (λ (o : QueueKind → Object → Order). IsOrderOf m.tasks o (count_in m) m.waits_left q m.order) (λ i x o. orders x o i) s)
@@ -68,14 +68,14 @@ module _ (m : State) (q : Queues) (s : Keeps q m) where
       counts kind.Pool = c.count
 
   module _ (i : Object) where
-    pub keeps_count : (n : ℕ) → Keeps q (with_count m i n)
+    pub keeps_count : (n : ℕ) → AreListsOf q (with_count m i n)
     keeps_count n =
         keeps_alike (with_count m i n).semaphores m.eventflags m.pools (put semaphore_order blank_semaphore m.semaphores i.number _ refl) (alike eventflag_order blank_eventflag m.eventflags) (alike pool_order blank_pool m.pools)
 
-    pub keeps_pattern : (x : ℕ) → Keeps q (with_pattern m i x)
+    pub keeps_pattern : (x : ℕ) → AreListsOf q (with_pattern m i x)
     keeps_pattern x =
         keeps_alike m.semaphores (with_pattern m i x).eventflags m.pools (alike semaphore_order blank_semaphore m.semaphores) (put eventflag_order blank_eventflag m.eventflags i.number _ refl) (alike pool_order blank_pool m.pools)
 
-    pub keeps_handed : (b : ℕ) (handed : Bool) → Keeps q (with_handed m i b handed)
+    pub keeps_handed : (b : ℕ) (handed : Bool) → AreListsOf q (with_handed m i b handed)
     keeps_handed b handed =
         keeps_alike m.semaphores m.eventflags (with_handed m i b handed).pools (alike semaphore_order blank_semaphore m.semaphores) (alike eventflag_order blank_eventflag m.eventflags) (put pool_order blank_pool m.pools i.number _ refl)

@@ -11,7 +11,7 @@ use Rattle.fmp_machine.specs.Ordering.{is_runnable}
 use Rattle.fmp_machine.specs.Arrivals.{comes_before, priority_in}
 use Rattle.fmp_safety.proofs.First.{comes_before_is_strict}
 use Rattle.fmp_links.specs.Tasks.{without}
-use Rattle.fmp_ready.specs.Queues.{list_number, list_at, push_last, take_out}
+use Rattle.fmp_ready.specs.Queues.{list_number, queue_at, push_last, take_out}
 use Rattle.fmp_refinement.specs.Listing.{is_task, all_but, IsListOf}
 use Rattle.fmp_refinement.specs.Stands.{record_in, runs_in, is_ready_at, AreNumbered, ReadyIs}
 use Rattle.fmp_refinement.proofs.Listings.{at_same, but_other, but_none, listing_agree, listing_same, listing_out, listing_gone, listing_last}
@@ -19,7 +19,7 @@ use Rattle.fmp_refinement.proofs.Numbering.{other_item, own_item, but_agree, bef
 
 -- the lists without a task, which stands in none
 pub record ReadyBut (u : Task) (tasks : List TaskRecord) (ready : List (List Task)) (ns : List ℕ) (next : ℕ) : Type 0 where
-  pub lists : (p : Proc) (n : Pri) → IsListOf (all_but u (is_ready_at tasks p n)) (comes_before (priority_in tasks) ns) (list_at ready (list_number p n))
+  pub lists : (p : Proc) (n : Pri) → IsListOf (all_but u (is_ready_at tasks p n)) (comes_before (priority_in tasks) ns) (queue_at ready (list_number p n))
   pub numbered : AreNumbered (all_but u (runs_in tasks)) ns next
   pub sized : length ready ≡ 256
   pub counted : length ns ≡ length tasks
@@ -31,16 +31,16 @@ number_within : (p : Proc) (n : Pri) → list_number p n < 256
 number_within p n = let a = p.most in let b = n.most in let c = p.least in let d = n.least in omega (arith, a, b, c, d)
 
 list_after : (ready : List (List Task)) (i : Proc) (j : Pri) (ts : List Task) (p : Proc) (n : Pri) (P : List Task → Type 0) → length ready ≡ 256 →
-    (list_number p n ≡ list_number i j → P ts) → ((list_number p n ≡ list_number i j → ⊥) → P (list_at ready (list_number p n))) →
-    P (list_at (slice_set ready (list_number i j) ts) (list_number p n))
+    (list_number p n ≡ list_number i j → P ts) → ((list_number p n ≡ list_number i j → ⊥) → P (queue_at ready (list_number p n))) →
+    P (queue_at (slice_set ready (list_number i j) ts) (list_number p n))
 list_after ready i j ts p n P size here elsewhere = ⊎_elim
     (λ (e : list_number p n ≡ list_number i j).
     let within : list_number i j < length ready = let l = number_within i j in omega (arith, l, size) in
-    subst P (sym (ap (list_at (slice_set ready (list_number i j) ts)) e ∙ get_or-set_same ready (list_number i j) ts [] within)) (here e))
+    subst P (sym (ap (queue_at (slice_set ready (list_number i j) ts)) e ∙ get_or-set_same ready (list_number i j) ts [] within)) (here e))
     (λ (d : list_number p n ≡ list_number i j → ⊥). subst P (sym (get_or-set_other ready (list_number i j) (list_number p n) ts [] d)) (elsewhere d))
     (cases_eq (list_number p n) (list_number i j))
 
-list_without : (ready : List (List Task)) (u : Task) (i : ℕ) → list_at (take_out ready u) i ≡ without u (list_at ready i)
+list_without : (ready : List (List Task)) (u : Task) (i : ℕ) → queue_at (take_out ready u) i ≡ without u (queue_at ready i)
 list_without [] u i = refl
 list_without (ts ∷ ready) u zero = refl
 list_without (ts ∷ ready) u (suc i) = list_without ready u i
@@ -162,7 +162,7 @@ module _ (u : Task) (tasks : List TaskRecord) (ready : List (List Task)) (ns : L
       ReadyIs tasks (push_last ready (list_number r.assigned r.priority) u) ns next
   ready_in runs last low = record {
     lists = λ p n. list_after ready r.assigned r.priority _ p n (IsListOf (is_ready_at tasks p n) before) s.sized
-        (λ e. subst (λ (i : ℕ). IsListOf (is_ready_at tasks p n) before (list_at ready i ++ u ∷ [])) e (arrived p n e))
+        (λ e. subst (λ (i : ℕ). IsListOf (is_ready_at tasks p n) before (queue_at ready i ++ u ∷ [])) e (arrived p n e))
         (λ d. listing_same (but_none u (is_ready_at tasks p n) (false_from_ne_true _ (λ e. d (fits_list r p n e)))) (s.lists p n));
     numbered = numbered_in u (runs_in tasks) ns next last low s.numbered;
     sized = length-set ready _ _ ∙ s.sized;
@@ -171,9 +171,9 @@ module _ (u : Task) (tasks : List TaskRecord) (ready : List (List Task)) (ns : L
   }
     where
       arrived : (p : Proc) (n : Pri) → list_number p n ≡ list_number r.assigned r.priority →
-          IsListOf (is_ready_at tasks p n) before (list_at ready (list_number p n) ++ u ∷ [])
+          IsListOf (is_ready_at tasks p n) before (queue_at ready (list_number p n) ++ u ∷ [])
       arrived p n e =
-          listing_last u (is_ready_at tasks p n) before (comes_before_is_strict (priority_in tasks) ns) (list_at ready (list_number p n))
+          listing_last u (is_ready_at tasks p n) before (comes_before_is_strict (priority_in tasks) ns) (queue_at ready (list_number p n))
           (fits_at r p n runs e)
           (λ t d f. let a = fits_parts (record_in tasks t) p n f in let b = fits_parts r p n (fits_at r p n runs e) in
           later_comes_after (priority_in tasks) ns t u (a.priority ∙ sym b.priority) (last t d a.runnable))

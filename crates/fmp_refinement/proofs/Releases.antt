@@ -10,7 +10,7 @@ use Rattle.fmp_machine.specs.Arrivals.{State, numbered}
 use Rattle.fmp_machine.specs.Tasks.{make_ready}
 use Rattle.fmp_machine.specs.Rows.{and_release}
 use Rattle.fmp_listed.specs.Queues.{Queues, listed}
-use Rattle.fmp_refinement.specs.Stands.{with_order, Keeps, Stands}
+use Rattle.fmp_refinement.specs.Stands.{with_order, AreListsOf, Stands}
 use Rattle.fmp_refinement.proofs.Listings.{In, itself}
 use Rattle.fmp_refinement.proofs.Matching.{released}
 
@@ -20,7 +20,7 @@ pub record Frees (a : World Queues × List Release) (b : State × List Release) 
   pub releases : a.1 ≡ b.1
 
 -- nobody is released
-pub frees_none : (m : State) (q : Queues) → Keeps q m → Frees (with_order m q, []) (m, [])
+pub frees_none : (m : State) (q : Queues) → AreListsOf q m → Frees (with_order m q, []) (m, [])
 frees_none m q s = record { stands = record { same = refl; order = s }; releases = refl }
 
 pub frees_and : (r : Release) (a : World Queues × List Release) (b : State × List Release) → Frees a b → Frees (and_release r a) (and_release r b)
@@ -41,7 +41,7 @@ filtered_within n f (t ∷ ts) a =
     cond_both (f t) (t ∷ filter f ts) (filter f ts) (AllWithin n) (λ _. (a.0, filtered_within n f ts a.1)) (λ _. filtered_within n f ts a.1)
 
 -- the order after a release, and the tasks that are there then
-pub freed : (m : State) (q : Queues) → Keeps q m → (t : Task) → t.number ≤ length m.tasks → Keeps (make_ready listed (with_order m q) t).order (make_ready numbered m t)
+pub freed : (m : State) (q : Queues) → AreListsOf q m → (t : Task) → t.number ≤ length m.tasks → AreListsOf (make_ready listed (with_order m q) t).order (make_ready numbered m t)
 freed m q s t within = (released m q s t within code.Accepted None).stands.order
 
 pub still_within : (m : State) (t : Task) (ts : List Task) → AllWithin (length m.tasks) ts → AllWithin (length (make_ready numbered m t).tasks) ts

@@ -17,11 +17,11 @@ use Rattle.fmp_machine.specs.Rows.{called, done}
 use Rattle.fmp_machine.specs.SpinCalls.{taken, loc_spn, try_spn, unl_spn, spin_row, without_handler, ret_hdr}
 use Rattle.fmp_safety.proofs.Calls.{from}
 use Rattle.fmp_listed.specs.Queues.{Queues}
-use Rattle.fmp_refinement.specs.Stands.{with_order, Keeps, Matches}
+use Rattle.fmp_refinement.specs.Stands.{with_order, AreListsOf, Matches}
 use Rattle.fmp_refinement.proofs.Words.{by_tests}
 use Rattle.fmp_refinement.proofs.Matching.{matches, called_matches}
 
-module _ (m : State) (q : Queues) (s : Keeps q m) (p : Proc) where
+module _ (m : State) (q : Queues) (s : AreListsOf q m) (p : Proc) where
   abbrev w : World Queues
   w = with_order m q
 

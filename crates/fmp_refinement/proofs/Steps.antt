@@ -22,7 +22,7 @@ use Rattle.fmp_safety.specs.Runs.{processor_of}
 use Rattle.fmp_safety.specs.Safe.{IsNumberOf, Safe}
 use Rattle.fmp_safety.proofs.Settling.{with_latches, with_dispatch, settle_is}
 use Rattle.fmp_listed.specs.Queues.{Queues, listed}
-use Rattle.fmp_refinement.specs.Stands.{count_in, with_order, Keeps, Stands, Matches, StepsMatch}
+use Rattle.fmp_refinement.specs.Stands.{count_in, with_order, AreListsOf, Stands, Matches, StepsMatch}
 use Rattle.fmp_refinement.proofs.Words.{by_tests}
 use Rattle.fmp_refinement.proofs.Tops.{same_top}
 use Rattle.fmp_refinement.proofs.Matching.{matches}
@@ -36,7 +36,7 @@ use Rattle.fmp_refinement.proofs.Ticks.{tick_matches}
 
 -- The end of an event asks of the order only what comes first.
 
-module _ (v : State) (x : Queues) (s : Keeps x v) where
+module _ (v : State) (x : Queues) (s : AreListsOf x v) where
   pub same_tops : ◌≡◌ {A = Proc → Option Task} (λ p. top listed (with_order v x) p) (λ p. top numbered v p)
   same_tops = λ i p. same_top v.tasks (order_in v) (count_in v) v.waits_left x v.order s p i
 
@@ -59,8 +59,8 @@ module _ (v : State) (x : Queues) (s : Keeps x v) where
         ∙ ap (λ (cs : List Processor). with_order (record v { processors = cs }) x) (ap last same_tops)
         ∙ sym (ap (λ (y : State). with_order y x) (settle_is numbered before v p))
 
-    kept_settle : Keeps x (settle numbered before v p)
-    kept_settle = subst (Keeps x) (sym (settle_is numbered before v p)) s
+    kept_settle : AreListsOf x (settle numbered before v p)
+    kept_settle = subst (AreListsOf x) (sym (settle_is numbered before v p)) s
 
   settled_same : (before : Before) (e : Effect) → StepsMatch (settled listed before (with_order v x, e)) (settled numbered before (v, e))
   unfolding settled
@@ -69,7 +69,7 @@ module _ (v : State) (x : Queues) (s : Keeps x v) where
       let same : settle listed before.tops (with_order v x) before.processor ≡ with_order after x = same_settle before.tops before.processor in
       let order : x ≡ (settle listed before.tops (with_order v x) before.processor).order = sym (ap (λ (y : World Queues). y.order) same) in
       record {
-        stands = record { same = same ∙ ap (λ (y : Queues). with_order after y) order; order = subst (λ (y : Queues). Keeps y after) order (kept_settle before.tops before.processor) };
+        stands = record { same = same ∙ ap (λ (y : Queues). with_order after y) order; order = subst (λ (y : Queues). AreListsOf y after) order (kept_settle before.tops before.processor) };
         same = ap (λ (y : World Queues). told y (requests listed before.tops (with_order v x) before.processor)) same
             ∙ ap (λ (rs : List Proc). told (with_order after x) rs) (same_requests before.tops before.processor);
       }
@@ -90,7 +90,7 @@ settled_matches before a b h =
     let is : a ≡ (with_order b.0 a.0.order, b.1) = λ i. (h.stands.same i, h.effect i) in
     subst (λ (y : World Queues × Effect). StepsMatch (settled listed before y) (settled numbered before b)) (sym is) (settled_same b.0 a.0.order h.stands.order before b.1)
 
-module _ (m : State) (q : Queues) (s : Keeps q m) where
+module _ (m : State) (q : Queues) (s : AreListsOf q m) where
   abbrev w : World Queues
   w = with_order m q
 

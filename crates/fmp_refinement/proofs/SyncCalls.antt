@@ -24,7 +24,7 @@ use Rattle.fmp_machine.specs.SyncCalls.{with_count, signal, counted, sig_sem, tw
 use Rattle.fmp_safety.specs.Safe.{IsNumberOf, Safe}
 use Rattle.fmp_safety.proofs.Calls.{from}
 use Rattle.fmp_listed.specs.Queues.{Queues, listed}
-use Rattle.fmp_refinement.specs.Stands.{with_order, Keeps, Matches}
+use Rattle.fmp_refinement.specs.Stands.{with_order, AreListsOf, Matches}
 use Rattle.fmp_refinement.proofs.Words.{by_tests}
 use Rattle.fmp_refinement.proofs.Matching.{matches, released, called_matches}
 use Rattle.fmp_refinement.proofs.ObjectValues.{keeps_count, keeps_pattern}
@@ -32,14 +32,14 @@ use Rattle.fmp_refinement.proofs.Waiting.{object_within, same_queue, waiter_with
 use Rattle.fmp_refinement.proofs.Releases.{Frees, frees_none, frees_and, AllWithin, all_within, freed, still_within}
 
 -- the waiters of a flag are served, as they were at the beginning
-serves : (f : Object) (ts : List Task) (m : State) (q : Queues) (x : ℕ) → Keeps q m → AllWithin (length m.tasks) ts → Frees (served listed (with_order m q) f x ts) (served numbered m f x ts)
+serves : (f : Object) (ts : List Task) (m : State) (q : Queues) (x : ℕ) → AreListsOf q m → AllWithin (length m.tasks) ts → Frees (served listed (with_order m q) f x ts) (served numbered m f x ts)
 serves f [] m q x s a = frees_none (with_pattern m f x) q (keeps_pattern m q s f x)
 serves f (t ∷ ts) m q x s a =
     by_tests Frees (is_met x (task m t).wait) _ _ _ _
     (λ _. frees_and _ _ _ (serves f ts (make_ready numbered m t) (make_ready listed (with_order m q) t).order (cleared m f x) (freed m q s t a.0) (still_within m t ts a.1)))
     (λ _. serves f ts m q x s a.1)
 
-module _ (m : State) (q : Queues) (s : Keeps q m) (safe : Safe numbered m) (p : Proc) (there : IsNumberOf m.processors p.number) where
+module _ (m : State) (q : Queues) (s : AreListsOf q m) (safe : Safe numbered m) (p : Proc) (there : IsNumberOf m.processors p.number) where
   abbrev w : World Queues
   w = with_order m q
 

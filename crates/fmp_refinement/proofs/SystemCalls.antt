@@ -15,12 +15,12 @@ use Rattle.fmp_machine.specs.Rows.{Row, check, called, in_handler, done}
 use Rattle.fmp_machine.specs.SystemCalls.{rotation, rotation_in_handler, get_tid, get_pid, loc_cpu, unl_cpu, dis_dsp, ena_dsp, sense, system_row}
 use Rattle.fmp_listed.specs.Queues.{Queues, listed}
 use Rattle.fmp_machine.specs.Ordering.{order_in}
-use Rattle.fmp_refinement.specs.Stands.{count_in, with_order, Keeps, Matches}
+use Rattle.fmp_refinement.specs.Stands.{count_in, with_order, AreListsOf, Matches}
 use Rattle.fmp_refinement.proofs.Listings.{In, itself}
 use Rattle.fmp_refinement.proofs.Tops.{same_ready, runs_within}
 use Rattle.fmp_refinement.proofs.Matching.{matches, placed_again, called_matches}
 
-module _ (m : State) (q : Queues) (s : Keeps q m) where
+module _ (m : State) (q : Queues) (s : AreListsOf q m) where
   abbrev w : World Queues
   w = with_order m q
 
@@ -50,7 +50,7 @@ module _ (m : State) (q : Queues) (s : Keeps q m) where
         (λ _. rotated_on (unwrap_or r p) (priority_or (task m (caller m p)).priority n))
 
     -- a call that tells something, or changes its processor
-    plainly : (a : Row Queues) (b : Row Arrivals) → Keeps q b.effect.0 → check w p a ≡ check m p b → a.effect ≡ (with_order b.effect.0 q, b.effect.1) → Matches (called w p a) (called m p b)
+    plainly : (a : Row Queues) (b : Row Arrivals) → AreListsOf q b.effect.0 → check w p a ≡ check m p b → a.effect ≡ (with_order b.effect.0 q, b.effect.1) → Matches (called w p a) (called m p b)
     plainly a b k same did = called_matches m q s p a b same (λ _. subst (λ x. Matches x b.effect) (sym did) (matches b.effect.0 q k b.effect.1))
 
     pub system_matches : (c : SystemCall) → Matches (called w p (system_row listed w p c)) (called m p (system_row numbered m p c))

@@ -24,7 +24,7 @@ use Rattle.fmp_machine.specs.TaskCalls.{is_sleep, act, mact, can_act, mig_tsk, e
 use Rattle.fmp_safety.specs.Safe.{IsNumberOf, Safe}
 use Rattle.fmp_safety.proofs.Calls.{from, from_task}
 use Rattle.fmp_listed.specs.Queues.{Queues, Place, place_of, listed}
-use Rattle.fmp_refinement.specs.Stands.{with_order, Keeps, Matches}
+use Rattle.fmp_refinement.specs.Stands.{with_order, AreListsOf, Matches}
 use Rattle.fmp_refinement.proofs.Words.{by_tests}
 use Rattle.fmp_refinement.proofs.Callers.{dormant_free, caller_within, caller_free, task_named_within, task_or_caller_within}
 use Rattle.fmp_refinement.proofs.Waiting.{does_or_waits}
@@ -34,7 +34,7 @@ use Rattle.fmp_refinement.proofs.Matching.{matches, noted, placed_again, placed_
 nowhere : (x : Wait) → place_of x ≡ None → (at : Place) → place_of x ≡ Some at → (n : ℕ) → at.object.number ≤ n
 nowhere x e at f n = absurd (none-some at (sym e ∙ f))
 
-module _ (m : State) (q : Queues) (s : Keeps q m) (safe : Safe numbered m) where
+module _ (m : State) (q : Queues) (s : AreListsOf q m) (safe : Safe numbered m) where
   abbrev w : World Queues
   w = with_order m q
 

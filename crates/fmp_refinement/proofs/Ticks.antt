@@ -18,7 +18,7 @@ use Rattle.fmp_machine.specs.Rows.{plain}
 use Rattle.fmp_machine.specs.TimeCalls.{with_alarm_left, with_cyclic_left}
 use Rattle.fmp_machine.specs.Tick.{one_less, lowered, counted_down, code_of, released, with_due, alarms_due, cyclics_due, is_over, tasks_expired, expired, with_handlers_due, ticked, tick}
 use Rattle.fmp_listed.specs.Queues.{Queues, listed}
-use Rattle.fmp_refinement.specs.Stands.{count_in, with_order, Keeps, Matches}
+use Rattle.fmp_refinement.specs.Stands.{count_in, with_order, AreListsOf, Matches}
 use Rattle.fmp_refinement.proofs.Waits.{waits_ticked}
 use Rattle.fmp_refinement.proofs.Tops.{same_timed, waits_within}
 use Rattle.fmp_refinement.proofs.Matching.{matches}
@@ -42,7 +42,7 @@ lowered_length f [] ns = refl
 lowered_length f (x ∷ xs) [] = refl
 lowered_length f (x ∷ xs) (n ∷ ns) = ap suc (lowered_length f xs ns)
 
-keeps_lower : (m : State) (q : Queues) → Keeps q m → (p : Proc) → Keeps q (counted_down m p)
+keeps_lower : (m : State) (q : Queues) → AreListsOf q m → (p : Proc) → AreListsOf q (counted_down m p)
 unfolding counted_down
 keeps_lower m q s p = record {
   ready = s.ready;
@@ -53,7 +53,7 @@ keeps_lower m q s p = record {
 
 -- Waits end, one after another.
 
-ends : (ts : List Task) (m : State) (q : Queues) → Keeps q m → AllWithin (length m.tasks) ts → Frees (released listed (with_order m q) ts) (released numbered m ts)
+ends : (ts : List Task) (m : State) (q : Queues) → AreListsOf q m → AllWithin (length m.tasks) ts → Frees (released listed (with_order m q) ts) (released numbered m ts)
 ends [] m q s a = frees_none m q s
 ends (t ∷ ts) m q s a =
     frees_and (record { task = t; code = code_of (task m t).wait; value = None }) _ _
@@ -62,15 +62,15 @@ ends (t ∷ ts) m q s a =
 -- Handlers become due, and no order changes.
 
 module _ (q : Queues) (p : Proc) where
-  due_alarms : (m : State) → Keeps q m → (os : List Object) → (alarms_due (with_order m q) p os ≡ with_order (alarms_due m p os) q) × Keeps q (alarms_due m p os)
+  due_alarms : (m : State) → AreListsOf q m → (os : List Object) → (alarms_due (with_order m q) p os ≡ with_order (alarms_due m p os) q) × AreListsOf q (alarms_due m p os)
   due_alarms m s [] = (refl, s)
   due_alarms m s (a ∷ os) = due_alarms (with_alarm_left (with_due m p (runner.Alarm a)) a None) s os
 
-  due_cyclics : (m : State) → Keeps q m → (os : List Object) → (cyclics_due (with_order m q) p os ≡ with_order (cyclics_due m p os) q) × Keeps q (cyclics_due m p os)
+  due_cyclics : (m : State) → AreListsOf q m → (os : List Object) → (cyclics_due (with_order m q) p os ≡ with_order (cyclics_due m p os) q) × AreListsOf q (cyclics_due m p os)
   due_cyclics m s [] = (refl, s)
   due_cyclics m s (c ∷ os) = due_cyclics (with_cyclic_left (with_due m p (runner.Cyclic c)) c (Some (cyclic m c).setup.period)) s os
 
-  due_handlers : (m : State) → Keeps q m → (with_handlers_due (with_order m q) p ≡ with_order (with_handlers_due m p) q) × Keeps q (with_handlers_due m p)
+  due_handlers : (m : State) → AreListsOf q m → (with_handlers_due (with_order m q) p ≡ with_order (with_handlers_due m p) q) × AreListsOf q (with_handlers_due m p)
   unfolding with_handlers_due
   due_handlers m s =
       let alarms : List Object = expired m.alarms_left m.alarms in
@@ -92,9 +92,9 @@ takes p a b f =
     subst (λ (x : World Queues × List Release). Matches (taken p x) (taken p b)) (sym is)
     (subst (λ (x : World Queues). Matches (x, record (plain answer.Taken) { releases = b.1 }) (taken p b)) (sym due.0) (matches (with_handlers_due b.0 p) a.0.order due.1 _))
 
-module _ (m : State) (q : Queues) (s : Keeps q m) (p : Proc) where
+module _ (m : State) (q : Queues) (s : AreListsOf q m) (p : Proc) where
   -- the tasks whose time is over are there
-  over_within : (v : State) → Keeps q v → AllWithin (length v.tasks) (tasks_expired v.waits_left q.timed)
+  over_within : (v : State) → AreListsOf q v → AllWithin (length v.tasks) (tasks_expired v.waits_left q.timed)
   over_within v k =
       filtered_within (length v.tasks) (λ u. is_over (item None v.waits_left u.number)) q.timed
       (all_within (length v.tasks) q.timed (λ t i. waits_within v.tasks t (k.waits.timed_wait t (sym (k.waits.timed.members t) ∙ i))))
@@ -103,7 +103,7 @@ module _ (m : State) (q : Queues) (s : Keeps q m) (p : Proc) where
   unfolding ticked counted_down listed
   tick_matches =
       let v : State = counted_down m p in
-      let k : Keeps q v = keeps_lower m q s p in
+      let k : AreListsOf q v = keeps_lower m q s p in
       let ts : List Task = tasks_expired v.waits_left q.timed in
       let same : q.timed ≡ numbered.timed v.order v.waits_left = same_timed v.tasks (order_in v) (count_in v) v.waits_left q v.order k in
       subst (λ us. Matches (taken p (released listed (with_order v q) ts)) (taken p (released numbered v (tasks_expired v.waits_left us)))) same

@@ -9,15 +9,15 @@ use Rattle.fmp_machine.specs.Rows.{check, called}
 use Rattle.fmp_machine.specs.TimeCalls.{sta_cyc, msta_cyc, stp_cyc, sta_alm, msta_alm, stp_alm, time_row}
 use Rattle.fmp_safety.specs.Safe.{IsNumberOf, Safe}
 use Rattle.fmp_listed.specs.Queues.{Queues}
-use Rattle.fmp_refinement.specs.Stands.{with_order, Keeps, Matches}
+use Rattle.fmp_refinement.specs.Stands.{with_order, AreListsOf, Matches}
 use Rattle.fmp_refinement.proofs.Matching.{matches, called_matches}
 
-module _ (m : State) (q : Queues) (s : Keeps q m) (safe : Safe numbered m) (p : Proc) (there : IsNumberOf m.processors p.number) where
+module _ (m : State) (q : Queues) (s : AreListsOf q m) (safe : Safe numbered m) (p : Proc) (there : IsNumberOf m.processors p.number) where
   abbrev w : World Queues
   w = with_order m q
 
   -- a call that changes no task and no object for which one may wait
-  plainly : (c : TimeCall) → Keeps q (time_row m c).effect.0 → check w p (time_row w c) ≡ check m p (time_row m c) →
+  plainly : (c : TimeCall) → AreListsOf q (time_row m c).effect.0 → check w p (time_row w c) ≡ check m p (time_row m c) →
       (time_row w c).effect ≡ (with_order (time_row m c).effect.0 q, (time_row m c).effect.1) → Matches (called w p (time_row w c)) (called m p (time_row m c))
   plainly c k same did =
       called_matches m q s p (time_row w c) (time_row m c) same

@@ -15,7 +15,7 @@ use Rattle.fmp_machine.specs.World.{no_task, first}
 use Rattle.fmp_machine.specs.Ordering.{is_runnable}
 use Rattle.fmp_machine.specs.Arrivals.{Arrivals, numbered, comes_before, priority_in, is_ready_on, rank_in, in_order}
 use Rattle.fmp_safety.proofs.First.{comes_before_is_strict}
-use Rattle.fmp_ready.specs.Queues.{list_number, list_at, first_of}
+use Rattle.fmp_ready.specs.Queues.{list_number, queue_at, first_of}
 use Rattle.fmp_waitq.specs.Queue.{task_of}
 use Rattle.fmp_listed.specs.Queues.{Queues, queue, listed}
 use Rattle.fmp_refinement.specs.Listing.{IsListOf}
@@ -68,10 +68,10 @@ module _ (tasks : List TaskRecord) (ready : List (List Task)) (ns : List ℕ) (n
   abbrev lists_on : List (List Task)
   lists_on = drop (32 * (p.number - 1)) ready
 
-  list_on : (n m : ℕ) → m ≡ n + 1 → n < 32 → joined (take m lists_on) ≡ joined (take n lists_on) ++ list_at ready (32 * (p.number - 1) + n)
+  list_on : (n m : ℕ) → m ≡ n + 1 → n < 32 → joined (take m lists_on) ≡ joined (take n lists_on) ++ queue_at ready (32 * (p.number - 1) + n)
   list_on n m e h =
       let there : n < length lists_on = let l = p.most in let k = length-drop (32 * (p.number - 1)) ready in omega (arith, h, l, k, s.sized) in
-      ap (λ i. joined (take i lists_on)) e ∙ ap joined (take_more lists_on n [] there) ∙ joined_more (take n lists_on) (list_at lists_on n)
+      ap (λ i. joined (take i lists_on)) e ∙ ap joined (take_more lists_on n [] there) ∙ joined_more (take n lists_on) (queue_at lists_on n)
       ∙ ap (λ us. joined (take n lists_on) ++ us) (get_or-drop (32 * (p.number - 1)) ready n [])
 
   joined_is : (n : ℕ) → n ≤ 32 → IsListOf (up_to n) before (joined (take n lists_on))
@@ -82,8 +82,8 @@ module _ (tasks : List TaskRecord) (ready : List (List Task)) (ns : List ℕ) (n
   joined_is (suc n) h =
       subst (IsListOf (up_to (suc n)) before) (sym (list_on n (suc n) (omega arith) (omega (arith, h))))
       (listing_same (λ t. one_more (priority_in tasks t) (is_ready_on tasks p t))
-      (listing_append (up_to n) (is_ready_at tasks p i) before (joined (take n lists_on)) (list_at ready (32 * (p.number - 1) + n)) lower
-      (joined_is n (omega (arith, h))) (subst (λ j. IsListOf (is_ready_at tasks p i) before (list_at ready j)) index (s.lists p i))))
+      (listing_append (up_to n) (is_ready_at tasks p i) before (joined (take n lists_on)) (queue_at ready (32 * (p.number - 1) + n)) lower
+      (joined_is n (omega (arith, h))) (subst (λ j. IsListOf (is_ready_at tasks p i) before (queue_at ready j)) index (s.lists p i))))
     where
       i : Pri
       i = as_pri (suc n)
@@ -141,7 +141,7 @@ module _ (tasks : List TaskRecord) (orders : QueueKind → Object → Order) (co
   pub same_ready : (p : Proc) (i : Pri) → listed.ready q tasks p i ≡ numbered.ready n tasks p i
   unfolding listed numbered
   same_ready p i =
-      same_numbered (is_ready_at tasks p i) (priority_in tasks) n.ready n.next (length tasks) (list_at q.ready (list_number p i))
+      same_numbered (is_ready_at tasks p i) (priority_in tasks) n.ready n.next (length tasks) (queue_at q.ready (list_number p i))
       (numbered_fewer runs s.ready.numbered) s.ready.few (λ t e. runs_within tasks t (runs t e)) (s.ready.lists p i)
     where
       runs : (t : Task) → is_ready_at tasks p i t ≡ true → runs_in tasks t ≡ true

@@ -20,7 +20,7 @@ use Rattle.fmp_machine.specs.Rows.{Row, is_refused_context, first_error, check, 
 use Rattle.fmp_safety.specs.Safe.{IsNumberOf, Safe}
 use Rattle.fmp_safety.proofs.Calls.{from_task}
 use Rattle.fmp_listed.specs.Queues.{Queues, Place, place_of, listed}
-use Rattle.fmp_refinement.specs.Stands.{count_in, with_order, Keeps, Matches}
+use Rattle.fmp_refinement.specs.Stands.{count_in, with_order, AreListsOf, Matches}
 use Rattle.fmp_refinement.proofs.Listings.{In, itself}
 use Rattle.fmp_refinement.proofs.Waits.{waiter_waits}
 use Rattle.fmp_refinement.proofs.Tops.{same_waiters, waits_within}
@@ -35,7 +35,7 @@ object_within xs (pos n) e =
     (λ b _. let both = and_parts (nat_le 1 n) (nat_le n (length xs)) b in let least = leb-true _ _ both.0 in let most = leb-true _ _ both.1 in omega (arith, least, most))
     (λ _ none. absurd (false≢true none)) e
 
-module _ (m : State) (q : Queues) (s : Keeps q m) where
+module _ (m : State) (q : Queues) (s : AreListsOf q m) where
   abbrev w : World Queues
   w = with_order m q
 
@@ -64,7 +64,7 @@ module _ (m : State) (q : Queues) (s : Keeps q m) where
 pub in_place : (m : State) (x : QueueKind) (o : Object) → o.number ≤ count_in m x → (at : Place) → Some (record { kind = x; object = o }) ≡ Some at → at.object.number ≤ count_in m at.kind
 in_place m x o within at e = subst (λ (y : Place). y.object.number ≤ count_in m y.kind) (same_Some _ at e) within
 
-module _ (m : State) (q : Queues) (s : Keeps q m) (safe : Safe numbered m) (p : Proc) (there : IsNumberOf m.processors p.number) where
+module _ (m : State) (q : Queues) (s : AreListsOf q m) (safe : Safe numbered m) (p : Proc) (there : IsNumberOf m.processors p.number) where
   -- what can be done is done, or else the task that calls waits
   pub does_or_waits : is_refused_context m p (record { context = context.Task; when_locked = false; unheld = true }) ≡ false → (can : Bool) (a : World Queues × Effect) (b : State × Effect) (x : Wait) (timeout : ℤ) →
       ((at : Place) → place_of x ≡ Some at → at.object.number ≤ count_in m at.kind) → Matches a b → Matches (done_or_wait listed (with_order m q) p can a x timeout) (done_or_wait numbered m p can b x timeout)

@@ -17,7 +17,7 @@ use Rattle.fmp_machine.specs.declared.machine.QueueKind.TheVariants as kind
 use Rattle.fmp_machine.specs.World.{World, item, no_task}
 use Rattle.fmp_machine.specs.Ordering.{is_runnable, waits_in, order_in}
 use Rattle.fmp_machine.specs.Arrivals.{Arrivals, State, comes_before, priority_in, is_ready_on, rank_in}
-use Rattle.fmp_ready.specs.Queues.{list_number, list_at}
+use Rattle.fmp_ready.specs.Queues.{list_number, queue_at}
 use Rattle.fmp_waitq.specs.Queue.{Waiter, task_of}
 use Rattle.fmp_listed.specs.Queues.{WaitQueues, Queues, queues, queue}
 use Rattle.fmp_refinement.specs.Listing.{IsListOf}
@@ -65,7 +65,7 @@ AreRanked rank (e ∷ es) = (e.rank ≡ rank e.task) × AreRanked rank es
 
 -- each ready list has the tasks that are ready there, in the order of their numbers
 pub record ReadyIs (tasks : List TaskRecord) (ready : List (List Task)) (ns : List ℕ) (next : ℕ) : Type 0 where
-  pub lists : (p : Proc) (n : Pri) → IsListOf (is_ready_at tasks p n) (comes_before (priority_in tasks) ns) (list_at ready (list_number p n))
+  pub lists : (p : Proc) (n : Pri) → IsListOf (is_ready_at tasks p n) (comes_before (priority_in tasks) ns) (queue_at ready (list_number p n))
   pub numbered : AreNumbered (runs_in tasks) ns next
   pub sized : length ready ≡ 256
   pub counted : length ns ≡ length tasks
@@ -110,13 +110,13 @@ with_order w order = record {
 }
 
 -- the lists are those of the tasks of a state
-abbrev pub Keeps : Queues → State → Type 0
-Keeps q m = IsOrderOf m.tasks (order_in m) (count_in m) m.waits_left q m.order
+abbrev pub AreListsOf : Queues → State → Type 0
+AreListsOf q m = IsOrderOf m.tasks (order_in m) (count_in m) m.waits_left q m.order
 
 -- a state with lists stands for one with numbers: the lists are its order, and all else is the same
 pub record Stands (k : World Queues) (m : State) : Type 0 where
   pub same : k ≡ with_order m k.order
-  pub order : Keeps k.order m
+  pub order : AreListsOf k.order m
 
 -- what was done on lists and what was done on numbers: the states stand for one another, and the same is told
 pub record Matches (a : World Queues × Effect) (b : State × Effect) : Type 0 where

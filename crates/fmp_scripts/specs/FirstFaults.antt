@@ -1,5 +1,6 @@
 -- Where the first fault of a script text stands, and of which kind it is: how the lines before it can go on, and which texts have the same fault.
 use Rattle.std.specs.Prelude.{◌≡◌, ◌<◌, ◌≤◌, ℕ, ◌+◌, ◌⊎◌, List, ◌∷◌, ◌++◌, length, Option, Err, All}
+use Rattle.fmp_bytes.specs.Bytes.{line_feed}
 use Rattle.fmp_names.specs.Names.{NameLists}
 use Rattle.fmp_text.specs.Limits.{most_bytes}
 use Rattle.fmp_text.specs.declared.fault.TextFault.{TextFault}
@@ -24,13 +25,13 @@ pub record FaultInLine (names : NameLists) (text : List ℕ) (fault : TextFault)
   pub before : List (List ℕ)
   pub line : List ℕ
   pub rest : List ℕ
-  pub parts : text ≡ lines_text before ++ (line ++ (10 ∷ rest))
+  pub parts : text ≡ lines_text before ++ (line ++ (line_feed ∷ rest))
   pub apart : AreApart (line ∷ before)
   pub number : fault.line ≡ length before + 1
   pub faultless : HaveNoFault names before
-  pub never : (more : List ℕ) (scripts : List Steps) → SpellsScripts names (lines_text before ++ (line ++ (10 ∷ more))) scripts → ⊥
+  pub never : (more : List ℕ) (scripts : List Steps) → SpellsScripts names (lines_text before ++ (line ++ (line_feed ∷ more))) scripts → ⊥
   pub kind : length (lines_text before) + 4 ≤ most_bytes → (done : List Steps) × (unclosed : Option Steps) × LeaveOpen names before done unclosed × ScriptFault names done unclosed line fault.kind
-  pub told : (more : List ℕ) → length (lines_text before ++ (line ++ (10 ∷ more))) ≤ most_bytes → scripts_in names (lines_text before ++ (line ++ (10 ∷ more))) ≡ Err fault
+  pub told : (more : List ℕ) → length (lines_text before ++ (line ++ (line_feed ∷ more))) ≤ most_bytes → scripts_in names (lines_text before ++ (line ++ (line_feed ∷ more))) ≡ Err fault
 
 -- the lines leave a script open that begins in line n: those before it spell scripts, and none behind it is an `end`
 pub record AreOpen (names : NameLists) (lines : List (List ℕ)) (n : ℕ) : Type 0 where

@@ -1,6 +1,7 @@
 -- The grammar of script texts, apart from how they are read: which texts spell which scripts.
 use Rattle.std.specs.Prelude.{◌≡◌, ◌≢◌, ℕ, ◌≤◌, ◌⊎◌, ◌==◌, not, true, List, [], ◌∷◌, ◌++◌, length, Option, Some, None, All, codes}
 use Rattle.std.specs.List.{list_all, join_with_byte, AllPairs}
+use Rattle.fmp_bytes.specs.Bytes.{line_feed}
 use Rattle.fmp_codes.specs.declared.calls.Call.{Call}
 use Rattle.fmp_codes.specs.declared.calls.Call.TheVariants as calls
 use Rattle.fmp_calls.specs.declared.kinds.NameKind.TheVariants.{Function}
@@ -47,8 +48,8 @@ SpellsLines names (line ∷ next ∷ lines) (Some steps) scripts =
 -- a whole text: lines with line feeds between them, within the limits, and no function with two scripts
 pub record SpellsScripts (names : NameLists) (text : List ℕ) (scripts : List Steps) : Type 0 where
   pub lines : List (List ℕ)
-  pub parts : text ≡ join_with_byte 10 lines
-  pub cut : list_all (list_all (λ b. not (b == 10))) lines ≡ true
+  pub parts : text ≡ join_with_byte line_feed lines
+  pub cut : list_all (list_all (λ b. not (b == line_feed))) lines ≡ true
   pub spelled : SpellsLines names lines None scripts
   pub once : AllPairs (λ s t. s.function ≢ t.function) scripts
   pub few : All (λ s. length s.steps ≤ most_steps) scripts

@@ -1,6 +1,7 @@
 -- Reading a script text, up to its first fault.
 use Rattle.std.specs.Prelude.{◌≡◌, ◌⊎◌, ℕ, ◌+◌, ◌==◌, nat_lt, List, [], ◌∷◌, ◌++◌, length, Option, Some, None, is_some, Result, Ok, Err, if◌then◌else◌}
 use Rattle.std.specs.List.{list_any}
+use Rattle.fmp_bytes.specs.Bytes.{line_feed}
 use Rattle.fmp_codes.specs.declared.calls.Call.{Call}
 use Rattle.fmp_text.specs.declared.fault.TextFault.{TextFault}
 use Rattle.fmp_text.specs.declared.fault.TextKind.{TextKind}
@@ -71,7 +72,7 @@ after_line line (Err kind) rest = fault_at kind line
 unfoldable pub scripts_from : NameLists → ℕ → Reading → List ℕ → List ℕ → Result (List Steps) TextFault
 scripts_from names lines r begun [] = if is_skipped begun then at_end r r.unclosed else fault_at CutShort (lines + 1)
 scripts_from names lines r begun (byte ∷ bytes) =
-    if byte == 10 then after_line (lines + 1) (with_line names (lines + 1) r begun) (λ next. scripts_from names (lines + 1) next [] bytes)
+    if byte == line_feed then after_line (lines + 1) (with_line names (lines + 1) r begun) (λ next. scripts_from names (lines + 1) next [] bytes)
     else scripts_from names lines r (begun ++ byte ∷ []) bytes
 
 -- what a whole text gives, or its first fault. One that is too long has that fault before all others

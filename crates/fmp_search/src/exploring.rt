@@ -22,7 +22,7 @@ pub enum Answer {
 /// walkers stand at places of the same graph: one is made to stand at a place and is copied for each step from there, one makes that step,
 /// and one looks at what was found before.
 ///
-/// Where the room does not do, `NotWithin` says for how many steps it did. The error is want of memory.
+/// Where the room does not do, `NotWithin` says for how many steps it did, and then all of it was used. The error is want of memory.
 pub fn explore<W: Space>(
     alloc: Global,
     walker: &mut W,
@@ -33,7 +33,7 @@ pub fn explore<W: Space>(
 ) -> Result<Answer, AllocError>
     requires origins { (W.origin base.old ≡ W.origin walker.old) × (W.origin other.old ≡ W.origin walker.old) }
     requires turns { turns < 2 ^ 31 }
-    ensures { IfOk result (λ a. Says W.after W.wanted (W.origin walker.old) turns a) }
+    ensures { IfOk result (λ a. Says W.after W.wanted (W.origin walker.old) turns most a) }
 {
     walker.restart()?;
     if walker.is_wanted() {

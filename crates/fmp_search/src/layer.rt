@@ -2,7 +2,7 @@
 ghost use Rattle.std.specs.Prelude.{◌≡◌, ◌≤◌, ◌<◌, ◌+◌, ◌^◌, length, IfOk};
 ghost use Rattle.fmp_search.specs.Trees.{found_at};
 ghost use Rattle.fmp_search.specs.Answers.{Explored};
-ghost use Rattle.fmp_search.specs.Growth.{Steps, Opens};
+ghost use Rattle.fmp_search.specs.Growth.{AreBefore, Fills, Opens, Steps};
 
 use crate::nodes::{Node, stand_at, steps_to};
 use crate::space::Space;
@@ -43,6 +43,9 @@ fn try_step<W: Space>(
     requires base { W.place base.now ≡ (found_at W.after (W.origin walker.old) store.old.nodes.items at).place }
     requires room { 0 < W.room base.now }
     requires origins { (W.origin base.now ≡ W.origin walker.old) × (W.origin other.old ≡ W.origin walker.old) }
+    requires before { AreBefore store.old.nodes.items at step }
+    ensures fills { IfOk result (λ how. Fills W.after (W.origin walker.old) front.depth store.old.most at (step + 1) how store.new.nodes.items) }
+    ensures room { store.new.most ≡ store.old.most }
     ensures steps { IfOk result (λ how. Steps W.after W.wanted (W.origin walker.old) store.old.nodes.items front.depth front.end at step how store.new.nodes.items) }
     ensures walker_origin { W.origin walker.new ≡ W.origin walker.old }
     ensures other_origin { W.origin other.new ≡ W.origin other.old }
@@ -86,6 +89,9 @@ fn open_place<W: Space>(
     requires place { at < front.end }
     requires depth { front.depth + 1 < 2 ^ 31 }
     requires origins { (W.origin base.old ≡ W.origin walker.old) × (W.origin other.old ≡ W.origin walker.old) }
+    requires before { AreBefore store.old.nodes.items at 0 }
+    ensures fills { IfOk result (λ how. Fills W.after (W.origin walker.old) front.depth store.old.most (at + 1) 0 how store.new.nodes.items) }
+    ensures room { store.new.most ≡ store.old.most }
     ensures opens { IfOk result (λ how. Opens W.after W.wanted (W.origin walker.old) front.depth front.end (at + 1) how store.new.nodes.items) }
     ensures walker_origin { W.origin walker.new ≡ W.origin walker.old }
     ensures base_origin { W.origin base.new ≡ W.origin base.old }
@@ -117,6 +123,9 @@ pub(crate) fn open_layer<W: Space>(
     requires place { begin ≤ front.end }
     requires depth { front.depth + 1 < 2 ^ 31 }
     requires origins { (W.origin base.old ≡ W.origin walker.old) × (W.origin other.old ≡ W.origin walker.old) }
+    requires before { AreBefore store.old.nodes.items begin 0 }
+    ensures fills { IfOk result (λ how. Fills W.after (W.origin walker.old) front.depth store.old.most front.end 0 how store.new.nodes.items) }
+    ensures room { store.new.most ≡ store.old.most }
     ensures opens { IfOk result (λ how. Opens W.after W.wanted (W.origin walker.old) front.depth front.end front.end how store.new.nodes.items) }
     ensures walker_origin { W.origin walker.new ≡ W.origin walker.old }
     ensures base_origin { W.origin base.new ≡ W.origin base.old }

@@ -13,7 +13,7 @@ const NOBODY: u32 = u32::MAX;
 #[derive(Drop)]
 pub(crate) struct Store {
     pub(crate) nodes: Vec<Node>,
-    most: u32,
+    pub(crate) most: u32,
     first: u64,
     table: Vec<u32>,
     ghost few: { length nodes.items ≤ most },
@@ -43,7 +43,8 @@ fn put(table: &mut [u32], hash: u64, place: u32) {
 impl Store {
     /// A store of no place but where all runs begin, with room for so many more.
     pub(crate) fn new(alloc: Global, hash: u64, most: u32) -> Result<Store, AllocError>
-        ensures { IfOk result (λ s. s.nodes.items ≡ []) }
+        ensures empty { IfOk result (λ s. s.nodes.items ≡ []) }
+        ensures room { IfOk result (λ s. s.most ≡ most) }
     {
         let mut table = vec![in alloc; NOBODY; 2 * most as usize + 2]?;
         put(&mut table, hash, 0);
@@ -70,7 +71,8 @@ impl Store {
 
     pub(crate) fn push(&mut self, node: Node) -> Result<(), AllocError>
         requires { length self.old.nodes.items < self.old.most }
-        ensures { IfOk result (λ done. self.new.nodes.items ≡ self.old.nodes.items ++ node ∷ []) }
+        ensures more { IfOk result (λ done. self.new.nodes.items ≡ self.old.nodes.items ++ node ∷ []) }
+        ensures room { self.new.most ≡ self.old.most }
     {
         let place = self.nodes.len() as u32 + 1;
         self.nodes.push(node)?;

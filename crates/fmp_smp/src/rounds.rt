@@ -95,6 +95,7 @@ impl Rounds {
     }
 }
 
+/// Whether a turn made a record that says that it was taken.
 fn is_taken(turn: Turn) -> bool
     ensures { result ≡ spec.is_taken_turn turn }
 {

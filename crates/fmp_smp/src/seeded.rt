@@ -60,7 +60,7 @@ enum Mover {
     Clock,
 }
 
-// One of these, at the place that a number gives modulo their count, if there are any.
+/// One of these, at the place that a number gives modulo their count, if there are any.
 #[tactic(auto, unfolding(crate::specs::Seeds::drawn))]
 fn drawn(movers: &[Mover], number: u64) -> Option<Mover>
     ensures { result ≡ spec.drawn movers.now number }
@@ -72,7 +72,7 @@ fn drawn(movers: &[Mover], number: u64) -> Option<Mover>
     movers.get(place as usize).copied()
 }
 
-// The processors that can make a record, in their order.
+/// The processors that can make a record, in their order.
 #[tactic(auto, unfolding(crate::specs::Seeds::cpus_of))]
 fn cpus_of(alloc: Global, world: &World<'_>) -> ArrayVec<Mover, 9, Global>
     ensures are { result.items ≡ spec.cpus_of world.now.config world.now.scripts world.now.records world.now.config.processors }
@@ -88,7 +88,7 @@ fn cpus_of(alloc: Global, world: &World<'_>) -> ArrayVec<Mover, 9, Global>
     movers
 }
 
-// Those that can make a record: the processors in their order, and the clock behind them.
+/// Those that can make a record: the processors in their order, and the clock behind them.
 #[tactic(auto, unfolding(crate::specs::Seeds::movers))]
 fn movers(alloc: Global, world: &World<'_>, rounds: &Rounds) -> ArrayVec<Mover, 9, Global>
     ensures { result.items ≡ spec.movers world.now.config world.now.scripts world.now.records rounds.now }
@@ -100,14 +100,14 @@ fn movers(alloc: Global, world: &World<'_>, rounds: &Rounds) -> ArrayVec<Mover, 
     movers
 }
 
-// Whether a turn made a record.
+/// Whether a turn made a record.
 fn is_recorded(turn: Turn) -> bool
     ensures { result ≡ spec.is_recorded turn }
 {
     matches!(turn, Turn::Made(_))
 }
 
-// What a mover does that has something to do. Says whether it made a record; if not, the history is full.
+/// What a mover does that has something to do. Says whether it made a record; if not, the history is full.
 fn go(mover: Mover, world: &mut World<'_>, seats: &mut Seats, rounds: &mut Rounds) -> bool
     requires seated { AreSeated world.old seats.old.cpus.items seats.old.clock }
     requires can { spec.CanMove world.old rounds.old mover }
@@ -123,7 +123,7 @@ fn go(mover: Mover, world: &mut World<'_>, seats: &mut Seats, rounds: &mut Round
     }
 }
 
-// The next record, by the one whom the next number draws. Says whether there is one.
+/// The next record, by the one whom the next number draws. Says whether there is one.
 fn go_on(
     alloc: Global,
     world: &mut World<'_>,

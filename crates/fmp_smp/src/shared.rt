@@ -7,7 +7,7 @@ use fmp_world::{Clock, Cpu, Turn};
 use std::sync::atomic::{AtomicBool, Ordering};
 use std::sync::{Mutex, Wait};
 
-// For each place, whether the record lists a request to the processor there.
+/// For each place, whether the record lists a request to the processor there.
 fn requested(made: Option<&Record>) -> [bool; 8] {
     let mut requested = [false; 8];
     if let Some(made) = made {
@@ -28,7 +28,7 @@ pub struct Shared<'a, 'g, G> {
 }
 
 impl<'a, 'g, G: Gate> Shared<'a, 'g, G> {
-    /// The run has ended, and each thread has to return.
+    /// Whether the run has ended, and each thread has to return.
     pub fn is_over(&self) -> bool {
         self.over.load(Ordering::SeqCst)
     }
@@ -46,7 +46,7 @@ impl<'a, 'g, G: Gate> Shared<'a, 'g, G> {
         }
     }
 
-    // Wakes a processor as often as the gate says.
+    /// Wakes a processor as often as the gate says.
     fn wake(&self, from: Proc, to: Proc) {
         if let Some(unparker) = self.unparkers.get(to.index()) {
             for _ in 0..self.gate.wakes(from, to) {
@@ -81,7 +81,7 @@ impl<'a, 'g, G: Gate> Shared<'a, 'g, G> {
         self.world.lock(rt).tick(clock)
     }
 
-    /// On no processor a handler is due, a task runs or a request is pending.
+    /// Whether on no processor a handler is due, a task runs or a request is pending.
     pub fn is_quiet<T: Wait>(&self, rt: &T) -> bool {
         self.world.lock(rt).world().quiet()
     }

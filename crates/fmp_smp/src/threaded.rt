@@ -58,7 +58,7 @@ pub fn run_smp<'a, T: Threads + Wait + Sync, G: Gate + Sync>(
         .ok_or(SmpFault::Disagree)
 }
 
-// A parker for each processor, and what wakes it.
+/// A parker for each processor, and what wakes it.
 fn make_parkers(alloc: Global, processors: u8) -> Result<(Vec<Parker>, Vec<Unparker>), AllocError>
     ensures parkers { IfOk result (λ made. vec_len made.0 ≡ processors) }
     ensures unparkers { IfOk result (λ made. vec_len made.1 ≡ processors) }
@@ -73,7 +73,7 @@ fn make_parkers(alloc: Global, processors: u8) -> Result<(Vec<Parker>, Vec<Unpar
     Ok((parkers, unparkers))
 }
 
-// Starts and joins all threads. The seats come back where each of them could be started.
+/// Starts and joins all threads. The seats come back where each of them could be started.
 fn run_seats<T: Threads + Wait + Sync, G: Gate + Sync>(
     rt: &T,
     shared: &Shared<'_, '_, G>,
@@ -113,7 +113,7 @@ fn run_seats<T: Threads + Wait + Sync, G: Gate + Sync>(
     })
 }
 
-// Takes turns until the run is over. Where there is nothing to do, it sleeps until it is woken.
+/// Takes turns until the run is over. Where there is nothing to do, it sleeps until it is woken.
 fn run_cpu<T: Wait, G: Gate>(
     rt: &T,
     shared: &Shared<'_, '_, G>,
@@ -137,8 +137,8 @@ fn run_cpu<T: Wait, G: Gate>(
     cpu
 }
 
-// Gives the ticks, and then waits until the world is quiet. All processors are woken again and again, so that none sleeps on where
-// a wake-up was lost.
+/// Gives the ticks, and then waits until the world is quiet. All processors are woken again and again, so that none sleeps on where
+/// a wake-up was lost.
 fn run_clock<T: Wait, G: Gate>(rt: &T, shared: &Shared<'_, '_, G>, mut clock: Clock) -> Clock {
     for _ in rt.forever() {
         if shared.is_over() {

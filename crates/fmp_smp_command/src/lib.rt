@@ -79,6 +79,7 @@ pub fn path<'a>(alloc: Global, id: &'a str, about: &'a str) -> Arg<'a>
         .help(about)
 }
 
+/// The option for the number of ticks, which has to be given.
 fn ticks<'a>(alloc: Global) -> Arg<'a>
     ensures kind { IsNumber result (codes "ticks") 0 1000000 }
     ensures rule { rule_of result ≡ number_rule (codes "ticks") 0 1000000 }
@@ -92,6 +93,7 @@ fn ticks<'a>(alloc: Global) -> Arg<'a>
         .help("How many ticks each processor takes, 0 to 1000000")
 }
 
+/// The option for the greatest number of events, which has to be given.
 fn turns<'a>(alloc: Global) -> Arg<'a>
     ensures kind { IsNumber result (codes "turns") 1 1000000 }
     ensures rule { rule_of result ≡ number_rule (codes "turns") 1 1000000 }
@@ -105,6 +107,7 @@ fn turns<'a>(alloc: Global) -> Arg<'a>
         .help("How many events the run has at most, 1 to 1000000")
 }
 
+/// The option for what determines the order of a run without threads.
 fn seed<'a>(alloc: Global) -> Arg<'a>
     ensures kind { IsOptional result (codes "seed") }
     ensures rule { rule_of result ≡ seed_rule }
@@ -117,6 +120,7 @@ fn seed<'a>(alloc: Global) -> Arg<'a>
         .help("Runs without threads, in an order that this number determines")
 }
 
+/// The flag to show what stands beside a fault.
 fn context<'a>(alloc: Global) -> Arg<'a>
     ensures kind { IsOptional result (codes "context") }
     ensures rule { rule_of result ≡ context_rule }

@@ -4,7 +4,7 @@ use fmp_smp::Gate;
 use std::hint;
 use std::sync::atomic::{AtomicBool, AtomicU32, Ordering};
 
-/// Each processor raises its flag at its first call, and looks for the other's.
+/// Each processor raises its flag before and behind its turn, and looks for the other's.
 #[derive(Drop)]
 pub struct Crossing {
     before: [AtomicBool; 2],
@@ -13,6 +13,7 @@ pub struct Crossing {
 }
 
 impl Crossing {
+    /// A gate with no flag raised.
     pub fn new() -> Crossing {
         Crossing {
             before: [AtomicBool::new(false), AtomicBool::new(false)],
@@ -22,6 +23,7 @@ impl Crossing {
     }
 }
 
+/// Raises a processor's flag, and waits until the other's is raised, or until it looked for it too often.
 fn meet(flags: &[AtomicBool; 2], ran_out: &AtomicBool, p: Proc) {
     if p.number > 2 {
         return;
@@ -60,6 +62,7 @@ pub struct Delays {
 }
 
 impl Delays {
+    /// A gate with so many wakes, and so many loads between the turns.
     pub fn new(wakes: u8, loads: u32) -> Delays {
         Delays {
             wakes,

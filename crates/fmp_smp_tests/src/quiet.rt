@@ -13,6 +13,7 @@ pub const PLAYS: [(Play, &[u8]); 2] = [(REMOTE, &[1, 2, 1, 2, 1, 2]), (REMOTE_MA
 
 pub const ROUNDS: u32 = 3;
 
+/// The events of receipts, with their answers.
 fn told(alloc: Global, receipts: &[Receipt]) -> Result<Vec<(Event, Answer)>, AllocError> {
     receipts.iter().map(|r| (r.event, r.answer)).collect(alloc)
 }

@@ -61,6 +61,7 @@ fn ends_quiet<R: Threads + Wait + Sync + Abort, G: Gate + Sync>(
     Ok(())
 }
 
+/// Runs of each play that end quiet, so many times.
 fn end_quiet<R: Threads + Wait + Sync + Abort, G: Gate + Sync>(
     rt: &R,
     alloc: Global,

@@ -48,6 +48,7 @@ pub struct Play {
 }
 
 impl Play {
+    /// The configuration that its text says.
     pub fn config(self, alloc: Global) -> Result<Config, Fail> {
         match read_config(alloc, self.config.as_bytes()) {
             Ok(config) => Ok(config),
@@ -55,6 +56,7 @@ impl Play {
         }
     }
 
+    /// The scripts that its text says, with the names of a configuration.
     pub fn scripts(self, alloc: Global, config: &Config) -> Result<Scripts, Fail> {
         Ok(read_scripts(alloc, self.scripts.as_bytes(), config.names())?)
     }

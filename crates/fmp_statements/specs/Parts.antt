@@ -1,6 +1,7 @@
 -- The parts of statements, token by token.
 use Rattle.std.specs.Prelude.{ℕ, ◌+◌, ◌-◌, Bool, true, false, not, ◌&&◌, ◌||◌, Option, Some, None, ◌==◌, codes, if◌then◌else◌}
 use Rattle.std.specs.Str.{bytes_eq}
+use Rattle.fmp_bytes.specs.Bytes.{close_brace, close_parenthesis, comma, open_brace, open_parenthesis}
 use Rattle.fmp_names.specs.Names.{is_name}
 use Rattle.fmp_tokens.specs.declared.tokens.TokenKind.{TokenKind}
 use Rattle.fmp_tokens.specs.declared.tokens.TokenKind.TheVariants as kinds
@@ -30,7 +31,7 @@ is_item items.Text t = is_text_kind t.kind
 -- an identifier that is too long, or a brace
 abbrev pub is_barred_as : TokenKind → Lexeme → Bool
 is_barred_as kinds.Identifier t = not (is_name t.text)
-is_barred_as _ t = is_mark 123 t || is_mark 125 t
+is_barred_as _ t = is_mark open_brace t || is_mark close_brace t
 
 -- a token that cannot stand in a free field
 unfoldable pub is_barred : Lexeme → Bool
@@ -38,13 +39,13 @@ is_barred t = is_barred_as t.kind t
 
 -- a comma or a closing parenthesis, which ends a free field outside parentheses
 unfoldable pub is_stop : Lexeme → Bool
-is_stop t = is_mark 44 t || is_mark 41 t
+is_stop t = is_mark comma t || is_mark close_parenthesis t
 
 -- what has to follow in a free field, in so many open parentheses
 unfoldable pub next_free : ℕ → Lexeme → Option Scan
 next_free depth t =
     if is_barred t || (depth == 0 && is_stop t) then None
-    else (if is_mark 40 t then Some (Free (depth + 1) true) else (if is_mark 41 t then Some (Free (depth - 1) true) else Some (Free depth true)))
+    else (if is_mark open_parenthesis t then Some (Free (depth + 1) true) else (if is_mark close_parenthesis t then Some (Free (depth - 1) true) else Some (Free depth true)))
 
 -- what has to follow behind the word of a timer
 unfoldable pub next_method : Lexeme → Option Scan
@@ -66,7 +67,7 @@ next_of (Next byte item) t = if is_item item t then Some (More byte item) else N
 next_of (More byte item) t = if is_mark byte t then Some (Next byte item) else None
 next_of (Free depth taken) t = next_free depth t
 next_of Method t = next_method t
-next_of Master t = if is_mark 44 t then Some (One items.First) else None
+next_of Master t = if is_mark comma t then Some (One items.First) else None
 next_of Nothing t = None
 
 -- the part can end so

@@ -13,6 +13,7 @@ use Rattle.fmp_names.specs.Names.{NameLists}
 use Rattle.fmp_listed.specs.Queues.{Queues, listed}
 use Rattle.fmp_refinement.specs.Stands.{Stands}
 use Rattle.fmp_refinement.proofs.SafeLists.{tells_alike}
+use Rattle.fmp_states.specs.Changes.{changes_of}
 use Rattle.fmp_states.specs.States.{processor_text, processors_text, ready_to, state_lines, task_line, tasks_text, without_running}
 
 module _ (k : World Queues) (m : State) (h : Stands k m) where
@@ -56,5 +57,7 @@ module _ (k : World Queues) (m : State) (h : Stands k m) where
   unfolding state_lines
   states_alike lists =
       ap₂ ◌++◌
+      (ap₂ ◌++◌
       (ap (λ (w : World Queues). processors_text listed lists k (length w.processors)) h.same ∙ processors_same lists (length m.processors))
-      (ap (λ (w : World Queues). tasks_text lists k (length w.tasks)) h.same ∙ tasks_same lists (length m.tasks))
+      (ap (λ (w : World Queues). tasks_text lists k (length w.tasks)) h.same ∙ tasks_same lists (length m.tasks)))
+      (ap (λ (w : World Queues). changes_of lists w) h.same)

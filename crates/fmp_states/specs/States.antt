@@ -1,5 +1,5 @@
--- The text of a state: a line for each processor, one for each task that waits or is suspended, and one that ends it. docs/FORMATS.md
--- has its form.
+-- The text of a state: a line for each processor, one for each task that waits, is suspended or is otherwise not as at boot, one for
+-- each object that is not as at boot, and one that ends it. docs/FORMATS.md has its form.
 use Rattle.std.specs.Prelude.{ℕ, zero, suc, ◌+◌, Bool, true, false, not, ◌||◌, ◌==◌, Option, None, Some, List, [], ◌∷◌, ◌++◌, length, filter, is_some, if◌then◌else◌, codes, decimal}
 use Rattle.fmp_codes.specs.Numbers.{as_pri, as_proc, as_task}
 use Rattle.fmp_codes.specs.declared.numbers.Object.{Object}
@@ -18,6 +18,7 @@ use Rattle.fmp_machine.specs.Arrivals.{State, numbered}
 use Rattle.fmp_machine.specs.World.{World, item, processor, task}
 use Rattle.fmp_trace.specs.Lines.{runner_text, task_text}
 use Rattle.fmp_trace.specs.Values.{named}
+use Rattle.fmp_states.specs.Changes.{changes_of, has_changed, numbers_text}
 
 -- this task is the one that runs
 abbrev pub is_running : Option Task → Task → Bool
@@ -104,14 +105,17 @@ abbrev pub left_text : Option ℕ → List ℕ
 left_text None = []
 left_text (Some n) = codes " left=" ++ decimal n
 
--- the line of a task that waits or is suspended
-unfoldable pub blocked_text : NameLists → Task → TaskRecord → Option ℕ → List ℕ
-blocked_text lists t x left =
-    codes "  " ++ task_text lists t ++ flag_text x.suspended (codes " suspended") ++ waiting_text lists x.wait ++ left_text left ++ codes "\n"
+-- the line of a task of which something is told
+unfoldable pub told_text : NameLists → Task → TaskRecord → Option ℕ → List ℕ
+told_text lists t x left =
+    codes "  " ++ task_text lists t ++ flag_text x.suspended (codes " suspended") ++ waiting_text lists x.wait ++ left_text left ++ numbers_text x ++ codes "\n"
 
--- a task that neither waits nor is suspended has no line
+-- a task that neither waits nor is suspended, and of which nothing else is another than at boot, has no line
+abbrev pub is_told : TaskRecord → Bool
+is_told x = is_some x.wait || x.suspended || has_changed x
+
 abbrev pub task_line : NameLists → Task → TaskRecord → Option ℕ → List ℕ
-task_line lists t x left = if is_some x.wait || x.suspended then blocked_text lists t x left else []
+task_line lists t x left = if is_told x then told_text lists t x left else []
 
 -- the lines of the first n tasks
 unfoldable pub tasks_text : {Q : Type 0} → NameLists → World Q → ℕ → List ℕ
@@ -122,7 +126,7 @@ tasks_text lists w (suc n) =
 
 -- the lines of a state, whatever keeps its order
 unfoldable pub state_lines : {Q : Type 0} → Ordering Q → NameLists → World Q → List ℕ
-state_lines k lists w = processors_text k lists w (length w.processors) ++ tasks_text lists w (length w.tasks)
+state_lines k lists w = processors_text k lists w (length w.processors) ++ tasks_text lists w (length w.tasks) ++ changes_of lists w
 
 -- the line that ends a state, so that a reader need not wait for what comes next
 unfoldable pub state_end : List ℕ

@@ -5,14 +5,16 @@ ghost use Rattle.fmp_listed.specs.Queues.{listed};
 ghost use Rattle.fmp_refinement.specs.Stands.{Stands};
 ghost use Rattle.fmp_states.specs.States.{ended_lines, state_end, state_lines, state_text};
 
+use crate::changes::put_changes;
 use crate::processors::put_processors;
 use crate::tasks::put_tasks;
 use fmp_kernel::Kernel;
 use fmp_names::Names;
 use std::alloc::AllocError;
 
-/// Adds the lines of the kernel's state without the one that ends it: one for each processor, then one for each task that waits or is
-/// suspended. After an error a beginning of these lines may have been added.
+/// Adds the lines of the kernel's state without the one that ends it: one for each processor, then one for each task that waits, is
+/// suspended or is otherwise not as at boot, and one for each object that is not as at boot. After an error a beginning of these
+/// lines may have been added.
 #[tactic(auto, unfolding(crate::specs::States::state_lines))]
 pub fn put_lines(out: &mut Vec<u8>, names: &Names, kernel: &Kernel) -> Result<(), AllocError>
     ensures lists { OnOk result (out.new.items ≡ out.old.items ++ state_lines listed names.now kernel.now) }
@@ -20,7 +22,7 @@ pub fn put_lines(out: &mut Vec<u8>, names: &Names, kernel: &Kernel) -> Result<()
 {
     put_processors(out, names, kernel)?;
     put_tasks(out, names, kernel)?;
-    Ok(())
+    put_changes(out, names, kernel)
 }
 
 /// Adds the line that ends a state.
@@ -31,8 +33,8 @@ fn put_end(out: &mut Vec<u8>) -> Result<(), AllocError>
     out.extend_from_slice(b"  end\n")
 }
 
-/// Adds the lines of the kernel's state: one for each processor, one for each task that waits or is suspended, and one that ends it.
-/// docs/FORMATS.md has their form. A number that is no object's is printed as a number.
+/// Adds the lines of the kernel's state, and the one that ends it. docs/FORMATS.md has their form. A number that is no object's is
+/// printed as a number.
 ///
 /// After an error a beginning of these lines may have been added.
 pub fn put_state(out: &mut Vec<u8>, names: &Names, kernel: &Kernel) -> Result<(), AllocError>

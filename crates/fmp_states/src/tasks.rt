@@ -1,5 +1,6 @@
-//! The lines of the tasks that wait or are suspended.
+//! The lines of the tasks that wait, are suspended or are otherwise not as at boot.
 ghost use Rattle.std.specs.Prelude.{◌≡◌, ◌++◌, length, OnOk};
+ghost use Rattle.fmp_states.specs.Changes as changes;
 ghost use Rattle.fmp_states.specs.States as spec;
 
 use crate::processors::put_flag;
@@ -62,26 +63,73 @@ fn put_left(out: &mut Vec<u8>, left: Option<u64>) -> Result<(), AllocError>
     Ok(())
 }
 
-#[tactic(auto, unfolding(crate::specs::States::blocked_text))]
-fn put_blocked(
+/// Whether a task has another priority than the configuration gives it.
+fn has_moved(task: &TaskRecord) -> bool
+    ensures { result ≡ changes.has_moved task.now }
+{
+    task.priority.number != task.setup.priority.number
+}
+
+/// Whether a task that is not dormant has another priority, or something is queued for it.
+fn has_changed(task: &TaskRecord) -> bool
+    ensures { result ≡ changes.has_changed task.now }
+{
+    task.active && (has_moved(task) || task.activations != 0 || task.wakeups != 0)
+}
+
+/// Whether there is something to be told of a task.
+fn is_told(task: &TaskRecord) -> bool
+    ensures { result ≡ spec.is_told task.now }
+{
+    task.wait.is_some() || task.suspended || has_changed(task)
+}
+
+/// Adds a number behind its word, where it is told.
+fn put_told(out: &mut Vec<u8>, told: bool, word: &[u8], number: u64) -> Result<(), AllocError>
+    ensures { OnOk result (out.new.items ≡ out.old.items ++ changes.number_text told word.now number) }
+{
+    if told {
+        out.extend_from_slice(word)?;
+        put_number(out, number)?;
+    }
+    Ok(())
+}
+
+/// Adds the priority of a task where it is another one, and what is queued for it.
+#[tactic(auto, unfolding(crate::specs::Changes::numbers_text))]
+fn put_numbers(out: &mut Vec<u8>, task: &TaskRecord) -> Result<(), AllocError>
+    ensures { OnOk result (out.new.items ≡ out.old.items ++ changes.numbers_text task.now) }
+{
+    let priority = u64::from(task.priority.number);
+    let activations = u64::from(task.activations);
+    let wakeups = u64::from(task.wakeups);
+    put_told(out, has_moved(task), b" pri=", priority)?;
+    put_told(out, activations != 0, b" act=", activations)?;
+    put_told(out, wakeups != 0, b" wup=", wakeups)
+}
+
+/// Adds the line of a task of which something is told.
+#[tactic(auto, unfolding(crate::specs::States::told_text))]
+fn put_task_line(
     out: &mut Vec<u8>,
     names: &Names,
     t: Task,
     task: &TaskRecord,
     left: Option<u64>,
 ) -> Result<(), AllocError>
-    ensures { OnOk result (out.new.items ≡ out.old.items ++ spec.blocked_text names.now t task.now left) }
+    ensures { OnOk result (out.new.items ≡ out.old.items ++ spec.told_text names.now t task.now left) }
 {
     out.extend_from_slice(b"  ")?;
     put_task(out, names, t)?;
     put_flag(out, task.suspended, b" suspended")?;
     put_waiting(out, names, task.wait)?;
     put_left(out, left)?;
+    put_numbers(out, task)?;
     out.push(b'\n')?;
     Ok(())
 }
 
-/// Adds the line of a task, if it waits or is suspended.
+/// Adds the line of a task, if there is something to be told of it.
 fn put_line(
     out: &mut Vec<u8>,
     names: &Names,
@@ -91,13 +139,13 @@ fn put_line(
 ) -> Result<(), AllocError>
     ensures { OnOk result (out.new.items ≡ out.old.items ++ spec.task_line names.now t task.now left) }
 {
-    if task.wait.is_some() || task.suspended {
-        put_blocked(out, names, t, task, left)?;
+    if is_told(task) {
+        put_task_line(out, names, t, task, left)?;
     }
     Ok(())
 }
 
-/// Adds the lines of all tasks that wait or are suspended.
+/// Adds the lines of all tasks of which there is something to be told.
 pub(crate) fn put_tasks(out: &mut Vec<u8>, names: &Names, kernel: &Kernel) -> Result<(), AllocError>
     ensures { OnOk result (out.new.items ≡ out.old.items ++ spec.tasks_text names.now kernel.now (length kernel.now.tasks)) }
 {

@@ -155,6 +155,7 @@ fn events_fail(rt: &impl Abort, alloc: Global) -> Result<(), AllocError> {
     Ok(())
 }
 
+/// Nothing is written where a read of the trace fails.
 fn trace_fails(rt: &impl Abort, alloc: Global) -> Result<(), AllocError> {
     for reads in 0..=TRACE.len() as u64 {
         checks(rt, alloc, (NEVER, reads, NEVER), "read failed", b"")?;
@@ -210,6 +211,7 @@ fn trace_is_not_written(rt: &impl Abort, alloc: Global) -> Result<(), AllocError
     Ok(())
 }
 
+/// Each write of a byte of the verdict fails in turn, and then the flush. What went before it is written.
 fn verdict_is_not_written(
     rt: &impl Abort,
     alloc: Global,

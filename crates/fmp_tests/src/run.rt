@@ -50,6 +50,7 @@ pub const TRACE: &[u8] = b"\
 
 const TRACE_LINES: u64 = 8;
 
+/// How many line feeds there are in a text.
 fn line_feeds(text: &[u8]) -> usize {
     text.iter().filter(|byte| **byte == b'\n').count()
 }

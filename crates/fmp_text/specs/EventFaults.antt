@@ -1,7 +1,7 @@
 -- What is wrong with a line of an event text, apart from how it is read: rows of faults, each where none above it is there.
 use Rattle.std.specs.Prelude.{◌≡◌, ◌≢◌, ◌≤◌, ℕ, ◌⊎◌, true, false, List, [], ◌∷◌, ◌++◌, length, is_some, decimal, codes}
 use Rattle.std.specs.List.{list_all, join_with_byte}
-use Rattle.fmp_bytes.specs.Bytes.{is_of, prefix, after, is_identifier}
+use Rattle.fmp_bytes.specs.Bytes.{is_of, prefix, after, is_identifier, close_parenthesis, comma, letter_p, open_parenthesis}
 use Rattle.fmp_bytes.specs.Numerals.{are_digits, number_of}
 use Rattle.fmp_bytes.specs.declared.classes.Class.TheVariants.{Blank, Word, Line}
 use Rattle.fmp_calls.specs.Table.{is_bare, kinds_of, text_of}
@@ -35,7 +35,7 @@ ArePieces _ _ = ⊥
 -- arguments with commas between them, or blanks alone
 abbrev pub AreArguments : List (List ℕ) → List ℕ → Type 0
 AreArguments [] text = AreBlank text
-AreArguments (token ∷ tokens) text = (pieces : List (List ℕ)) × (text ≡ join_with_byte 44 pieces) × ArePieces (token ∷ tokens) pieces
+AreArguments (token ∷ tokens) text = (pieces : List (List ℕ)) × (text ≡ join_with_byte comma pieces) × ArePieces (token ∷ tokens) pieces
 
 -- arguments in parentheses, with blanks around
 pub record AreEnclosed (tokens : List (List ℕ)) (text : List ℕ) : Type 0 where
@@ -45,7 +45,7 @@ pub record AreEnclosed (tokens : List (List ℕ)) (text : List ℕ) : Type 0 whe
   pub between_blank : AreBlank between
   pub behind_blank : AreBlank behind
   pub arguments : AreArguments tokens inner
-  pub parts : text ≡ between ++ (40 ∷ (inner ++ (41 ∷ behind)))
+  pub parts : text ≡ between ++ (open_parenthesis ∷ (inner ++ (close_parenthesis ∷ behind)))
 
 -- what follows a call's name has its form: blanks where the call is bare, else as many arguments as it has
 abbrev pub HasForm : Call → List (List ℕ) → List ℕ → Type 0
@@ -84,11 +84,11 @@ HappeningFault names text fault =
 
 -- `P` and decimal digits
 abbrev pub IsProcessorWord : List ℕ → Type 0
-IsProcessorWord word = (digits : List ℕ) × (word ≡ 80 ∷ digits) × (are_digits 10 digits ≡ true)
+IsProcessorWord word = (digits : List ℕ) × (word ≡ letter_p ∷ digits) × (are_digits 10 digits ≡ true)
 
 -- `P` and the number of a processor of the machine
 abbrev pub NamesProcessor : NameLists → List ℕ → Type 0
-NamesProcessor names word = (number : ℕ) × (1 ≤ number) × (number ≤ names.processors) × (word ≡ 80 ∷ decimal number)
+NamesProcessor names word = (number : ℕ) × (1 ≤ number) × (number ≤ names.processors) × (word ≡ letter_p ∷ decimal number)
 
 -- a byte that may stand in no line; no processor's word first; no such processor; or a fault behind it
 abbrev pub CoreFault : NameLists → List ℕ → TextKind → Type 0

@@ -1,5 +1,6 @@
 -- Reading the lines of an event text, up to the first fault.
 use Rattle.std.specs.Prelude.{◌≡◌, ◌≢◌, ◌<◌, ◌≤◌, ℕ, ◌+◌, ◌⊎◌, ◌==◌, nat_lt, Bool, false, List, [], ◌∷◌, ◌++◌, length, take, drop, slice_index, Option, Some, None, Result, Ok, Err, if◌then◌else◌}
+use Rattle.fmp_bytes.specs.Bytes.{line_feed}
 use Rattle.fmp_codes.specs.declared.records.Event.{Event}
 use Rattle.fmp_text.specs.Limits.{most_bytes, most_events}
 use Rattle.fmp_text.specs.declared.fault.TextFault.{TextFault}
@@ -53,7 +54,7 @@ at_end cut line last = if cut then fault_at TooMany 0 else (if is_skipped last t
 unfoldable pub reading_from : NameLists → Bool → ℕ → ℕ → List ℕ → List ℕ → Reading
 reading_from names cut lines count begun [] = at_end cut (lines + 1) begun
 reading_from names cut lines count begun (byte ∷ bytes) =
-    if byte == 10 then after_line (lines + 1) count (line_event names begun) (reading_from names cut (lines + 1) count [] bytes) (reading_from names cut (lines + 1) (count + 1) [] bytes)
+    if byte == line_feed then after_line (lines + 1) count (line_event names begun) (reading_from names cut (lines + 1) count [] bytes) (reading_from names cut (lines + 1) (count + 1) [] bytes)
     else reading_from names cut lines count (begun ++ byte ∷ []) bytes
 
 -- what a whole text gives. One that is too long has that fault before all others
@@ -67,13 +68,13 @@ reading_by_line names text = reading_from names (nat_lt most_bytes (length text)
 
 -- there is no line feed among the bytes
 abbrev pub HasNoFeed : List ℕ → Type 0
-HasNoFeed bytes = (k : ℕ) → k < length bytes → slice_index bytes k ≢ 10
+HasNoFeed bytes = (k : ℕ) → k < length bytes → slice_index bytes k ≢ line_feed
 
 -- so many bytes end with the first line feed, and their line says this
 pub record IsFirstLine (names : NameLists) (bytes : List ℕ) (said : Result (Option Event) TextKind) (used : ℕ) : Type 0 where
   pub line : List ℕ
   pub no_feed : HasNoFeed line
-  pub parts : bytes ≡ line ++ (10 ∷ drop used bytes)
+  pub parts : bytes ≡ line ++ (line_feed ∷ drop used bytes)
   pub some : 1 ≤ used
   pub within : used ≤ length bytes
   pub says : said ≡ line_event names line

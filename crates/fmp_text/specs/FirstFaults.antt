@@ -1,6 +1,7 @@
 -- Where the first fault of an event text stands: what the lines before it spell, and which texts have the same fault.
 use Rattle.std.specs.Prelude.{◌≡◌, ◌<◌, ◌≤◌, ℕ, ◌+◌, ◌⊎◌, ◌==◌, not, true, List, [], ◌∷◌, ◌++◌, length, Some}
 use Rattle.std.specs.List.{list_all}
+use Rattle.fmp_bytes.specs.Bytes.{line_feed}
 use Rattle.fmp_codes.specs.declared.records.Event.{Event}
 use Rattle.fmp_names.specs.Names.{NameLists}
 use Rattle.fmp_text.specs.Limits.{most_bytes}
@@ -12,11 +13,11 @@ use Rattle.fmp_text.specs.TextGrammar.{IsRest, SpellsText}
 -- whole lines, one after the other, each with its line feed
 abbrev pub lines_text : List (List ℕ) → List ℕ
 lines_text [] = []
-lines_text (line ∷ lines) = line ++ (10 ∷ lines_text lines)
+lines_text (line ∷ lines) = line ++ (line_feed ∷ lines_text lines)
 
 -- no line feed stands within a line
 abbrev pub AreApart : List (List ℕ) → Type 0
-AreApart lines = list_all (list_all (λ b. not (b == 10))) lines ≡ true
+AreApart lines = list_all (list_all (λ b. not (b == line_feed))) lines ≡ true
 
 -- the fault stands in a whole line: the lines before it spell the events that were given, no text that goes on from this line spells any, and each that
 -- does, within the limit, has this fault
@@ -24,13 +25,13 @@ pub record FaultInLine (names : NameLists) (text : List ℕ) (events : List Even
   pub before : List (List ℕ)
   pub line : List ℕ
   pub rest : List ℕ
-  pub parts : text ≡ lines_text before ++ (line ++ (10 ∷ rest))
+  pub parts : text ≡ lines_text before ++ (line ++ (line_feed ∷ rest))
   pub apart : AreApart (line ∷ before)
   pub number : fault.line ≡ length before + 1
   pub spelled : SpellsText names (lines_text before) events
-  pub never : (more : List ℕ) (others : List Event) → SpellsText names (lines_text before ++ (line ++ (10 ∷ more))) others → ⊥
-  pub told : (more : List ℕ) → length (lines_text before ++ (line ++ (10 ∷ more))) ≤ most_bytes
-      → reading_of names (lines_text before ++ (line ++ (10 ∷ more))) ≡ record { events = events; fault = Some fault }
+  pub never : (more : List ℕ) (others : List Event) → SpellsText names (lines_text before ++ (line ++ (line_feed ∷ more))) others → ⊥
+  pub told : (more : List ℕ) → length (lines_text before ++ (line ++ (line_feed ∷ more))) ≤ most_bytes
+      → reading_of names (lines_text before ++ (line ++ (line_feed ∷ more))) ≡ record { events = events; fault = Some fault }
 
 -- the text is cut short: its whole lines spell the events that were given, and what stands behind them is neither blank nor a comment
 pub record FaultAtEnd (names : NameLists) (text : List ℕ) (events : List Event) (fault : TextFault) : Type 0 where

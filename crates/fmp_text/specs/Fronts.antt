@@ -1,5 +1,6 @@
 -- What stands at the front of a text, as the short reader takes it apart: an event, in it a call, and its arguments.
 use Rattle.std.specs.Prelude.{◌≡◌, ℕ, ◌≤◌, List, ◌∷◌, ◌++◌, codes}
+use Rattle.fmp_bytes.specs.Bytes.{close_parenthesis, comma}
 use Rattle.fmp_codes.specs.Numbers.{as_proc}
 use Rattle.fmp_codes.specs.declared.calls.Call.{Call}
 use Rattle.fmp_codes.specs.declared.numbers.Proc.{Proc}
@@ -22,13 +23,13 @@ pub record IsFront {X : Type 0} (Spells : List ℕ → X → Type 0) (text : Lis
 pub record IsBehindComma (text rest : List ℕ) : Type 0 where
   pub blanks : List ℕ
   pub blank : AreBlank blanks
-  pub parts : text ≡ 44 ∷ (blanks ++ rest)
+  pub parts : text ≡ comma ∷ (blanks ++ rest)
 
 -- arguments of these kinds and the closing parenthesis, and the rest follows
 pub record IsClosed (names : NameLists) (kinds : List ArgumentKind) (values : List Value) (text rest : List ℕ) : Type 0 where
   pub inner : List ℕ
   pub arguments : SpellsArguments names kinds values inner
-  pub parts : text ≡ inner ++ (41 ∷ rest)
+  pub parts : text ≡ inner ++ (close_parenthesis ∷ rest)
 
 -- the same, where the values were added to others
 abbrev pub IsClosedBehind : NameLists → List ArgumentKind → List Value → List Value → List ℕ → List ℕ → Type 0

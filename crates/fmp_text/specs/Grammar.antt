@@ -3,7 +3,7 @@ use Rattle.std.specs.Prelude.{◌≡◌, ℕ, pos, ◌⊎◌, Bool, true, false,
 use Rattle.std.specs.List.{list_all, join_with_byte}
 use Rattle.fmp_codes.specs.declared.calls.Call.{Call}
 use Rattle.fmp_bytes.specs.declared.classes.Class.TheVariants.{Blank}
-use Rattle.fmp_bytes.specs.Bytes.{is_of}
+use Rattle.fmp_bytes.specs.Bytes.{is_of, close_parenthesis, comma, open_parenthesis}
 use Rattle.fmp_bytes.specs.Spelling.{SpellsNumber}
 use Rattle.fmp_calls.specs.declared.kinds.ArgumentKind.{ArgumentKind}
 use Rattle.fmp_calls.specs.declared.kinds.ArgumentKind.TheVariants as kinds
@@ -55,7 +55,7 @@ SpellsPieces names _ _ _ = ⊥
 -- arguments with commas between them, or blanks alone
 abbrev pub SpellsArguments : NameLists → List ArgumentKind → List Value → List ℕ → Type 0
 SpellsArguments names [] values text = AreBlank text × (values ≡ [])
-SpellsArguments names (kind ∷ kinds) values text = (pieces : List (List ℕ)) × (text ≡ join_with_byte 44 pieces) × SpellsPieces names (kind ∷ kinds) values pieces
+SpellsArguments names (kind ∷ kinds) values text = (pieces : List (List ℕ)) × (text ≡ join_with_byte comma pieces) × SpellsPieces names (kind ∷ kinds) values pieces
 
 -- arguments in parentheses, with blanks around
 pub record SpellsEnclosed (names : NameLists) (call : Call) (text : List ℕ) : Type 0 where
@@ -65,7 +65,7 @@ pub record SpellsEnclosed (names : NameLists) (call : Call) (text : List ℕ) : 
   pub between_blank : AreBlank between
   pub behind_blank : AreBlank behind
   pub arguments : SpellsArguments names (kinds_of call) (values_of call) inner
-  pub parts : text ≡ between ++ (40 ∷ (inner ++ (41 ∷ behind)))
+  pub parts : text ≡ between ++ (open_parenthesis ∷ (inner ++ (close_parenthesis ∷ behind)))
 
 -- what follows a call's name: blanks where the call is bare, else its arguments
 abbrev pub FollowsName : NameLists → Call → List ℕ → Type 0

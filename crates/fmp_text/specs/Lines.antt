@@ -8,7 +8,7 @@ use Rattle.fmp_codes.specs.declared.numbers.Proc.{Proc}
 use Rattle.fmp_codes.specs.declared.records.Event.{Event}
 use Rattle.fmp_codes.specs.declared.records.Event.TheVariants as events
 use Rattle.fmp_bytes.specs.declared.classes.Class.TheVariants.{Blank, Word, Line}
-use Rattle.fmp_bytes.specs.Bytes.{is_of, prefix, after, behind, letter_p, number_sign}
+use Rattle.fmp_bytes.specs.Bytes.{is_of, prefix, after, behind, letter_p, number_sign, carriage_return}
 use Rattle.fmp_bytes.specs.Numerals.{are_digits, is_zero_led, magnitude_of}
 use Rattle.fmp_text.specs.declared.fault.TextKind.{TextKind}
 use Rattle.fmp_text.specs.declared.fault.TextKind.TheVariants.{BadByte, BadWord, WrongArguments, NumberOutOfRange}
@@ -61,7 +61,7 @@ is_skipped line = list_all (is_of Blank) line || is_some (behind number_sign (af
 
 -- without a carriage return at its end
 unfoldable pub without_return : List ℕ → List ℕ
-without_return line = if nat_lt 0 (length line) && (slice_index line (length line - 1) == 13) then take (length line - 1) line else line
+without_return line = if nat_lt 0 (length line) && (slice_index line (length line - 1) == carriage_return) then take (length line - 1) line else line
 
 -- the event of a whole line, if it has one
 unfoldable pub line_event : NameLists → List ℕ → Result (Option Event) TextKind

@@ -1,6 +1,7 @@
 -- The grammar of event texts, apart from how they are read: which texts spell which list of events.
 use Rattle.std.specs.Prelude.{◌≡◌, ℕ, ◌≤◌, ◌⊎◌, ◌==◌, not, true, List, [], ◌∷◌, ◌++◌, length, decimal, codes}
 use Rattle.std.specs.List.{list_all, join_with_byte}
+use Rattle.fmp_bytes.specs.Bytes.{carriage_return, letter_p, line_feed, number_sign}
 use Rattle.fmp_codes.specs.Numbers.{as_proc}
 use Rattle.fmp_codes.specs.declared.numbers.Proc.{Proc}
 use Rattle.fmp_codes.specs.declared.records.Event.{Event}
@@ -28,7 +29,7 @@ pub record OnProcessor (names : NameLists) (processor : Proc) (Happens : List �
   pub apart : 1 ≤ length between
   pub between_blank : AreBlank between
   pub happens : Happens rest
-  pub parts : text ≡ before ++ (80 ∷ (decimal number ++ (between ++ rest)))
+  pub parts : text ≡ before ++ (letter_p ∷ (decimal number ++ (between ++ rest)))
 
 -- an event's line, without its end
 abbrev pub SpellsEvent : NameLists → List ℕ → Event → Type 0
@@ -41,11 +42,11 @@ pub record IsComment (line : List ℕ) : Type 0 where
   pub before : List ℕ
   pub rest : List ℕ
   pub before_blank : AreBlank before
-  pub parts : line ≡ before ++ (35 ∷ rest)
+  pub parts : line ≡ before ++ (number_sign ∷ rest)
 
 -- a line as it is, or with a carriage return at its end
 abbrev pub Ended : List ℕ → List ℕ → Type 0
-Ended core line = (line ≡ core) ⊎ (line ≡ core ++ (13 ∷ []))
+Ended core line = (line ≡ core) ⊎ (line ≡ core ++ (carriage_return ∷ []))
 
 -- a line with no event: blanks, or a comment
 abbrev pub SpellsNothing : List ℕ → Type 0
@@ -70,8 +71,8 @@ SpellsLines names (line ∷ next ∷ lines) events =
 -- a whole text: lines with line feeds between them, within the limits
 pub record SpellsText (names : NameLists) (text : List ℕ) (events : List Event) : Type 0 where
   pub lines : List (List ℕ)
-  pub parts : text ≡ join_with_byte 10 lines
-  pub cut : list_all (list_all (λ b. not (b == 10))) lines ≡ true
+  pub parts : text ≡ join_with_byte line_feed lines
+  pub cut : list_all (list_all (λ b. not (b == line_feed))) lines ≡ true
   pub spelled : SpellsLines names lines events
   pub few : length events ≤ most_events
   pub short : length text ≤ most_bytes

@@ -1,6 +1,7 @@
 use fmp_calls::{ArgumentKind, ObjectKind, Value, find_call, form, values, with_values};
 use fmp_codes::{Call, SystemCall, TaskCall};
 
+/// The activation of the task of this number.
 const fn activation(id: i32) -> Call {
     Call::Task(TaskCall::ActTsk(id))
 }

@@ -81,22 +81,27 @@ fn class(initial: Proc, first: bool, second: bool, third: bool) -> Class {
     Class { initial, members }
 }
 
+/// The class of all three processors.
 fn all() -> Class {
     class(Proc::new(1), true, true, true)
 }
 
+/// The class of the second processor alone.
 fn second() -> Class {
     class(Proc::new(2), false, true, false)
 }
 
+/// The class of the first and the third processor, of which the third is the initial one.
 fn third() -> Class {
     class(Proc::new(3), true, false, true)
 }
 
+/// Whether a named class has this name and is this class.
 fn is_class(named: &NamedClass, name: &[u8], class: Class) -> bool {
     named.name.as_slice() == name && named.class == class
 }
 
+/// These limits of queued wakeups and of priorities.
 fn limits(wakeups: u16, priorities: u8) -> Limits {
     Limits {
         wakeups,
@@ -104,6 +109,7 @@ fn limits(wakeups: u16, priorities: u8) -> Limits {
     }
 }
 
+/// Whether the classes are those of the text.
 fn has_its_classes(config: &Config) -> bool {
     let [first, other, last] = config.classes() else {
         return false;
@@ -125,6 +131,7 @@ fn the_head_is_what_the_text_says(rt: HostRuntime) -> Result<(), Fail> {
     })
 }
 
+/// A task, with the number of its function, and whether it is started at boot.
 fn task(class: Class, main: u8, priority: Pri, starts: bool) -> TaskSetup {
     TaskSetup {
         class,
@@ -134,6 +141,7 @@ fn task(class: Class, main: u8, priority: Pri, starts: bool) -> TaskSetup {
     }
 }
 
+/// Whether the tasks are those of the text.
 fn has_its_tasks(config: &Config) -> bool {
     let [first, other, last] = config.tasks() else {
         return false;
@@ -151,6 +159,7 @@ fn the_tasks_are_what_the_text_says(rt: HostRuntime) -> Result<(), Fail> {
     })
 }
 
+/// A semaphore, with its count at boot and its greatest count.
 fn semaphore(order: Order, initial: u16, most: u16) -> SemaphoreSetup {
     SemaphoreSetup {
         order,
@@ -159,6 +168,7 @@ fn semaphore(order: Order, initial: u16, most: u16) -> SemaphoreSetup {
     }
 }
 
+/// An eventflag: whether several tasks may wait, whether a release clears it, and its pattern at boot.
 fn eventflag(order: Order, many: bool, clears: bool, initial: u32) -> EventflagSetup {
     EventflagSetup {
         order,
@@ -168,14 +178,17 @@ fn eventflag(order: Order, many: bool, clears: bool, initial: u32) -> EventflagS
     }
 }
 
+/// A data queue, with the order of its senders and the number of its places.
 fn data_queue(order: Order, capacity: u16) -> DataQueueSetup {
     DataQueueSetup { order, capacity }
 }
 
+/// A pool, with its number of blocks.
 fn pool(order: Order, blocks: u8) -> PoolSetup {
     PoolSetup { order, blocks }
 }
 
+/// Whether the semaphores and eventflags are those of the text.
 fn has_its_counters(config: &Config) -> bool {
     let ([first, second], [one, other]) = (config.semaphores(), config.eventflags()) else {
         return false;
@@ -186,6 +199,7 @@ fn has_its_counters(config: &Config) -> bool {
         && *other == eventflag(Order::First, false, false, 0)
 }
 
+/// Whether the data queues and pools are those of the text.
 fn has_its_buffers(config: &Config) -> bool {
     let ([first, second], [one, other]) = (config.data_queues(), config.pools()) else {
         return false;
@@ -206,6 +220,7 @@ fn the_objects_are_what_the_text_says(rt: HostRuntime) -> Result<(), Fail> {
     })
 }
 
+/// A cyclic handler of the second class, with the number of its function, and whether it is started at boot.
 fn cyclic(handler: u8, period: u32, phase: u32, starts: bool) -> CyclicSetup {
     let class = second();
     CyclicSetup {
@@ -217,11 +232,13 @@ fn cyclic(handler: u8, period: u32, phase: u32, starts: bool) -> CyclicSetup {
     }
 }
 
+/// An alarm of the second class, with the number of its function.
 fn alarm(handler: u8) -> AlarmSetup {
     let class = second();
     AlarmSetup { class, handler }
 }
 
+/// Whether the cyclic handlers and alarms are those of the text.
 fn has_its_handlers(config: &Config) -> bool {
     let ([first, last], [one, other]) = (config.cyclics(), config.alarms()) else {
         return false;
@@ -277,6 +294,7 @@ const ELSEWHERE: [(NameKind, &[u8]); 5] = [
     (NameKind::Function, b"STACK_SIZE"),
 ];
 
+/// Asserts that each name has its number, and each number its name.
 fn are_numbered(rt: &impl Abort, names: &Names, rows: &[Numbered]) {
     for (kind, name, number) in rows {
         assert!(rt; names.number(*kind, *name) == Some(*number));
@@ -284,6 +302,7 @@ fn are_numbered(rt: &impl Abort, names: &Names, rows: &[Numbered]) {
     }
 }
 
+/// Asserts that none of these is a name of the kind beside it.
 fn are_elsewhere(rt: &impl Abort, names: &Names, rows: &[(NameKind, &'static [u8])]) {
     for (kind, name) in rows {
         assert!(rt; names.number(*kind, *name).is_none());
@@ -357,6 +376,7 @@ fn changed(
     Ok(text)
 }
 
+/// Asserts that the configuration behind each prefix is that of the machine.
 fn say_nothing(rt: &impl Abort, alloc: Global, prefixes: &[&'static [u8]]) -> Result<(), Fail> {
     for prefix in prefixes {
         let text = changed(alloc, *prefix, b"", b"")?;
@@ -376,6 +396,7 @@ fn prefixes_say_nothing(rt: HostRuntime) -> Result<(), Fail> {
 /// A second task.
 const WORKER: &[u8] = b"CLASS(C2) { CRE_TSK(T2, {TA_ACT, 0, main2, 10, 4096, NULL}); }";
 
+/// Asserts the timer of the machine with this statement.
 fn has_timer(rt: &impl Abort, alloc: Global, statement: &[u8], timer: Timer) -> Result<(), Fail> {
     let text = changed(alloc, b"", statement, WORKER)?;
     with_config(alloc, text.as_slice(), |config| {
@@ -412,6 +433,7 @@ const LIMITS: [Limited; 6] = [
     (b"\nTIMER(GLOBAL, 1); LIMITS(2, 17);", 2, 17),
 ];
 
+/// Asserts the limits of the machine with each statement.
 fn have_limits(rt: &impl Abort, alloc: Global, rows: &[Limited]) -> Result<(), Fail> {
     for (statement, wakeups, priorities) in rows {
         let text = changed(alloc, b"", *statement, b"")?;
@@ -438,6 +460,7 @@ fn the_least_priority_is_that_of_the_limits(rt: HostRuntime) -> Result<(), Fail>
     })
 }
 
+/// Whether the eventflags and the cyclic handler have all attributes that add something.
 fn has_added_attributes(config: &Config) -> bool {
     let ([first, second], [only]) = (config.eventflags(), config.cyclics()) else {
         return false;

@@ -192,6 +192,7 @@ fn is_refused(
     Ok(())
 }
 
+/// Asserts the first fault of each text, in pieces of each length.
 fn are_refused(
     rt: &impl Abort,
     alloc: Global,

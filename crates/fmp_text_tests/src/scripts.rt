@@ -24,6 +24,7 @@ const ONE: &[u8] = b"# all\nscript main_task\n act_tsk(T2) \r\n\nslp_tsk()\nend\
 /// A second script.
 const SECOND: &[u8] = b"\tscript \thandler \r\niget_tid()\n# none\nend\t\n #";
 
+/// The scripts that a text says.
 fn read(alloc: Global, names: &Names, text: &[u8]) -> Result<Scripts, Fail> {
     match read_scripts(alloc, text, names) {
         Ok(scripts) => Ok(scripts),
@@ -43,6 +44,7 @@ const STEPS: [Step; 6] = [
     (3, 0, None),
 ];
 
+/// Asserts the step at each position.
 fn have_steps(rt: &impl Abort, scripts: &Scripts, rows: &[Step]) {
     for (function, position, step) in rows {
         assert!(rt; scripts.step(Some(*function), *position) == *step);
@@ -78,6 +80,7 @@ const OTHERS: [(&[u8], &[u8], bool); 4] = [
     (b"", b"script handler\nend\n", false),
 ];
 
+/// Asserts which texts say the same as the text with both scripts.
 fn are_the_same_as_said(
     rt: &impl Abort,
     alloc: Global,

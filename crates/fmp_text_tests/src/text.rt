@@ -121,6 +121,7 @@ const ADDED: [(NameKind, &[u8], bool); 7] = [
     (FUNCTION, b"T1", true),
 ];
 
+/// Asserts which names may be added.
 fn are_added(
     rt: &impl Abort,
     names: &mut Names,
@@ -156,6 +157,7 @@ const DEFINED: [(&[u8], u32, bool); 5] = [
     (b"main_task", 7, true),
 ];
 
+/// Asserts which names may be defined so.
 fn are_defined(
     rt: &impl Abort,
     names: &mut Names,

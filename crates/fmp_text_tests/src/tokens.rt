@@ -6,6 +6,7 @@ use std::test::Fail;
 /// A text, and its tokens with their lines and their end.
 type Row = (&'static [u8], &'static str);
 
+/// The word for a kind of tokens in the rows.
 fn kind_name(kind: TokenKind) -> &'static str {
     match kind {
         TokenKind::Identifier => "identifier",
@@ -28,6 +29,7 @@ fn add_token(alloc: Global, shown: &mut String, token: &Token<'_>) -> Result<(),
     Ok(())
 }
 
+/// Adds an end as it stands in the rows.
 fn add_end(alloc: Global, shown: &mut String, end: End) -> Result<(), AllocError> {
     let text = match end {
         End::Done => format!(in alloc; "done"),

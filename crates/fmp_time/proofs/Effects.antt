@@ -8,7 +8,7 @@ use Rattle.fmp_codes.specs.declared.numbers.Proc.{Proc}
 use Rattle.fmp_codes.specs.declared.numbers.Task.{Task}
 use Rattle.fmp_time.specs.declared.item.Item.{Item}
 use Rattle.fmp_time.specs.declared.item.Item.TheVariants.{Wait, Alarm, Cyclic}
-use Rattle.fmp_time.specs.Differences.{Entry, list_at, has_entry, sorted_in, take_out, ticks_in, least_of, lowered, not_due, IsLeastIn}
+use Rattle.fmp_time.specs.Differences.{Entry, entries_at, has_entry, sorted_in, take_out, ticks_in, least_of, lowered, not_due, IsLeastIn}
 use Rattle.fmp_time.specs.Left.{Left, left_in, AreDisjoint}
 use Rattle.fmp_time.specs.Times.{Times, place_of, item_at, left_of, began, ended, armed, cancelled, moved, moved_to, renewed, ticks_on, lowered_on, counted_down, IsLeastOn}
 use Rattle.fmp_time.specs.Times as times
@@ -43,7 +43,7 @@ table_out q k h = table-same (left_in (take_out q k)) (λ u. cond (u == k) None 
 
 -- the lists with an item on a processor, with so many ticks left
 abbrev pub put_on : List (List Entry) → Proc → ℕ → ℕ → List (List Entry)
-put_on q p k n = set (take_out q k) (p.number - 1) (sorted_in k n (list_at (take_out q k) (p.number - 1)))
+put_on q p k n = set (take_out q k) (p.number - 1) (sorted_in k n (entries_at (take_out q k) (p.number - 1)))
 
 table_put : (q : List (List Entry)) (p : Proc) (k n : ℕ) → length (take_out q k) ≡ 8 → k < 128 → table (left_in (put_on q p k n)) ≡ set (table (left_in q)) k (Some (record { processor = p; ticks = n }))
 table_put q p k n count h =
@@ -88,35 +88,35 @@ renewed_there m x e = times_same _ _ _ _ refl (sym (ap (λ (b : Bool). cond b (b
 pub renewed_not : (m : Times) (x : Item) → is_some (left_of m x) ≡ false → m ≡ renewed m x
 renewed_not m x e = times_same _ _ _ _ refl (sym (ap (λ (b : Bool). cond b (began x m.waits) m.waits) e))
 
-pub ticked_left : (q : List (List Entry)) (p : Proc) → AreDisjoint q → table (left_in (set q (p.number - 1) (not_due (lowered (list_at q (p.number - 1)))))) ≡ map (counted_down p) (table (left_in q))
+pub ticked_left : (q : List (List Entry)) (p : Proc) → AreDisjoint q → table (left_in (set q (p.number - 1) (not_due (lowered (entries_at q (p.number - 1)))))) ≡ map (counted_down p) (table (left_in q))
 ticked_left q p d = table-same _ (λ k. counted_down p (left_in q k)) (λ k l. left-tick q d p k) ∙ table-map (counted_down p) (left_in q)
 
-pub lowered_is : (q : List (List Entry)) (w : List Task) (p : Proc) → AreDisjoint q → times_of (set q (p.number - 1) (lowered (list_at q (p.number - 1)))) w ≡ times.lowered (times_of q w) p
+pub lowered_is : (q : List (List Entry)) (w : List Task) (p : Proc) → AreDisjoint q → times_of (set q (p.number - 1) (lowered (entries_at q (p.number - 1)))) w ≡ times.lowered (times_of q w) p
 lowered_is q w p d = times_same _ _ _ _ (table-same _ (λ k. lowered_on p (left_in q k)) (λ k l. left-lower q d p k) ∙ table-map (lowered_on p) (left_in q)) refl
 
-pub least_is : (q : List (List Entry)) (w : List Task) (p : Proc) (next : Option ℕ) → AreDisjoint q → next ≡ least_of (list_at q (p.number - 1)) → IsLeastIn (list_at q (p.number - 1)) next → IsLeastOn (times_of q w) p next
-least_is q w p None d e least = λ x. read x ∙ none (list_at q (p.number - 1)) e (place_of x)
+pub least_is : (q : List (List Entry)) (w : List Task) (p : Proc) (next : Option ℕ) → AreDisjoint q → next ≡ least_of (entries_at q (p.number - 1)) → IsLeastIn (entries_at q (p.number - 1)) next → IsLeastOn (times_of q w) p next
+least_is q w p None d e least = λ x. read x ∙ none (entries_at q (p.number - 1)) e (place_of x)
   where
-    read : (x : Item) → ticks_on p (left_of (times_of q w) x) ≡ ticks_in (list_at q (p.number - 1)) (place_of x)
+    read : (x : Item) → ticks_on p (left_of (times_of q w) x) ≡ ticks_in (entries_at q (p.number - 1)) (place_of x)
     read x = ap (ticks_on p) (left_of-times q w x) ∙ ticks_on-left q d p (place_of x)
 
     none : (es : List Entry) → None ≡ least_of es → (k : ℕ) → ticks_in es k ≡ None
     none [] f k = refl
     none (y ∷ ys) f k = cc
-least_is q w p (Some n) d e least = by (list_at q (p.number - 1)) refl e
+least_is q w p (Some n) d e least = by (entries_at q (p.number - 1)) refl e
   where
-    read : (x : Item) → ticks_on p (left_of (times_of q w) x) ≡ ticks_in (list_at q (p.number - 1)) (place_of x)
+    read : (x : Item) → ticks_on p (left_of (times_of q w) x) ≡ ticks_in (entries_at q (p.number - 1)) (place_of x)
     read x = ap (ticks_on p) (left_of-times q w x) ∙ ticks_on-left q d p (place_of x)
 
     here : (k m : ℕ) (ys : List Entry) → has_entry k ((k, m) ∷ ys) ≡ true
     here k m ys = rw (eq-eqb k k refl) refl
 
-    by : (es : List Entry) → list_at q (p.number - 1) ≡ es → Some n ≡ least_of es → IsLeastOn (times_of q w) p (Some n)
+    by : (es : List Entry) → entries_at q (p.number - 1) ≡ es → Some n ≡ least_of es → IsLeastOn (times_of q w) p (Some n)
     by [] s f = cc
     by (y ∷ ys) s f =
         let first : ticks_in (y ∷ ys) y.0 ≡ Some y.1 = ap (λ (b : Bool). cond b (Some y.1) (ticks_in ys y.0)) (eq-eqb y.0 y.0 refl) in
-        let there : ticks_in (list_at q (p.number - 1)) y.0 ≡ Some n = ap (λ (es : List Entry). ticks_in es y.0) s ∙ first ∙ sym f in
+        let there : ticks_in (entries_at q (p.number - 1)) y.0 ≡ Some n = ap (λ (es : List Entry). ticks_in es y.0) s ∙ first ∙ sym f in
         let low : y.0 < 128 = d.small (p.number - 1) y.0 (ap (has_entry y.0) s ∙ here y.0 y.1 ys) in (
-          (item_at y.0, read (item_at y.0) ∙ ap (ticks_in (list_at q (p.number - 1))) (place-item_at y.0 low) ∙ there),
+          (item_at y.0, read (item_at y.0) ∙ ap (ticks_in (entries_at q (p.number - 1))) (place-item_at y.0 low) ∙ there),
           (λ x k g. least (place_of x) k (sym (read x) ∙ g)),
         )

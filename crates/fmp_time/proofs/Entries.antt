@@ -6,10 +6,10 @@ use Rattle.std.proofs.lemmas.List.{get_or-set_same, get_or-set_other, length-set
 use Rattle.fmp_links.specs.Lists as links
 use Rattle.fmp_links.specs.Lists.{has, inserted, AreDisjoint}
 use Rattle.fmp_links.proofs.Having.{ne}
-use Rattle.fmp_time.specs.Differences.{Entry, list_at, has_entry, sorted_in, entries_from, entries_of, sum_of, spot_in, rest_in, IsSummed}
+use Rattle.fmp_time.specs.Differences.{Entry, entries_at, has_entry, sorted_in, entries_from, entries_of, sum_of, spot_in, rest_in, IsSummed}
 use Rattle.fmp_time.proofs.Sums.{frame, frame_sum, spot_there, insert_some, insert_none, insert_some_total, insert_none_total}
 
-pub list_at-entries_of : (d : List ℕ) (q : List (List ℕ)) (i : ℕ) → list_at (entries_of d q) i ≡ entries_from (slice_index d) 0 (links.list_at q i)
+pub list_at-entries_of : (d : List ℕ) (q : List (List ℕ)) (i : ℕ) → entries_at (entries_of d q) i ≡ entries_from (slice_index d) 0 (links.list_at q i)
 list_at-entries_of d [] i = refl
 list_at-entries_of d (x ∷ q) zero = refl
 list_at-entries_of d (x ∷ q) (suc i) = list_at-entries_of d q i
@@ -18,7 +18,7 @@ has_entry-entries_from : (d : ℕ → ℕ) (k s : ℕ) (xs : List ℕ) → has_e
 has_entry-entries_from d k s [] = refl
 has_entry-entries_from d k s (x ∷ xs) = rw (has_entry-entries_from d k (s + d x) xs) refl
 
-pub has_entry-entries_of : (d : List ℕ) (q : List (List ℕ)) (k i : ℕ) → has_entry k (list_at (entries_of d q) i) ≡ has k (links.list_at q i)
+pub has_entry-entries_of : (d : List ℕ) (q : List (List ℕ)) (k i : ℕ) → has_entry k (entries_at (entries_of d q) i) ≡ has k (links.list_at q i)
 has_entry-entries_of d q k i = ap (has_entry k) (list_at-entries_of d q i) ∙ has_entry-entries_from (slice_index d) k 0 (links.list_at q i)
 
 rest_same : (d e : List ℕ) (q : List (List ℕ)) → ((j : ℕ) → entries_from (slice_index e) 0 (links.list_at q j) ≡ entries_from (slice_index d) 0 (links.list_at q j)) → entries_of e q ≡ entries_of d q
@@ -69,11 +69,11 @@ some_summed d q i k b n m s t l hi hk out spot rest =
 
 pub some_entries : (d : List ℕ) (q : List (List ℕ)) (i k b n m : ℕ) → IsSummed d q → AreDisjoint 128 q → length d ≡ 128 → i < 8 → k < 128 → ((j : ℕ) → has k (links.list_at q j) ≡ false) →
     spot_in (slice_index d) n (links.list_at q i) ≡ Some b → m ≡ rest_in (slice_index d) n (links.list_at q i) →
-    entries_of (set (set d b (slice_index d b - m)) k m) (links.insert_before q i b k) ≡ set (entries_of d q) i (sorted_in k n (list_at (entries_of d q) i))
+    entries_of (set (set d b (slice_index d b - m)) k m) (links.insert_before q i b k) ≡ set (entries_of d q) i (sorted_in k n (entries_at (entries_of d q) i))
 some_entries d q i k b n m s t l hi hk out spot rest =
     let there = spot_there (slice_index d) n (links.list_at q i) b spot in
     let w = writes_some d k b m l hk (t.small i b there) (λ (f : k ≡ b). ne b k (links.list_at q i) there (out i) (sym f)) in
-    entries_set d (set (set d b (slice_index d b - m)) k m) q i (inserted b k (links.list_at q i)) (sorted_in k n (list_at (entries_of d q) i)) (omega (arith, hi, s.count))
+    entries_set d (set (set d b (slice_index d b - m)) k m) q i (inserted b k (links.list_at q i)) (sorted_in k n (entries_at (entries_of d q) i)) (omega (arith, hi, s.count))
     (insert_some (slice_index d) _ k b 0 n (links.list_at q i) spot (w.0 ∙ rest) (w.1 ∙ ap (λ (x : ℕ). slice_index d b - x) rest) w.2 (out i) (t.apart i)
     ∙ ap (λ (x : ℕ). sorted_in k x (entries_from (slice_index d) 0 (links.list_at q i))) (omega arith) ∙ ap (sorted_in k n) (sym (list_at-entries_of d q i)))
     (λ j other. frame (slice_index d) _ 0 (links.list_at q j)
@@ -91,11 +91,11 @@ none_summed d q i k n m s l hi hk most out spot rest =
 
 pub none_entries : (d : List ℕ) (q : List (List ℕ)) (i k n m : ℕ) → IsSummed d q → length d ≡ 128 → i < 8 → k < 128 → ((j : ℕ) → has k (links.list_at q j) ≡ false) →
     spot_in (slice_index d) n (links.list_at q i) ≡ None → m ≡ rest_in (slice_index d) n (links.list_at q i) →
-    entries_of (set d k m) (links.push_last q i k) ≡ set (entries_of d q) i (sorted_in k n (list_at (entries_of d q) i))
+    entries_of (set d k m) (links.push_last q i k) ≡ set (entries_of d q) i (sorted_in k n (entries_at (entries_of d q) i))
 none_entries d q i k n m s l hi hk out spot rest =
     let own : slice_index (set d k m) k ≡ rest_in (slice_index d) n (links.list_at q i) = get_or-set_same d k m 0 (omega (arith, hk, l)) ∙ rest in
     let others : (u : ℕ) → (u ≡ k → ⊥) → slice_index (set d k m) u ≡ slice_index d u = λ u n. get_or-set_other d k u m 0 n in
-    entries_set d (set d k m) q i (links.list_at q i ++ k ∷ []) (sorted_in k n (list_at (entries_of d q) i)) (omega (arith, hi, s.count))
+    entries_set d (set d k m) q i (links.list_at q i ++ k ∷ []) (sorted_in k n (entries_at (entries_of d q) i)) (omega (arith, hi, s.count))
     (insert_none (slice_index d) _ k 0 n (links.list_at q i) spot own others (out i)
     ∙ ap (λ (x : ℕ). sorted_in k x (entries_from (slice_index d) 0 (links.list_at q i))) (omega arith) ∙ ap (sorted_in k n) (sym (list_at-entries_of d q i)))
     (λ j other. frame (slice_index d) _ 0 (links.list_at q j) (λ u h. others u (λ (f : u ≡ k). ne u k (links.list_at q j) h (out j) f)))

@@ -8,7 +8,7 @@ use Rattle.fmp_links.specs.Lists.{has, AreDistinct, AreDisjoint, first_of}
 use Rattle.fmp_links.proofs.Having as having
 use Rattle.fmp_links.proofs.Having.{has_here, lacks_from}
 use Rattle.fmp_links.proofs.Soundness.{list_at-take_out}
-use Rattle.fmp_time.specs.Differences.{Entry, list_at, lowered, due, not_due, entries_from, entries_of, sum_of, first_adding, zeros_of, rest_of, items_of, IsSummed}
+use Rattle.fmp_time.specs.Differences.{Entry, entries_at, lowered, due, not_due, entries_from, entries_of, sum_of, first_adding, zeros_of, rest_of, items_of, IsSummed}
 use Rattle.fmp_time.proofs.Sums.{frame, adding_there, adding_adds, lower_adding, lower_none, fewer_total}
 use Rattle.fmp_time.proofs.Entries.{list_at-entries_of, entries_set, summed_set}
 
@@ -106,10 +106,10 @@ module _ (d : List ℕ) (q : List (List ℕ)) (i x : ℕ) (s : IsSummed d q) (t 
   elsewhere j n u h = others u (λ (f : u ≡ x). n (t.one j i u h (subst (λ (y : ℕ). has y (links.list_at q i) ≡ true) (sym f) there)))
 
   -- the list with that one lowered is the list lowered
-  lower_is : entries_from (slice_index (set d x (slice_index d x - 1))) 0 (links.list_at q i) ≡ lowered (list_at (entries_of d q) i)
+  lower_is : entries_from (slice_index (set d x (slice_index d x - 1))) 0 (links.list_at q i) ≡ lowered (entries_at (entries_of d q) i)
   lower_is = lower_adding (slice_index d) (slice_index (set d x (slice_index d x - 1))) (links.list_at q i) x adding less others (t.apart i) ∙ ap lowered (sym (list_at-entries_of d q i))
 
-  pub lower_entries : entries_of (set d x (slice_index d x - 1)) q ≡ set (entries_of d q) i (lowered (list_at (entries_of d q) i))
+  pub lower_entries : entries_of (set d x (slice_index d x - 1)) q ≡ set (entries_of d q) i (lowered (entries_at (entries_of d q) i))
   lower_entries = ap (entries_of (set d x (slice_index d x - 1))) (sym (set-get_or q i []))
       ∙ entries_set d (set d x (slice_index d x - 1)) q i _ _ (omega (arith, within, s.count)) lower_is
       (λ j n. frame (slice_index d) _ 0 (links.list_at q j) (elsewhere j n))
@@ -124,19 +124,19 @@ module _ (d : List ℕ) (q : List (List ℕ)) (i x : ℕ) (s : IsSummed d q) (t 
   }
 
 -- in the list i nobody has a tick left
-pub idle_entries : (d : List ℕ) (q : List (List ℕ)) (i : ℕ) → first_adding (slice_index d) (links.list_at q i) ≡ None → entries_of d q ≡ set (entries_of d q) i (lowered (list_at (entries_of d q) i))
+pub idle_entries : (d : List ℕ) (q : List (List ℕ)) (i : ℕ) → first_adding (slice_index d) (links.list_at q i) ≡ None → entries_of d q ≡ set (entries_of d q) i (lowered (entries_at (entries_of d q) i))
 idle_entries d q i none =
     sym (ap (set (entries_of d q) i) (ap lowered (list_at-entries_of d q i) ∙ lower_none (slice_index d) (links.list_at q i) none ∙ sym (list_at-entries_of d q i)) ∙ set-get_or (entries_of d q) i [])
 
 -- the items of the list i go that have no ticks left
 module _ (d : List ℕ) (q : List (List ℕ)) (i : ℕ) (s : IsSummed d q) (within : i < 8) where
-  pub rest_entries : entries_of d (set q i (rest_of (slice_index d) (links.list_at q i))) ≡ set (entries_of d q) i (not_due (list_at (entries_of d q) i))
+  pub rest_entries : entries_of d (set q i (rest_of (slice_index d) (links.list_at q i))) ≡ set (entries_of d q) i (not_due (entries_at (entries_of d q) i))
   rest_entries = entries_set d d q i _ _ (omega (arith, within, s.count)) (rest_stays (slice_index d) (links.list_at q i) ∙ ap not_due (sym (list_at-entries_of d q i))) (λ j n. refl)
 
   pub rest_summed : IsSummed d (set q i (rest_of (slice_index d) (links.list_at q i)))
   rest_summed = summed_set d d q i _ s within (let fewer = rest_total (slice_index d) (links.list_at q i) in omega (arith, fewer, s.bound i)) (λ j n u h. refl)
 
-  pub rest_due : zeros_of (slice_index d) (links.list_at q i) ≡ items_of (due (list_at (entries_of d q) i))
+  pub rest_due : zeros_of (slice_index d) (links.list_at q i) ≡ items_of (due (entries_at (entries_of d q) i))
   rest_due = sym (zeros_due (slice_index d) (links.list_at q i)) ∙ ap (λ (es : List Entry). items_of (due es)) (sym (list_at-entries_of d q i))
 
   -- where the first one has a tick left, the lists stay
@@ -147,12 +147,12 @@ module _ (d : List ℕ) (q : List (List ℕ)) (i : ℕ) (s : IsSummed d q) (with
     quiet_lists : set q i (rest_of (slice_index d) (links.list_at q i)) ≡ q
     quiet_lists = ap (set q i) (ap (rest_of (slice_index d)) whole ∙ rest_end (slice_index d) x (tail_of (links.list_at q i)) (λ e. omega (arith, e, some)) ∙ sym whole) ∙ set-get_or q i []
 
-    pub quiet_entries : entries_of d q ≡ set (entries_of d q) i (not_due (list_at (entries_of d q) i))
+    pub quiet_entries : entries_of d q ≡ set (entries_of d q) i (not_due (entries_at (entries_of d q) i))
     quiet_entries = ap (entries_of d) (sym quiet_lists) ∙ rest_entries
 
-    pub quiet_due : [] ≡ items_of (due (list_at (entries_of d q) i))
+    pub quiet_due : [] ≡ items_of (due (entries_at (entries_of d q) i))
     quiet_due = sym (ap (zeros_of (slice_index d)) whole ∙ zeros_end (slice_index d) x (tail_of (links.list_at q i)) (λ e. omega (arith, e, some))) ∙ rest_due
 
 -- an empty list
-pub empty_is : (d : List ℕ) (q : List (List ℕ)) (i : ℕ) → first_of (links.list_at q i) ≡ None → list_at (entries_of d q) i ≡ []
+pub empty_is : (d : List ℕ) (q : List (List ℕ)) (i : ℕ) → first_of (links.list_at q i) ≡ None → entries_at (entries_of d q) i ≡ []
 empty_is d q i e = list_at-entries_of d q i ∙ ap (entries_from (slice_index d) 0) (no_first (links.list_at q i) e)

@@ -7,7 +7,7 @@ use Rattle.std.proofs.lemmas.List.{length-map}
 use Rattle.fmp_codes.specs.Numbers.{as_proc}
 use Rattle.fmp_links.specs.Lists as links
 use Rattle.fmp_links.specs.Lists.{has, first_of}
-use Rattle.fmp_time.specs.Differences.{Entry, list_at, has_entry, ticks_in, entries_from, entries_of, items_of, IsLeastIn}
+use Rattle.fmp_time.specs.Differences.{Entry, entries_at, has_entry, ticks_in, entries_from, entries_of, items_of, IsLeastIn}
 use Rattle.fmp_time.specs.Left.{left_on, left_from, left_in, AreDisjoint}
 use Rattle.fmp_time.proofs.Entries.{list_at-entries_of, has_entry-entries_of}
 use Rattle.fmp_time.proofs.Leaving.{ticks_from}
@@ -38,13 +38,13 @@ some_ticks k es e = by (ticks_in es k) refl (sym (has_ticks k es) ∙ e)
     by None f h = cc
     by (Some n) f h = record { ticks = n; are = f }
 
-pub left_nowhere : (i : ℕ) (q : List (List Entry)) (k : ℕ) → ((j : ℕ) → has_entry k (list_at q j) ≡ false) → left_from i q k ≡ None
+pub left_nowhere : (i : ℕ) (q : List (List Entry)) (k : ℕ) → ((j : ℕ) → has_entry k (entries_at q j) ≡ false) → left_from i q k ≡ None
 left_nowhere i [] k h = refl
 left_nowhere i (es ∷ q) k h =
     ap (λ (o : Option ℕ). left_on (as_proc (i + 1)) o (left_from (i + 1) q k)) (no_ticks k es (h 0)) ∙ left_nowhere (i + 1) q k (λ j. h (suc j))
 
 -- it is found in the only list that has it
-pub left_there : (i : ℕ) (q : List (List Entry)) (k j n : ℕ) → ticks_in (list_at q j) k ≡ Some n → ((l : ℕ) → (l ≡ j → ⊥) → has_entry k (list_at q l) ≡ false) →
+pub left_there : (i : ℕ) (q : List (List Entry)) (k j n : ℕ) → ticks_in (entries_at q j) k ≡ Some n → ((l : ℕ) → (l ≡ j → ⊥) → has_entry k (entries_at q l) ≡ false) →
     left_from i q k ≡ Some (record { processor = as_proc (i + j + 1); ticks = n })
 left_there i [] k j n e h = cc
 left_there i (es ∷ q) k zero n e h =
@@ -86,18 +86,18 @@ least_first d (y ∷ ys) x e = λ k m f.
 
 -- an item that stands in one list, by its links
 pub place_entry : (d : List ℕ) (q : List (List ℕ)) (now : List (List Entry)) (k : ℕ) (place : Option ℕ) → entries_of d q ≡ now →
-    ((i : ℕ) → has k (links.list_at q i) ≡ option_eq nat_eq place (Some i)) → (i : ℕ) → has_entry k (list_at now i) ≡ option_eq nat_eq place (Some i)
-place_entry d q now k place e h i = ap (λ (v : List (List Entry)). has_entry k (list_at v i)) (sym e) ∙ has_entry-entries_of d q k i ∙ h i
+    ((i : ℕ) → has k (links.list_at q i) ≡ option_eq nat_eq place (Some i)) → (i : ℕ) → has_entry k (entries_at now i) ≡ option_eq nat_eq place (Some i)
+place_entry d q now k place e h i = ap (λ (v : List (List Entry)). has_entry k (entries_at v i)) (sym e) ∙ has_entry-entries_of d q k i ∙ h i
 
-pub left_none : (now : List (List Entry)) (k : ℕ) → ((i : ℕ) → has_entry k (list_at now i) ≡ false) → left_in now k ≡ None
+pub left_none : (now : List (List Entry)) (k : ℕ) → ((i : ℕ) → has_entry k (entries_at now i) ≡ false) → left_in now k ≡ None
 left_none now k h = left_nowhere 0 now k h
 
-pub left_some : (now : List (List Entry)) (k j n : ℕ) → ((i : ℕ) → has_entry k (list_at now i) ≡ nat_eq j i) → ticks_in (list_at now j) k ≡ Some n →
+pub left_some : (now : List (List Entry)) (k j n : ℕ) → ((i : ℕ) → has_entry k (entries_at now i) ≡ nat_eq j i) → ticks_in (entries_at now j) k ≡ Some n →
     left_in now k ≡ Some (record { processor = as_proc (j + 1); ticks = n })
 left_some now k j n h e =
     left_there 0 now k j n e (λ l f. h l ∙ ne_eqb j l (λ g. f (sym g))) ∙ ap (λ (m : ℕ). Some (record { processor = as_proc (m + 1); ticks = n })) (omega arith)
 
-pub is_there : (now : List (List Entry)) (k j : ℕ) → ((i : ℕ) → has_entry k (list_at now i) ≡ nat_eq j i) → is_some (left_in now k) ≡ true
+pub is_there : (now : List (List Entry)) (k j : ℕ) → ((i : ℕ) → has_entry k (entries_at now i) ≡ nat_eq j i) → is_some (left_in now k) ≡ true
 is_there now k j h =
-    let t = some_ticks k (list_at now j) (h j ∙ eq-eqb j j refl) in
+    let t = some_ticks k (entries_at now j) (h j ∙ eq-eqb j j refl) in
     ap is_some (left_some now k j t.ticks h t.are)

@@ -5,7 +5,7 @@ use Rattle.fmp_links.specs.Lists as links
 use Rattle.fmp_links.specs.Lists.{has}
 use Rattle.fmp_links.proofs.Having as having
 use Rattle.fmp_links.proofs.Having.{or_left, or_right}
-use Rattle.fmp_time.specs.Differences.{Entry, list_at, has_entry, without, take_out, ticks_in, entries_from, sum_of}
+use Rattle.fmp_time.specs.Differences.{Entry, entries_at, has_entry, without, take_out, ticks_in, entries_from, sum_of}
 
 gone_from : (k : ℕ) (es : List Entry) → has_entry k (without k es) ≡ false
 gone_from k [] = refl
@@ -13,7 +13,7 @@ gone_from k (e ∷ es) =
     ⊎_elim (λ (f : k ≡ e.0). rw (eq-eqb e.0 k (sym f)) (gone_from k es))
     (λ (f : k ≡ e.0 → ⊥). rw (ne_eqb e.0 k (λ g. f (sym g)), ne_eqb k e.0 f) (gone_from k es)) (cases_eq k e.0)
 
-pub gone : (q : List (List Entry)) (k i : ℕ) → has_entry k (list_at (take_out q k) i) ≡ false
+pub gone : (q : List (List Entry)) (k i : ℕ) → has_entry k (entries_at (take_out q k) i) ≡ false
 gone [] k i = refl
 gone (x ∷ q) k zero = gone_from k x
 gone (x ∷ q) k (suc i) = gone q k i
@@ -24,7 +24,7 @@ stays_in k (e ∷ es) h =
     let out : e.0 ≡ k → ⊥ = λ f. let yes : nat_eq k e.0 ≡ true = eq-eqb k e.0 (sym f) in let bad = or_left (nat_eq k e.0) (has_entry k es) h in cc in
     rw (ne_eqb e.0 k out) (ap (λ (r : List Entry). e ∷ r) (stays_in k es (or_right (nat_eq k e.0) (has_entry k es) h)))
 
-pub stays : (q : List (List Entry)) (k : ℕ) → ((i : ℕ) → has_entry k (list_at q i) ≡ false) → take_out q k ≡ q
+pub stays : (q : List (List Entry)) (k : ℕ) → ((i : ℕ) → has_entry k (entries_at q i) ≡ false) → take_out q k ≡ q
 stays [] k h = refl
 stays (x ∷ q) k h = rw (stays_in k x (h 0)) (ap (λ (r : List (List Entry)). x ∷ r) (stays q k (λ i. h (suc i))))
 

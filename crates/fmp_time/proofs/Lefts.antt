@@ -9,7 +9,7 @@ use Rattle.fmp_codes.specs.Numbers.{as_proc}
 use Rattle.fmp_codes.specs.declared.numbers.Proc.{Proc}
 use Rattle.fmp_links.specs.Lists as links
 use Rattle.fmp_links.specs.Lists.{has}
-use Rattle.fmp_time.specs.Differences.{Entry, list_at, has_entry, sorted_in, without, take_out, ticks_in, lowered, due, not_due, items_of}
+use Rattle.fmp_time.specs.Differences.{Entry, entries_at, has_entry, sorted_in, without, take_out, ticks_in, lowered, due, not_due, items_of}
 use Rattle.fmp_time.specs.Left.{Left, left_on, left_from, left_in, is_over, AreDisjoint}
 use Rattle.fmp_time.specs.Times.{ticks_on, is_due, lowered_on, counted_down}
 use Rattle.fmp_time.proofs.Found.{has_ticks, no_ticks, left_nowhere, left_there}
@@ -152,8 +152,8 @@ left-take_out i (es ∷ q) k u =
     ∙ elim (u == k) as (λ (b : Bool). left_on (as_proc (i + 1)) (cond b None (ticks_in es u)) (cond b None (left_from (i + 1) q u)) ≡ cond b None (left_on (as_proc (i + 1)) (ticks_in es u) (left_from (i + 1) q u)))
     [ true ↦ refl | false ↦ refl ]
 
-left_put : (i : ℕ) (q : List (List Entry)) (p k n u : ℕ) → p < length q → ((j : ℕ) → has_entry k (list_at q j) ≡ false) →
-    left_from i (set q p (sorted_in k n (list_at q p))) u ≡ cond (u == k) (Some (record { processor = as_proc (i + p + 1); ticks = n })) (left_from i q u)
+left_put : (i : ℕ) (q : List (List Entry)) (p k n u : ℕ) → p < length q → ((j : ℕ) → has_entry k (entries_at q j) ≡ false) →
+    left_from i (set q p (sorted_in k n (entries_at q p))) u ≡ cond (u == k) (Some (record { processor = as_proc (i + p + 1); ticks = n })) (left_from i q u)
 left_put i [] p k n u h out = absurd (omega arith)
 left_put i (es ∷ q) zero k n u h out =
     let here : i + zero + 1 ≡ i + 1 = omega arith in
@@ -171,8 +171,8 @@ left_put i (es ∷ q) (suc p) k n u h out =
     (cases_eq u k)
 
 -- an item that stood nowhere is put into the list of a processor
-pub left-insert : (q : List (List Entry)) (p : Proc) (k n u : ℕ) → length q ≡ 8 → ((j : ℕ) → has_entry k (list_at q j) ≡ false) →
-    left_in (set q (p.number - 1) (sorted_in k n (list_at q (p.number - 1)))) u ≡ cond (u == k) (Some (record { processor = p; ticks = n })) (left_in q u)
+pub left-insert : (q : List (List Entry)) (p : Proc) (k n u : ℕ) → length q ≡ 8 → ((j : ℕ) → has_entry k (entries_at q j) ≡ false) →
+    left_in (set q (p.number - 1) (sorted_in k n (entries_at q (p.number - 1)))) u ≡ cond (u == k) (Some (record { processor = p; ticks = n })) (left_in q u)
 left-insert q p k n u count out =
     let high = p.most in
     let low = p.least in
@@ -180,7 +180,7 @@ left-insert q p k n u count out =
     left_put 0 q (p.number - 1) k n u (omega (arith, high, low, count)) out
     ∙ ap (λ (r : Proc). cond (u == k) (Some (record { processor = r; ticks = n })) (left_in q u)) (ap as_proc place ∙ proc_is p)
 
-left_same : (i : ℕ) (q r : List (List Entry)) (k : ℕ) → length q ≡ length r → ((j : ℕ) → ticks_in (list_at q j) k ≡ ticks_in (list_at r j) k) → left_from i q k ≡ left_from i r k
+left_same : (i : ℕ) (q r : List (List Entry)) (k : ℕ) → length q ≡ length r → ((j : ℕ) → ticks_in (entries_at q j) k ≡ ticks_in (entries_at r j) k) → left_from i q k ≡ left_from i r k
 left_same i [] [] k l h = refl
 left_same i [] (es ∷ r) k l h = absurd (omega (arith, l))
 left_same i (es ∷ q) [] k l h = absurd (omega (arith, l))
@@ -192,7 +192,7 @@ abbrev is_on : Proc → Option Left → Bool
 is_on p None = false
 is_on p (Some l) = l.processor.number == p.number
 
-off : (i : ℕ) (q : List (List Entry)) (p : Proc) (k : ℕ) → i + length q ≤ 8 → ((j : ℕ) → i + j ≡ p.number - 1 → ticks_in (list_at q j) k ≡ None) → is_on p (left_from i q k) ≡ false
+off : (i : ℕ) (q : List (List Entry)) (p : Proc) (k : ℕ) → i + length q ≤ 8 → ((j : ℕ) → i + j ≡ p.number - 1 → ticks_in (entries_at q j) k ≡ None) → is_on p (left_from i q k) ≡ false
 off i [] p k l h = refl
 off i (es ∷ q) p k l h = by (ticks_in es k) refl (off (i + 1) q p k (omega (arith, l)) (λ j f. h (suc j) (omega (arith, f))))
   where
@@ -220,15 +220,15 @@ off_stays p l e = ap (λ (b : Bool). cond b None (lowered_on p l)) (off_due p l 
 
 -- what the list of a processor has counts there
 module _ (q : List (List Entry)) (d : AreDisjoint q) (p : Proc) where
-  is_off : (k : ℕ) → ticks_in (list_at q (p.number - 1)) k ≡ None → is_on p (left_in q k) ≡ false
-  is_off k e = off 0 q p k (omega (arith, d.count)) (λ j f. ap (λ (i : ℕ). ticks_in (list_at q i) k) (let g : j ≡ p.number - 1 = omega (arith, f) in g) ∙ e)
+  is_off : (k : ℕ) → ticks_in (entries_at q (p.number - 1)) k ≡ None → is_on p (left_in q k) ≡ false
+  is_off k e = off 0 q p k (omega (arith, d.count)) (λ j f. ap (λ (i : ℕ). ticks_in (entries_at q i) k) (let g : j ≡ p.number - 1 = omega (arith, f) in g) ∙ e)
 
-  alone : (k n : ℕ) → ticks_in (list_at q (p.number - 1)) k ≡ Some n → (j : ℕ) → (j ≡ p.number - 1 → ⊥) → has_entry k (list_at q j) ≡ false
-  alone k n e j f = by (has_entry k (list_at q j)) refl
+  alone : (k n : ℕ) → ticks_in (entries_at q (p.number - 1)) k ≡ Some n → (j : ℕ) → (j ≡ p.number - 1 → ⊥) → has_entry k (entries_at q j) ≡ false
+  alone k n e j f = by (has_entry k (entries_at q j)) refl
     where
-      by : (b : Bool) → has_entry k (list_at q j) ≡ b → has_entry k (list_at q j) ≡ false
+      by : (b : Bool) → has_entry k (entries_at q j) ≡ b → has_entry k (entries_at q j) ≡ false
       by false g = g
-      by true g = absurd (f (d.one j (p.number - 1) k g (has_ticks k (list_at q (p.number - 1)) ∙ ap is_some e)))
+      by true g = absurd (f (d.one j (p.number - 1) k g (has_ticks k (entries_at q (p.number - 1)) ∙ ap is_some e)))
 
   place_in : p.number - 1 < length q
   place_in =
@@ -236,59 +236,59 @@ module _ (q : List (List Entry)) (d : AreDisjoint q) (p : Proc) where
       let low = p.least in
       omega (arith, high, low, d.count)
 
-  pub left-on : (k n : ℕ) → ticks_in (list_at q (p.number - 1)) k ≡ Some n → left_in q k ≡ Some (record { processor = p; ticks = n })
+  pub left-on : (k n : ℕ) → ticks_in (entries_at q (p.number - 1)) k ≡ Some n → left_in q k ≡ Some (record { processor = p; ticks = n })
   left-on k n e =
       let place : 0 + (p.number - 1) + 1 ≡ p.number - 1 + 1 = omega arith in
       left_there 0 q k (p.number - 1) n e (alone k n e) ∙ ap (λ (r : Proc). Some (record { processor = r; ticks = n })) (ap as_proc place ∙ proc_is p)
 
-  pub ticks_on-left : (k : ℕ) → ticks_on p (left_in q k) ≡ ticks_in (list_at q (p.number - 1)) k
-  ticks_on-left k = by (ticks_in (list_at q (p.number - 1)) k) refl
+  pub ticks_on-left : (k : ℕ) → ticks_on p (left_in q k) ≡ ticks_in (entries_at q (p.number - 1)) k
+  ticks_on-left k = by (ticks_in (entries_at q (p.number - 1)) k) refl
     where
-      by : (o : Option ℕ) → ticks_in (list_at q (p.number - 1)) k ≡ o → ticks_on p (left_in q k) ≡ ticks_in (list_at q (p.number - 1)) k
+      by : (o : Option ℕ) → ticks_in (entries_at q (p.number - 1)) k ≡ o → ticks_on p (left_in q k) ≡ ticks_in (entries_at q (p.number - 1)) k
       by None e = off_ticks p (left_in q k) (is_off k e) ∙ sym e
       by (Some n) e = ap (ticks_on p) (left-on k n e) ∙ ap (λ (b : Bool). cond b (Some n) None) (eq-eqb p.number p.number refl) ∙ sym e
 
-  pub due-left : (k : ℕ) → is_due p (left_in q k) ≡ has k (items_of (due (lowered (list_at q (p.number - 1)))))
-  due-left k = by (ticks_in (list_at q (p.number - 1)) k) refl ∙ sym (has_due k (list_at q (p.number - 1)) (d.apart (p.number - 1)))
+  pub due-left : (k : ℕ) → is_due p (left_in q k) ≡ has k (items_of (due (lowered (entries_at q (p.number - 1)))))
+  due-left k = by (ticks_in (entries_at q (p.number - 1)) k) refl ∙ sym (has_due k (entries_at q (p.number - 1)) (d.apart (p.number - 1)))
     where
-      by : (o : Option ℕ) → ticks_in (list_at q (p.number - 1)) k ≡ o → is_due p (left_in q k) ≡ are_over (ticks_in (list_at q (p.number - 1)) k)
+      by : (o : Option ℕ) → ticks_in (entries_at q (p.number - 1)) k ≡ o → is_due p (left_in q k) ≡ are_over (ticks_in (entries_at q (p.number - 1)) k)
       by None e = off_due p (left_in q k) (is_off k e) ∙ sym (ap are_over e)
       by (Some n) e = ap (is_due p) (left-on k n e) ∙ ap (λ (b : Bool). b && ((n - 1) == 0)) (eq-eqb p.number p.number refl) ∙ sym (ap are_over e)
 
-  pub left-tick : (k : ℕ) → left_in (set q (p.number - 1) (not_due (lowered (list_at q (p.number - 1))))) k ≡ counted_down p (left_in q k)
-  left-tick k = by (ticks_in (list_at q (p.number - 1)) k) refl
+  pub left-tick : (k : ℕ) → left_in (set q (p.number - 1) (not_due (lowered (entries_at q (p.number - 1))))) k ≡ counted_down p (left_in q k)
+  left-tick k = by (ticks_in (entries_at q (p.number - 1)) k) refl
     where
       fs : List Entry
-      fs = not_due (lowered (list_at q (p.number - 1)))
+      fs = not_due (lowered (entries_at q (p.number - 1)))
 
       r : List (List Entry)
       r = set q (p.number - 1) fs
 
-      at : ticks_in (list_at (set q (p.number - 1) (not_due (lowered (list_at q (p.number - 1))))) (p.number - 1)) k ≡ ticks_after (ticks_in (list_at q (p.number - 1)) k)
-      at = ap (λ (es : List Entry). ticks_in es k) (get_or-set_same q (p.number - 1) (not_due (lowered (list_at q (p.number - 1)))) [] place_in)
-          ∙ ticks_ticked k (list_at q (p.number - 1)) (d.apart (p.number - 1))
+      at : ticks_in (entries_at (set q (p.number - 1) (not_due (lowered (entries_at q (p.number - 1))))) (p.number - 1)) k ≡ ticks_after (ticks_in (entries_at q (p.number - 1)) k)
+      at = ap (λ (es : List Entry). ticks_in es k) (get_or-set_same q (p.number - 1) (not_due (lowered (entries_at q (p.number - 1)))) [] place_in)
+          ∙ ticks_ticked k (entries_at q (p.number - 1)) (d.apart (p.number - 1))
 
-      rest : (j : ℕ) → (j ≡ p.number - 1 → ⊥) → list_at (set q (p.number - 1) (not_due (lowered (list_at q (p.number - 1))))) j ≡ list_at q j
-      rest j f = get_or-set_other q (p.number - 1) j (not_due (lowered (list_at q (p.number - 1)))) [] f
+      rest : (j : ℕ) → (j ≡ p.number - 1 → ⊥) → entries_at (set q (p.number - 1) (not_due (lowered (entries_at q (p.number - 1))))) j ≡ entries_at q j
+      rest j f = get_or-set_other q (p.number - 1) j (not_due (lowered (entries_at q (p.number - 1)))) [] f
 
-      same : ticks_in (list_at q (p.number - 1)) k ≡ None → (j : ℕ) → ticks_in (list_at (set q (p.number - 1) (not_due (lowered (list_at q (p.number - 1))))) j) k ≡ ticks_in (list_at q j) k
+      same : ticks_in (entries_at q (p.number - 1)) k ≡ None → (j : ℕ) → ticks_in (entries_at (set q (p.number - 1) (not_due (lowered (entries_at q (p.number - 1))))) j) k ≡ ticks_in (entries_at q j) k
       same e j =
-          ⊎_elim (λ (f : j ≡ p.number - 1). ap (λ (i : ℕ). ticks_in (list_at r i) k) f ∙ at ∙ ap ticks_after e ∙ sym e ∙ ap (λ (i : ℕ). ticks_in (list_at q i) k) (sym f))
+          ⊎_elim (λ (f : j ≡ p.number - 1). ap (λ (i : ℕ). ticks_in (entries_at r i) k) f ∙ at ∙ ap ticks_after e ∙ sym e ∙ ap (λ (i : ℕ). ticks_in (entries_at q i) k) (sym f))
           (λ (f : j ≡ p.number - 1 → ⊥). ap (λ (es : List Entry). ticks_in es k) (rest j f)) (cases_eq j (p.number - 1))
 
-      others : (n : ℕ) → ticks_in (list_at q (p.number - 1)) k ≡ Some n → (j : ℕ) → (j ≡ p.number - 1 → ⊥) → has_entry k (list_at (set q (p.number - 1) (not_due (lowered (list_at q (p.number - 1))))) j) ≡ false
+      others : (n : ℕ) → ticks_in (entries_at q (p.number - 1)) k ≡ Some n → (j : ℕ) → (j ≡ p.number - 1 → ⊥) → has_entry k (entries_at (set q (p.number - 1) (not_due (lowered (entries_at q (p.number - 1))))) j) ≡ false
       others n e j f = ap (has_entry k) (rest j f) ∙ alone k n e j f
 
-      nowhere : (n : ℕ) → ticks_in (list_at q (p.number - 1)) k ≡ Some n → n - 1 ≡ 0 → (j : ℕ) → has_entry k (list_at (set q (p.number - 1) (not_due (lowered (list_at q (p.number - 1))))) j) ≡ false
+      nowhere : (n : ℕ) → ticks_in (entries_at q (p.number - 1)) k ≡ Some n → n - 1 ≡ 0 → (j : ℕ) → has_entry k (entries_at (set q (p.number - 1) (not_due (lowered (entries_at q (p.number - 1))))) j) ≡ false
       nowhere n e z j =
-          ⊎_elim (λ (f : j ≡ p.number - 1). ap (λ (i : ℕ). has_entry k (list_at r i)) f ∙ has_ticks k (list_at r (p.number - 1))
+          ⊎_elim (λ (f : j ≡ p.number - 1). ap (λ (i : ℕ). has_entry k (entries_at r i)) f ∙ has_ticks k (entries_at r (p.number - 1))
           ∙ ap is_some (at ∙ ap ticks_after e ∙ ap (λ (b : Bool). cond b None (Some (n - 1))) (eq-eqb (n - 1) 0 z)))
           (others n e j) (cases_eq j (p.number - 1))
 
       over : (n : ℕ) → counted_down p (Some (record { processor = p; ticks = n })) ≡ cond ((n - 1) == 0) None (Some (record { processor = p; ticks = n - 1 }))
       over n = rw (eq-eqb p.number p.number refl) refl
 
-      by : (o : Option ℕ) → ticks_in (list_at q (p.number - 1)) k ≡ o → left_in (set q (p.number - 1) (not_due (lowered (list_at q (p.number - 1))))) k ≡ counted_down p (left_in q k)
+      by : (o : Option ℕ) → ticks_in (entries_at q (p.number - 1)) k ≡ o → left_in (set q (p.number - 1) (not_due (lowered (entries_at q (p.number - 1))))) k ≡ counted_down p (left_in q k)
       by None e = left_same 0 r q k (length-set q (p.number - 1) fs) (same e) ∙ sym (off_stays p (left_in q k) (is_off k e))
       by (Some n) e =
           ⊎_elim (λ (z : n - 1 ≡ 0). left_nowhere 0 r k (nowhere n e z)
@@ -300,29 +300,29 @@ module _ (q : List (List Entry)) (d : AreDisjoint q) (p : Proc) where
           ∙ sym (ap (counted_down p) (left-on k n e) ∙ over n ∙ ap (λ (b : Bool). cond b None (Some (record { processor = p; ticks = n - 1 }))) (ne_eqb (n - 1) 0 z)))
           (cases_eq (n - 1) 0)
 
-  pub left-lower : (k : ℕ) → left_in (set q (p.number - 1) (lowered (list_at q (p.number - 1)))) k ≡ lowered_on p (left_in q k)
-  left-lower k = by (ticks_in (list_at q (p.number - 1)) k) refl
+  pub left-lower : (k : ℕ) → left_in (set q (p.number - 1) (lowered (entries_at q (p.number - 1)))) k ≡ lowered_on p (left_in q k)
+  left-lower k = by (ticks_in (entries_at q (p.number - 1)) k) refl
     where
       r : List (List Entry)
-      r = set q (p.number - 1) (lowered (list_at q (p.number - 1)))
+      r = set q (p.number - 1) (lowered (entries_at q (p.number - 1)))
 
-      at : ticks_in (list_at (set q (p.number - 1) (lowered (list_at q (p.number - 1)))) (p.number - 1)) k ≡ less_one (ticks_in (list_at q (p.number - 1)) k)
-      at = ap (λ (es : List Entry). ticks_in es k) (get_or-set_same q (p.number - 1) (lowered (list_at q (p.number - 1))) [] place_in)
-          ∙ ticks_lowered k (list_at q (p.number - 1))
+      at : ticks_in (entries_at (set q (p.number - 1) (lowered (entries_at q (p.number - 1)))) (p.number - 1)) k ≡ less_one (ticks_in (entries_at q (p.number - 1)) k)
+      at = ap (λ (es : List Entry). ticks_in es k) (get_or-set_same q (p.number - 1) (lowered (entries_at q (p.number - 1))) [] place_in)
+          ∙ ticks_lowered k (entries_at q (p.number - 1))
 
-      rest : (j : ℕ) → (j ≡ p.number - 1 → ⊥) → list_at (set q (p.number - 1) (lowered (list_at q (p.number - 1)))) j ≡ list_at q j
-      rest j f = get_or-set_other q (p.number - 1) j (lowered (list_at q (p.number - 1))) [] f
+      rest : (j : ℕ) → (j ≡ p.number - 1 → ⊥) → entries_at (set q (p.number - 1) (lowered (entries_at q (p.number - 1)))) j ≡ entries_at q j
+      rest j f = get_or-set_other q (p.number - 1) j (lowered (entries_at q (p.number - 1))) [] f
 
-      same : ticks_in (list_at q (p.number - 1)) k ≡ None → (j : ℕ) → ticks_in (list_at (set q (p.number - 1) (lowered (list_at q (p.number - 1)))) j) k ≡ ticks_in (list_at q j) k
+      same : ticks_in (entries_at q (p.number - 1)) k ≡ None → (j : ℕ) → ticks_in (entries_at (set q (p.number - 1) (lowered (entries_at q (p.number - 1)))) j) k ≡ ticks_in (entries_at q j) k
       same e j =
-          ⊎_elim (λ (f : j ≡ p.number - 1). ap (λ (i : ℕ). ticks_in (list_at r i) k) f ∙ at ∙ ap less_one e ∙ sym e ∙ ap (λ (i : ℕ). ticks_in (list_at q i) k) (sym f))
+          ⊎_elim (λ (f : j ≡ p.number - 1). ap (λ (i : ℕ). ticks_in (entries_at r i) k) f ∙ at ∙ ap less_one e ∙ sym e ∙ ap (λ (i : ℕ). ticks_in (entries_at q i) k) (sym f))
           (λ (f : j ≡ p.number - 1 → ⊥). ap (λ (es : List Entry). ticks_in es k) (rest j f)) (cases_eq j (p.number - 1))
 
-      others : (n : ℕ) → ticks_in (list_at q (p.number - 1)) k ≡ Some n → (j : ℕ) → (j ≡ p.number - 1 → ⊥) → has_entry k (list_at (set q (p.number - 1) (lowered (list_at q (p.number - 1)))) j) ≡ false
+      others : (n : ℕ) → ticks_in (entries_at q (p.number - 1)) k ≡ Some n → (j : ℕ) → (j ≡ p.number - 1 → ⊥) → has_entry k (entries_at (set q (p.number - 1) (lowered (entries_at q (p.number - 1)))) j) ≡ false
       others n e j f = ap (has_entry k) (rest j f) ∙ alone k n e j f
 
-      by : (o : Option ℕ) → ticks_in (list_at q (p.number - 1)) k ≡ o → left_in (set q (p.number - 1) (lowered (list_at q (p.number - 1)))) k ≡ lowered_on p (left_in q k)
-      by None e = left_same 0 r q k (length-set q (p.number - 1) (lowered (list_at q (p.number - 1)))) (same e) ∙ sym (off_lowered p (left_in q k) (is_off k e))
+      by : (o : Option ℕ) → ticks_in (entries_at q (p.number - 1)) k ≡ o → left_in (set q (p.number - 1) (lowered (entries_at q (p.number - 1)))) k ≡ lowered_on p (left_in q k)
+      by None e = left_same 0 r q k (length-set q (p.number - 1) (lowered (entries_at q (p.number - 1)))) (same e) ∙ sym (off_lowered p (left_in q k) (is_off k e))
       by (Some n) e =
           let place : 0 + (p.number - 1) + 1 ≡ p.number - 1 + 1 = omega arith in
           left_there 0 r k (p.number - 1) (n - 1) (at ∙ ap less_one e) (others n e)
@@ -337,7 +337,7 @@ or_false false = refl
 abbrev some_over : ℕ → List (List Entry) → Bool
 some_over k q = list_any (λ es. has k (items_of (due es))) q
 
-over_step : (i : ℕ) (es : List Entry) (q : List (List Entry)) (k : ℕ) (o : Option ℕ) → links.AreDistinct (items_of es) → ((j : ℕ) → is_some o ≡ true → has_entry k (list_at q j) ≡ false) → ticks_in es k ≡ o →
+over_step : (i : ℕ) (es : List Entry) (q : List (List Entry)) (k : ℕ) (o : Option ℕ) → links.AreDistinct (items_of es) → ((j : ℕ) → is_some o ≡ true → has_entry k (entries_at q j) ≡ false) → ticks_in es k ≡ o →
     some_over k q ≡ is_over (left_from (i + 1) q k) → (has k (items_of (due es)) || some_over k q) ≡ is_over (left_from i (es ∷ q) k)
 over_step i es q k None apart out e ih =
     ap (λ (b : Bool). b || some_over k q) (has_over k es apart ∙ ap zero_left e) ∙ ih
@@ -352,12 +352,12 @@ lacks true h = absurd (h refl)
 lacks false h = refl
 
 -- an item has no ticks left where a list has it among those that are due
-over_from : (i : ℕ) (q : List (List Entry)) (k : ℕ) → ((j : ℕ) → links.AreDistinct (items_of (list_at q j))) → ((j l : ℕ) → has_entry k (list_at q j) ≡ true → has_entry k (list_at q l) ≡ true → j ≡ l) →
+over_from : (i : ℕ) (q : List (List Entry)) (k : ℕ) → ((j : ℕ) → links.AreDistinct (items_of (entries_at q j))) → ((j l : ℕ) → has_entry k (entries_at q j) ≡ true → has_entry k (entries_at q l) ≡ true → j ≡ l) →
     some_over k q ≡ is_over (left_from i q k)
 over_from i [] k apart one = refl
 over_from i (es ∷ q) k apart one =
     over_step i es q k (ticks_in es k) (apart 0)
-    (λ j h. lacks (has_entry k (list_at q j)) (λ f. let bad = one 0 (suc j) (has_ticks k es ∙ h) f in omega (arith, bad)))
+    (λ j h. lacks (has_entry k (entries_at q j)) (λ f. let bad = one 0 (suc j) (has_ticks k es ∙ h) f in omega (arith, bad)))
     refl (over_from (i + 1) q k (λ j. apart (suc j)) (λ j l e f. let next = one (suc j) (suc l) e f in omega (arith, next)))
 
 pub over-left : (q : List (List Entry)) (k : ℕ) → AreDisjoint q → list_any (λ es. has k (items_of (due es))) q ≡ is_over (left_in q k)

@@ -8,7 +8,7 @@ use Rattle.fmp_links.specs.Lists.{has, AreDistinct, AreDisjoint, first_of}
 use Rattle.fmp_links.proofs.Having as having
 use Rattle.fmp_links.proofs.Having.{has_here, has_there, has_behind, lacks_from, ne}
 use Rattle.fmp_links.proofs.Soundness.{list_at-take_out}
-use Rattle.fmp_time.specs.Differences.{Entry, list_at, has_entry, without, take_out, entries_from, entries_of, sum_of, IsSummed}
+use Rattle.fmp_time.specs.Differences.{Entry, entries_at, has_entry, without, take_out, entries_from, entries_of, sum_of, IsSummed}
 use Rattle.fmp_time.proofs.Entries.{has_entry-entries_of}
 use Rattle.fmp_time.proofs.Sums.{frame, frame_sum, remove_sums, without_lacking}
 
@@ -25,11 +25,11 @@ parts_of (x ∷ xs) t h =
     (λ (e : t ≡ x → ⊥). let p = parts_of xs t (has_behind t x xs e h) in record { before = x ∷ p.before; behind = p.behind; whole = ap (λ (ys : List ℕ). x ∷ ys) p.whole })
     (cases_eq t x)
 
-pub parts_in : (d : List ℕ) (q : List (List ℕ)) (now : List (List Entry)) (k i : ℕ) → entries_of d q ≡ now → has_entry k (list_at now i) ≡ true → Parts (links.list_at q i) k
-parts_in d q now k i e h = parts_of (links.list_at q i) k (sym (has_entry-entries_of d q k i) ∙ ap (λ (v : List (List Entry)). has_entry k (list_at v i)) e ∙ h)
+pub parts_in : (d : List ℕ) (q : List (List ℕ)) (now : List (List Entry)) (k i : ℕ) → entries_of d q ≡ now → has_entry k (entries_at now i) ≡ true → Parts (links.list_at q i) k
+parts_in d q now k i e h = parts_of (links.list_at q i) k (sym (has_entry-entries_of d q k i) ∙ ap (λ (v : List (List Entry)). has_entry k (entries_at v i)) e ∙ h)
 
-pub there_in : (d : List ℕ) (q : List (List ℕ)) (now : List (List Entry)) (k i : ℕ) → entries_of d q ≡ now → has_entry k (list_at now i) ≡ true → has k (links.list_at q i) ≡ true
-there_in d q now k i e h = sym (has_entry-entries_of d q k i) ∙ ap (λ (v : List (List Entry)). has_entry k (list_at v i)) e ∙ h
+pub there_in : (d : List ℕ) (q : List (List ℕ)) (now : List (List Entry)) (k i : ℕ) → entries_of d q ≡ now → has_entry k (entries_at now i) ≡ true → has k (links.list_at q i) ≡ true
+there_in d q now k i e h = sym (has_entry-entries_of d q k i) ∙ ap (λ (v : List (List Entry)). has_entry k (entries_at v i)) e ∙ h
 
 later : (u : ℕ) (ys xs : List ℕ) → has u ys ≡ true → has u (xs ++ ys) ≡ true
 later u ys [] h = h

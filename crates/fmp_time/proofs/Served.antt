@@ -12,7 +12,7 @@ use Rattle.fmp_links.proofs.Having.{has_push, or_left, or_right}
 use Rattle.fmp_links.proofs.Tasks as tasks
 use Rattle.fmp_time.specs.declared.item.Item.{Item}
 use Rattle.fmp_time.specs.Times.{Times, place_of, item_at, wait_of, left_of, is_due, is_marked, handlers, marked_handlers, ticked, served}
-use Rattle.fmp_time.specs.Differences.{Entry, list_at, lowered, due, not_due, items_of}
+use Rattle.fmp_time.specs.Differences.{Entry, entries_at, lowered, due, not_due, items_of}
 use Rattle.fmp_time.specs.Left.{left_in, AreDisjoint}
 use Rattle.fmp_time.specs.Shown.{table, times_of}
 use Rattle.fmp_time.proofs.Tables.{at-table}
@@ -165,10 +165,10 @@ all_kept m p h = filter_all (λ t. not (is_due p (left_of m (wait_of t)))) m.wai
 
 -- the items of a processor's list that a tick takes out are those that are due
 pub due_where : (q : List (List Entry)) (w : List Task) (p : Proc) → AreDisjoint q → (k : ℕ) → k < 128 →
-    is_due p (slice_index_or (times_of q w).left k None) ≡ has k (items_of (due (lowered (list_at q (p.number - 1)))))
+    is_due p (slice_index_or (times_of q w).left k None) ≡ has k (items_of (due (lowered (entries_at q (p.number - 1)))))
 due_where q w p d k h = ap (is_due p) (at-table (left_in q) k None h) ∙ due-left q d p k
 
 -- after a tick: the lists of entries, and the waits that go on
-pub ticked_is : (q r : List (List Entry)) (w v : List Task) (p : Proc) → AreDisjoint q → r ≡ set q (p.number - 1) (not_due (lowered (list_at q (p.number - 1)))) →
+pub ticked_is : (q r : List (List Entry)) (w v : List Task) (p : Proc) → AreDisjoint q → r ≡ set q (p.number - 1) (not_due (lowered (entries_at q (p.number - 1)))) →
     v ≡ filter (λ t. not (is_due p (left_of (times_of q w) (wait_of t)))) w → times_of r v ≡ ticked (times_of q w) p
 ticked_is q r w v p d e f = times_same _ _ _ _ (ap (λ (s : List (List Entry)). table (left_in s)) e ∙ ticked_left q p d) f

@@ -8,8 +8,8 @@ use Rattle.fmp_links.specs.Lists as links
 abbrev pub Entry : Type 0
 Entry = ℕ × ℕ
 
-abbrev pub list_at : List (List Entry) → ℕ → List Entry
-list_at q i = slice_index_or q i []
+abbrev pub entries_at : List (List Entry) → ℕ → List Entry
+entries_at q i = slice_index_or q i []
 
 abbrev pub has_entry : ℕ → List Entry → Bool
 has_entry k es = list_any (λ e. nat_eq k e.0) es

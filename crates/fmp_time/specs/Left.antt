@@ -3,7 +3,7 @@ use Rattle.std.specs.Prelude.{◌≡◌, ℕ, ◌+◌, ◌<◌, ◌==◌, Bool, 
 use Rattle.fmp_codes.specs.Numbers.{as_proc}
 use Rattle.fmp_codes.specs.declared.numbers.Proc.{Proc}
 use Rattle.fmp_links.specs.Lists as links
-use Rattle.fmp_time.specs.Differences.{Entry, list_at, has_entry, items_of, ticks_in}
+use Rattle.fmp_time.specs.Differences.{Entry, entries_at, has_entry, items_of, ticks_in}
 
 pub record Left : Type 0 where
   pub processor : Proc
@@ -25,9 +25,9 @@ left_in q k = left_from 0 q k
 -- there is a list for each processor, none has an item twice, no two have one, and items are below 128
 pub record AreDisjoint (q : List (List Entry)) : Type 0 where
   pub count : length q ≡ 8
-  pub apart : (i : ℕ) → links.AreDistinct (items_of (list_at q i))
-  pub one : (i j k : ℕ) → has_entry k (list_at q i) ≡ true → has_entry k (list_at q j) ≡ true → i ≡ j
-  pub small : (i k : ℕ) → has_entry k (list_at q i) ≡ true → k < 128
+  pub apart : (i : ℕ) → links.AreDistinct (items_of (entries_at q i))
+  pub one : (i j k : ℕ) → has_entry k (entries_at q i) ≡ true → has_entry k (entries_at q j) ≡ true → i ≡ j
+  pub small : (i k : ℕ) → has_entry k (entries_at q i) ≡ true → k < 128
 
 -- what is left of an item in the list of a number, from 0
 abbrev pub left_by : ℕ × ℕ → Left

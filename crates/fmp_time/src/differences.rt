@@ -3,7 +3,7 @@
 ghost use Rattle.std.specs.Prelude.{◌≡◌, ℕ, ◌^◌, ◌<◌, ◌≤◌, ◌||◌, false, true, is_some, Some, [], length, replicate, slice_index, slice_index_or, slice_set, IsTrue};
 ghost use Rattle.std.specs.Option.{option_map};
 ghost use Rattle.fmp_links.specs.Lists as lists;
-ghost use Rattle.fmp_time.specs.Differences.{list_at, has_entry, sorted_in, take_out, ticks_in, least_of, lowered, due, not_due, entries_from, sum_of, spot_in, rest_in, first_adding, zeros_of, rest_of, items_of, items_given, IsLeastIn};
+ghost use Rattle.fmp_time.specs.Differences.{entries_at, has_entry, sorted_in, take_out, ticks_in, least_of, lowered, due, not_due, entries_from, sum_of, spot_in, rest_in, first_adding, zeros_of, rest_of, items_of, items_given, IsLeastIn};
 ghost use Rattle.fmp_time.specs.Left.{left_in, left_by, ticks_of, is_over, AreDisjoint};
 
 use arrayvec::ArrayVec;
@@ -45,8 +45,8 @@ impl Differences {
     pub fn insert(&mut self, list: usize, item: usize, ticks: u64)
         requires list_in { list < 8 }
         requires item_in { item < 128 }
-        requires nowhere { (i : ℕ) → has_entry item (list_at self.old i) ≡ false }
-        ensures entries { self.new ≡ slice_set self.old list (sorted_in item ticks (list_at self.old list)) }
+        requires nowhere { (i : ℕ) → has_entry item (entries_at self.old i) ≡ false }
+        ensures entries { self.new ≡ slice_set self.old list (sorted_in item ticks (entries_at self.old list)) }
         ensures count { length self.old ≡ 8 }
     {
         let (behind, rest) = spot(&self.links, &self.more, list, ticks);
@@ -66,7 +66,7 @@ impl Differences {
     /// Takes an item out of the list in which it stands.
     fn remove(&mut self, item: usize)
         requires item_in { item < 128 }
-        requires somewhere { (i : ℕ) × (has_entry item (list_at self.old i) ≡ true) }
+        requires somewhere { (i : ℕ) × (has_entry item (entries_at self.old i) ≡ true) }
         ensures { self.new ≡ take_out self.old item }
     {
         match self.links.next(item) {
@@ -81,8 +81,8 @@ impl Differences {
     /// Whether an item stands in a list.
     pub fn stands(&self, item: usize) -> bool
         requires { item < 128 }
-        ensures yes { result ≡ true → (i : ℕ) × (has_entry item (list_at self.now i) ≡ true) }
-        ensures no_list { result ≡ false → (i : ℕ) → has_entry item (list_at self.now i) ≡ false }
+        ensures yes { result ≡ true → (i : ℕ) × (has_entry item (entries_at self.now i) ≡ true) }
+        ensures no_list { result ≡ false → (i : ℕ) → has_entry item (entries_at self.now i) ≡ false }
         ensures value { result ≡ is_some (left_in self.now item) }
     {
         match self.links.place(item) {
@@ -164,8 +164,8 @@ impl Differences {
     /// The least ticks left in a list.
     pub fn next(&self, list: usize) -> Option<u64>
         requires { list < 8 }
-        ensures value { result ≡ least_of (list_at self.now list) }
-        ensures least { IsLeastIn (list_at self.now list) result }
+        ensures value { result ≡ least_of (entries_at self.now list) }
+        ensures least { IsLeastIn (entries_at self.now list) result }
         ensures disjoint { AreDisjoint self.now }
     {
         let item = self.links.first(list)?;
@@ -175,7 +175,7 @@ impl Differences {
     /// Each item of a list has one tick less, or stays at 0. No more than one number changes.
     pub fn lower(&mut self, list: usize)
         requires { list < 8 }
-        ensures entries { self.new ≡ slice_set self.old list (lowered (list_at self.old list)) }
+        ensures entries { self.new ≡ slice_set self.old list (lowered (entries_at self.old list)) }
         ensures disjoint { AreDisjoint self.old }
     {
         if let Some(item) = adding(&self.links, &self.more, list) {
@@ -186,8 +186,8 @@ impl Differences {
     /// Takes out of a list the items that have no ticks left, and gives them in their order.
     fn take_due(&mut self, list: usize) -> Option<ArrayVec<usize, 128>>
         requires { list < 8 }
-        ensures entries { self.new ≡ slice_set self.old list (not_due (list_at self.old list)) }
-        ensures due { items_given result ≡ items_of (due (list_at self.old list)) }
+        ensures entries { self.new ≡ slice_set self.old list (not_due (entries_at self.old list)) }
+        ensures due { items_given result ≡ items_of (due (entries_at self.old list)) }
     {
         let first = self.links.first(list)?;
         if self.more[first] > 0 {
@@ -200,8 +200,8 @@ impl Differences {
     /// Where there is none of these, one number changes.
     pub fn tick(&mut self, list: usize) -> Option<ArrayVec<usize, 128>>
         requires { list < 8 }
-        ensures entries { self.new ≡ slice_set self.old list (not_due (lowered (list_at self.old list))) }
-        ensures due { items_given result ≡ items_of (due (lowered (list_at self.old list))) }
+        ensures entries { self.new ≡ slice_set self.old list (not_due (lowered (entries_at self.old list))) }
+        ensures due { items_given result ≡ items_of (due (lowered (entries_at self.old list))) }
         ensures disjoint { AreDisjoint self.old }
     {
         self.lower(list);

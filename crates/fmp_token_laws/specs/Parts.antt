@@ -4,7 +4,7 @@ use Rattle.std.specs.Char.{is_ascii_graphic}
 use Rattle.std.specs.List.{list_all}
 use Rattle.fmp_bytes.specs.declared.classes.Class.{Class}
 use Rattle.fmp_bytes.specs.declared.classes.Class.TheVariants.{Space, Digit, Word}
-use Rattle.fmp_bytes.specs.Bytes.{is_of, is_identifier}
+use Rattle.fmp_bytes.specs.Bytes.{is_of, is_identifier, asterisk, backslash, line_feed, number_sign, quotation_mark, slash}
 use Rattle.fmp_tokens.specs.declared.modes.Place.{Place}
 use Rattle.fmp_tokens.specs.declared.modes.Place.TheVariants.{LineStart, Code, Directive}
 use Rattle.fmp_tokens.specs.Steps.{is_next}
@@ -27,15 +27,15 @@ pub data Part : Type 0 where
 -- a part as it is written
 abbrev pub written : Part → List ℕ
 written (Blank b) = b ∷ []
-written (BlockComment inner) = 47 ∷ 42 ∷ (inner ++ (42 ∷ 47 ∷ []))
-written (LineComment inner) = 47 ∷ 47 ∷ inner
-written JoinedLine = 92 ∷ 10 ∷ []
+written (BlockComment inner) = slash ∷ asterisk ∷ (inner ++ (asterisk ∷ slash ∷ []))
+written (LineComment inner) = slash ∷ slash ∷ inner
+written JoinedLine = backslash ∷ line_feed ∷ []
 written (Identifier word) = word
 written (Digits word) = word
 written (Symbol b) = b ∷ []
-written (Quoted inner) = 34 ∷ (inner ++ (34 ∷ []))
-written Hash = 35 ∷ []
-written LineEnd = 10 ∷ []
+written (Quoted inner) = quotation_mark ∷ (inner ++ (quotation_mark ∷ []))
+written Hash = number_sign ∷ []
+written LineEnd = line_feed ∷ []
 written TextEnd = []
 
 -- inside of a directive
@@ -66,7 +66,7 @@ has_pair first second (b ∷ bytes) = (b == first && is_next second bytes) || ha
 -- what follows ends a comment `// ..`: a line feed or the end of the text, in a directive also a `\` before a line feed
 abbrev pub ends_comment : Place → List ℕ → Bool
 ends_comment place [] = true
-ends_comment place (b ∷ bytes) = b == 10 || (is_directive place && (b == 92 && is_next 10 bytes))
+ends_comment place (b ∷ bytes) = b == line_feed || (is_directive place && (b == backslash && is_next line_feed bytes))
 
 -- such a comment ends behind these bytes, and not in them
 abbrev pub ends_behind : Place → List ℕ → List ℕ → Bool
@@ -78,7 +78,7 @@ abbrev pub is_inner : Bool → List ℕ → Bool
 is_inner true [] = false
 is_inner false [] = true
 is_inner true (b ∷ bytes) = is_inner false bytes
-is_inner false (b ∷ bytes) = not (b == 34) && is_inner (b == 92) bytes
+is_inner false (b ∷ bytes) = not (b == quotation_mark) && is_inner (b == backslash) bytes
 
 -- a digit, then letters, digits and `_`
 abbrev pub is_number : List ℕ → Bool
@@ -87,20 +87,20 @@ is_number (b ∷ bytes) = is_of Digit b && list_all (is_of Word) bytes
 
 -- a `/` before `/` or `*`
 abbrev pub opens_comment : ℕ → List ℕ → Bool
-opens_comment b rest = b == 47 && (is_next 47 rest || is_next 42 rest)
+opens_comment b rest = b == slash && (is_next slash rest || is_next asterisk rest)
 
 -- a byte that is a token by itself, in this place and before this text. In a directive any byte is that is no blank,
 -- elsewhere those from `!` to `~`
 abbrev pub stands_alone : Place → ℕ → List ℕ → Bool
-stands_alone LineStart b rest = is_ascii_graphic b && not (b == 34 || b == 35)
-stands_alone Code b rest = is_ascii_graphic b && not (b == 34)
-stands_alone Directive b rest = not (is_of Space b || (b == 92 && is_next 10 rest))
+stands_alone LineStart b rest = is_ascii_graphic b && not (b == quotation_mark || b == number_sign)
+stands_alone Code b rest = is_ascii_graphic b && not (b == quotation_mark)
+stands_alone Directive b rest = not (is_of Space b || (b == backslash && is_next line_feed rest))
 
 -- a part may stand in this place, before this text, and nothing of the text goes on with it: a comment `/* .. */` is not
 -- closed before its end, and no letter, digit or `_` follows a word
 abbrev pub may_stand : Place → Part → List ℕ → Bool
-may_stand place (Blank b) rest = is_of Space b && not (is_directive place && b == 10)
-may_stand place (BlockComment inner) rest = not (has_pair 42 47 (inner ++ (42 ∷ [])))
+may_stand place (Blank b) rest = is_of Space b && not (is_directive place && b == line_feed)
+may_stand place (BlockComment inner) rest = not (has_pair asterisk slash (inner ++ (asterisk ∷ [])))
 may_stand place (LineComment inner) rest = ends_behind place inner rest
 may_stand place JoinedLine rest = is_directive place
 may_stand place (Identifier word) rest = is_identifier word && not (begins_with Word rest)

@@ -1,6 +1,7 @@
 -- The grammar of tokens, apart from how they are read: which texts are spelled by which tokens.
 use Rattle.std.specs.Prelude.{◌≡◌, ℕ, true, false, List, [], ◌∷◌, ◌++◌, ◌==◌, if◌then◌else◌}
 use Rattle.std.specs.List.{flat_map}
+use Rattle.fmp_bytes.specs.Bytes.{line_feed}
 use Rattle.fmp_tokens.specs.declared.modes.Place.{Place}
 use Rattle.fmp_tokens.specs.declared.modes.Place.TheVariants.{LineStart, Code, Directive}
 use Rattle.fmp_tokens.specs.declared.tokens.TokenKind.{TokenKind}
@@ -30,7 +31,7 @@ glyphs_of _ = []
 
 -- the place behind a part: line feeds in comments end no line
 abbrev pub place_behind : Place → Part → Place
-place_behind place (Blank b) = if b == 10 then LineStart else place
+place_behind place (Blank b) = if b == line_feed then LineStart else place
 place_behind place (Identifier word) = behind place
 place_behind place (Digits word) = behind place
 place_behind place (Symbol b) = behind place

@@ -43,7 +43,7 @@ led_printed (word ∷ words) all =
 
 module _ (names : NameLists) (r : Record) (valid : AreValid names) (fits : FitsNames names r) where
   -- what stands behind the event and its blank
-  rest_text : List ℕ
+  unfoldable pub rest_text : List ℕ
   rest_text = answer_text r.answer ++ tail_text names r
 
   all_solid : AllSolid (answer_text r.answer ∷ tail_words names r)
@@ -71,13 +71,13 @@ module _ (names : NameLists) (r : Record) (valid : AreValid names) (fits : FitsN
       let tick = no_tick call in let ipi = no_ipi call in
       rw (word, tick, ipi, call_cut names call rest_text valid call_fits, call_read names call valid call_fits, ← is_event) rest_guessed
 
-  event_guessed : (e : Event) → EventInBits e → r.event ≡ e → guess_event names r.runner (processor_of e) (event_text names e ++ 32 ∷ rest_text) ≡ Some r
+  pub event_guessed : (e : Event) → EventInBits e → r.event ≡ e → guess_event names r.runner (processor_of e) (event_text names e ++ 32 ∷ rest_text) ≡ Some r
   unfolding guess_event is_of
   event_guessed (events.Call p call) event_fits is_event = call_guessed p call event_fits is_event
   event_guessed (events.Tick p) event_fits is_event = rw (← is_event) rest_guessed
   event_guessed (events.Ipi p) event_fits is_event = rw (← is_event) rest_guessed
 
-  laid : (n : ℕ) → core_text names n r ≡ decimal n ++ 32 ∷ (80 ∷ (decimal (processor_of r.event).number ++ 32 ∷ (runner_text names r.runner ++ 32 ∷ (event_text names r.event ++ 32 ∷ rest_text))))
+  pub laid : (n : ℕ) → core_text names n r ≡ decimal n ++ 32 ∷ (80 ∷ (decimal (processor_of r.event).number ++ 32 ∷ (runner_text names r.runner ++ 32 ∷ (event_text names r.event ++ 32 ∷ rest_text))))
   unfolding core_text head_text rest_text
   laid n = simp append_assoc
 

@@ -2,7 +2,7 @@
 use Rattle.std.specs.Prelude.{◌≡◌, ℕ, ◌+◌, ◌<◌, ◌≤◌, ◌⊎◌, true, false, not, ◌==◌, List, ◌∷◌, ◌++◌, length}
 use Rattle.std.specs.List.{list_all}
 use Rattle.fmp_bytes.specs.declared.classes.Class.TheVariants.{Printed}
-use Rattle.fmp_bytes.specs.Bytes.{is_of}
+use Rattle.fmp_bytes.specs.Bytes.{is_of, line_feed}
 use Rattle.fmp_codes.specs.declared.records.Record.{Record}
 use Rattle.fmp_text.specs.Limits.{most_bytes, most_events}
 use Rattle.fmp_text.specs.declared.fault.TextFault.{TextFault}
@@ -29,7 +29,7 @@ pub record PrintsWithin (names : NameLists) (text : List ℕ) (records : List Re
 
 -- the text has no line feed
 abbrev pub IsUnended : List ℕ → Type 0
-IsUnended text = list_all (λ b. not (b == 10)) text ≡ true
+IsUnended text = list_all (λ b. not (b == line_feed)) text ≡ true
 
 -- what is wrong with line n, which has a line feed
 abbrev pub LineFault : NameLists → ℕ → List ℕ → TextKind → Type 0
@@ -41,7 +41,7 @@ LineFault names n line _ = ⊥
 -- what is wrong with the first line of a text, which is line n
 abbrev pub FaultAt : NameLists → ℕ → List ℕ → TextKind → Type 0
 FaultAt names n text CutShort = (0 < length text) × IsUnended text
-FaultAt names n text kind = (line : List ℕ) × (rest : List ℕ) × (text ≡ line ++ (10 ∷ rest)) × IsUnended line × LineFault names n line kind
+FaultAt names n text kind = (line : List ℕ) × (rest : List ℕ) × (text ≡ line ++ (line_feed ∷ rest)) × IsUnended line × LineFault names n line kind
 
 -- a line of the text is at fault, and those before it print records
 pub record FaultBehind (names : NameLists) (text : List ℕ) (fault : TextFault) : Type 0 where

@@ -18,8 +18,12 @@ mod lines;
 mod reading;
 mod values;
 
+pub use guess::{guess_event, guess_runner};
 pub use heads::event_of;
 pub use laws::{lines_are_short, texts_print_one_list};
-pub use lines::{put_core, put_line, put_runner, put_running, put_task, trace_line, trace_text};
+pub use lines::{
+    put_answer, put_core, put_event, put_line, put_lost, put_releases, put_requests,
+    put_run_change, put_runner, put_running, put_task, trace_line, trace_text,
+};
 pub use reading::{next_line, read_trace, validate_from};
-pub use values::{put_named, put_number};
+pub use values::{put_named, put_number, put_signed};

@@ -1,7 +1,6 @@
 //! Printing records, a line for each. What adds to a vector fails only where that had less room than there has to be, and it never
 //! takes room away.
 ghost use Rattle.std.specs.Prelude.{◌≡◌, ◌+◌, ◌<◌, ◌≤◌, ◌^◌, [], ◌++◌, length, OnOk, OnErr, IfOk, vec_capacity};
-ghost use Rattle.fmp_codes.specs.Records as records;
 ghost use Rattle.fmp_trace.specs.Lines as spec;
 
 use crate::values::{put_call, put_named, put_number, put_signed};
@@ -10,7 +9,8 @@ use fmp_codes::{Answer, Code, Event, Proc, Record, Release, Releases, Runner, Ta
 use fmp_text::Names;
 use std::alloc::{AllocError, Global};
 
-fn put_event(out: &mut Vec<u8>, names: &Names, event: Event) -> Result<(), AllocError>
+/// Adds an event without its processor.
+pub fn put_event(out: &mut Vec<u8>, names: &Names, event: Event) -> Result<(), AllocError>
     ensures ok { OnOk result (out.new.items ≡ out.old.items ++ spec.event_text names.now event) }
     ensures full { OnErr result (vec_capacity out.old < length out.old.items + length (spec.event_text names.now event)) }
     ensures room { vec_capacity out.old ≤ vec_capacity out.new }
@@ -19,16 +19,6 @@ fn put_event(out: &mut Vec<u8>, names: &Names, event: Event) -> Result<(), Alloc
         Event::Call(_, call) => put_call(out, names, call),
         Event::Tick(_) => out.extend_from_slice(b"tick"),
         Event::Ipi(_) => out.extend_from_slice(b"ipi"),
-    }
-}
-
-fn processor_of(event: Event) -> Proc
-    ensures { result ≡ records.processor_of event }
-{
-    match event {
-        Event::Call(processor, _) => processor,
-        Event::Tick(processor) => processor,
-        Event::Ipi(processor) => processor,
     }
 }
 
@@ -90,7 +80,8 @@ fn put_returned(out: &mut Vec<u8>, answer: Answer) -> Result<(), AllocError>
     }
 }
 
-fn put_answer(out: &mut Vec<u8>, answer: Answer) -> Result<(), AllocError>
+/// Adds the answer to an event.
+pub fn put_answer(out: &mut Vec<u8>, answer: Answer) -> Result<(), AllocError>
     ensures ok { OnOk result (out.new.items ≡ out.old.items ++ spec.answer_text answer) }
     ensures full { OnErr result (vec_capacity out.old < length out.old.items + length (spec.answer_text answer)) }
     ensures room { vec_capacity out.old ≤ vec_capacity out.new }
@@ -113,7 +104,8 @@ fn put_release(out: &mut Vec<u8>, names: &Names, release: Release) -> Result<(),
     put_code(out, release.code, release.value)
 }
 
-fn put_releases(out: &mut Vec<u8>, names: &Names, releases: &Releases) -> Result<(), AllocError>
+/// Adds the ends of waits, each behind a blank.
+pub fn put_releases(out: &mut Vec<u8>, names: &Names, releases: &Releases) -> Result<(), AllocError>
     ensures ok { OnOk result (out.new.items ≡ out.old.items ++ spec.releases_text names.now releases.now) }
     ensures full { OnErr result (vec_capacity out.old < length out.old.items + length (spec.releases_text names.now releases.now)) }
     ensures room { vec_capacity out.old ≤ vec_capacity out.new }
@@ -124,7 +116,8 @@ fn put_releases(out: &mut Vec<u8>, names: &Names, releases: &Releases) -> Result
     Ok(())
 }
 
-fn put_lost(out: &mut Vec<u8>, lost: Option<i64>) -> Result<(), AllocError>
+/// Adds the value that was overwritten, if any, behind a blank.
+pub fn put_lost(out: &mut Vec<u8>, lost: Option<i64>) -> Result<(), AllocError>
     ensures ok { OnOk result (out.new.items ≡ out.old.items ++ spec.lost_text lost) }
     ensures full { OnErr result (vec_capacity out.old < length out.old.items + length (spec.lost_text lost)) }
     ensures room { vec_capacity out.old ≤ vec_capacity out.new }
@@ -152,7 +145,8 @@ pub fn put_running(
     }
 }
 
-fn put_run_change(
+/// Adds what runs now behind a blank, where that is another than before.
+pub fn put_run_change(
     out: &mut Vec<u8>,
     names: &Names,
     change: Option<Option<Task>>,
@@ -168,7 +162,8 @@ fn put_run_change(
     Ok(())
 }
 
-fn put_requests(out: &mut Vec<u8>, requests: &[Proc]) -> Result<(), AllocError>
+/// Adds the processors to which a request is sent, if any, behind a blank.
+pub fn put_requests(out: &mut Vec<u8>, requests: &[Proc]) -> Result<(), AllocError>
     ensures ok { OnOk result (out.new.items ≡ out.old.items ++ spec.requests_from 0 requests.now) }
     ensures full { OnErr result (vec_capacity out.old < length out.old.items + length (spec.requests_from 0 requests.now)) }
     ensures room { vec_capacity out.old ≤ vec_capacity out.new }
@@ -193,7 +188,7 @@ fn put_head(out: &mut Vec<u8>, names: &Names, n: u32, entry: &Record) -> Result<
 {
     put_number(out, u64::from(n))?;
     out.extend_from_slice(b" P")?;
-    put_number(out, u64::from(processor_of(entry.event).number))?;
+    put_number(out, u64::from(entry.event.processor().number))?;
     out.push(b' ')?;
     put_runner(out, names, entry.runner)?;
     out.push(b' ')?;

@@ -29,7 +29,7 @@ module _ (c : Setup) where
   count Alarm = length c.alarms
   count SpinLock = c.spin_locks
 
-  -- the priority of the task at this place at boot, or the greatest value of an object, or the period of a cyclic handler
+  -- of what stands at this place the priority at boot, the greatest count, how many values or blocks it has, or the period
   abbrev pub limit : ObjectKind → ℕ → Option ℕ
   limit Task i = option_map (λ s. s.priority.number) (slice_get c.tasks i)
   limit Semaphore i = option_map (λ s. s.most) (slice_get c.semaphores i)

@@ -19,6 +19,7 @@ pub const KINDS: &[ObjectKind] = &[
     ObjectKind::SpinLock,
 ];
 
+/// The word for a kind of objects.
 fn word(kind: ObjectKind) -> &'static [u8]
     ensures { result.now ≡ spec.word kind }
 {
@@ -50,7 +51,8 @@ fn count(config: &Config, kind: ObjectKind) -> usize
     }
 }
 
-/// The priority of a task at boot, the greatest value of an object, or the period of a cyclic handler.
+/// The priority of a task at boot, the greatest count of a semaphore, how many values a data queue or blocks a pool has, or the period of a
+/// cyclic handler.
 fn limit(config: &Config, kind: ObjectKind, index: usize) -> Option<u64>
     ensures { result ≡ spec.limit config.now kind index }
 {
@@ -64,6 +66,7 @@ fn limit(config: &Config, kind: ObjectKind, index: usize) -> Option<u64>
     }
 }
 
+/// Adds this limit of an object behind a blank, if there is one.
 fn put_limit(out: &mut Vec<u8>, limit: Option<u64>) -> Result<(), AllocError>
     ensures { OnOk result (out.new.items ≡ out.old.items ++ spec.limit_text limit) }
 {
@@ -125,6 +128,7 @@ fn master_number(timer: Timer) -> u64
     }
 }
 
+/// Adds the line of the number of processors.
 #[tactic(auto, unfolding(crate::specs::Setups::processors_line))]
 fn put_processors_line(out: &mut Vec<u8>, processors: u8) -> Result<(), AllocError>
     ensures { OnOk result (out.new.items ≡ out.old.items ++ spec.processors_line processors) }
@@ -135,6 +139,7 @@ fn put_processors_line(out: &mut Vec<u8>, processors: u8) -> Result<(), AllocErr
     Ok(())
 }
 
+/// Adds the line of the timer: the number of the processor whose ticks count for all, or 0.
 #[tactic(auto, unfolding(crate::specs::Setups::timer_line))]
 fn put_timer_line(out: &mut Vec<u8>, timer: Timer) -> Result<(), AllocError>
     ensures { OnOk result (out.new.items ≡ out.old.items ++ spec.timer_line timer) }
@@ -145,6 +150,7 @@ fn put_timer_line(out: &mut Vec<u8>, timer: Timer) -> Result<(), AllocError>
     Ok(())
 }
 
+/// Adds the line of the version of this form.
 #[tactic(auto, unfolding(crate::specs::Setups::version_line))]
 fn put_version_line(out: &mut Vec<u8>) -> Result<(), AllocError>
     ensures { OnOk result (out.new.items ≡ out.old.items ++ spec.version_line) }

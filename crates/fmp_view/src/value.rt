@@ -98,6 +98,7 @@ impl Value {
     }
 }
 
+/// Adds the text of a flag, if it is set.
 fn put_flag(out: &mut Vec<u8>, holds: bool, text: &[u8]) -> Result<(), AllocError>
     ensures { OnOk result (out.new.items ≡ out.old.items ++ spec.flag_text holds text.now) }
 {
@@ -107,6 +108,7 @@ fn put_flag(out: &mut Vec<u8>, holds: bool, text: &[u8]) -> Result<(), AllocErro
     Ok(())
 }
 
+/// Adds a letter for each flag of a processor that is set, or `-` where none is.
 #[tactic(auto, unfolding(crate::specs::Values::flags_text))]
 fn put_flags(out: &mut Vec<u8>, locked: bool, disabled: bool, latch: bool) -> Result<(), AllocError>
     ensures { OnOk result (out.new.items ≡ out.old.items ++ spec.flags_text locked disabled latch) }
@@ -119,6 +121,7 @@ fn put_flags(out: &mut Vec<u8>, locked: bool, disabled: bool, latch: bool) -> Re
     put_flag(out, latch, b"i")
 }
 
+/// Adds who runs: the letter of a task, an alarm or a cyclic handler, and its number.
 fn put_handler(out: &mut Vec<u8>, handler: Runner) -> Result<(), AllocError>
     ensures { OnOk result (out.new.items ≡ out.old.items ++ spec.handler_text handler) }
 {
@@ -129,6 +132,7 @@ fn put_handler(out: &mut Vec<u8>, handler: Runner) -> Result<(), AllocError>
     }
 }
 
+/// Adds a letter, and a number behind it.
 fn put_lettered(out: &mut Vec<u8>, letter: u8, number: u8) -> Result<(), AllocError>
     ensures { OnOk result (out.new.items ≡ out.old.items ++ (letter ∷ []) ++ decimal number) }
 {
@@ -136,6 +140,7 @@ fn put_lettered(out: &mut Vec<u8>, letter: u8, number: u8) -> Result<(), AllocEr
     put_number(out, u64::from(number))
 }
 
+/// Adds handlers, each behind a comma.
 fn put_handlers_behind(out: &mut Vec<u8>, handlers: &[Runner]) -> Result<(), AllocError>
     ensures { OnOk result (out.new.items ≡ out.old.items ++ spec.handlers_behind handlers.now) }
 {
@@ -159,6 +164,7 @@ pub(crate) fn put_due(out: &mut Vec<u8>, due: &[Runner]) -> Result<(), AllocErro
     }
 }
 
+/// The letter of a task's state.
 fn state_letter(state: TaskState) -> &'static [u8]
     ensures { result.now ≡ spec.state_letter state }
 {
@@ -172,6 +178,7 @@ fn state_letter(state: TaskState) -> &'static [u8]
     }
 }
 
+/// Adds the word of a wait, and the number of the object for which a task waits.
 #[tactic(auto, unfolding(crate::specs::Values::object_wait))]
 fn put_object_wait(out: &mut Vec<u8>, word: &[u8], object: Object) -> Result<(), AllocError>
     ensures { OnOk result (out.new.items ≡ out.old.items ++ spec.object_wait word.now object) }
@@ -180,6 +187,7 @@ fn put_object_wait(out: &mut Vec<u8>, word: &[u8], object: Object) -> Result<(),
     put_number(out, u64::from(object.number))
 }
 
+/// Adds what a task waits for, if it waits.
 fn put_wait(out: &mut Vec<u8>, wait: Option<Wait>) -> Result<(), AllocError>
     ensures { OnOk result (out.new.items ≡ out.old.items ++ spec.wait_text wait) }
 {
@@ -195,6 +203,7 @@ fn put_wait(out: &mut Vec<u8>, wait: Option<Wait>) -> Result<(), AllocError>
     }
 }
 
+/// Adds how many ticks there will have been when a wait is over, if it is timed.
 fn put_until(out: &mut Vec<u8>, until: Option<u64>) -> Result<(), AllocError>
     ensures { OnOk result (out.new.items ≡ out.old.items ++ spec.until_text until) }
 {
@@ -207,6 +216,7 @@ fn put_until(out: &mut Vec<u8>, until: Option<u64>) -> Result<(), AllocError>
     }
 }
 
+/// Adds the state of a task, what it waits for, and when that is over.
 #[tactic(auto, unfolding(crate::specs::Values::state_text))]
 fn put_state(
     out: &mut Vec<u8>,
@@ -221,6 +231,7 @@ fn put_state(
     put_until(out, until)
 }
 
+/// Adds a task's processor and priority, and how many activations and wakeups are queued.
 #[tactic(auto, unfolding(crate::specs::Values::rest_text))]
 fn put_rest(
     out: &mut Vec<u8>,

@@ -56,6 +56,7 @@ fn free_blocks(pool: &Pool) -> u64
         .count() as u64
 }
 
+/// The value of a processor's flags.
 #[inline(always)]
 fn flags_value(processor: Processor) -> Value
     ensures { result ≡ spec.flags_of processor }
@@ -63,6 +64,7 @@ fn flags_value(processor: Processor) -> Value
     Value::Flags(processor.locked, processor.disabled, processor.latch)
 }
 
+/// The number of the task that runs on a processor, or 0.
 #[inline(always)]
 fn running_number(machine: &PlainMachine, p: Proc) -> u64
     ensures { result ≡ (spec.task_number (processor machine.now p).running) }
@@ -70,6 +72,7 @@ fn running_number(machine: &PlainMachine, p: Proc) -> u64
     task_number(machine.processor(p).running)
 }
 
+/// The count of a semaphore.
 #[inline(always)]
 fn semaphore_number(machine: &PlainMachine, s: Object) -> u64
     ensures { result ≡ (semaphore machine.now s).count }
@@ -77,6 +80,7 @@ fn semaphore_number(machine: &PlainMachine, s: Object) -> u64
     u64::from(machine.semaphore(s).count)
 }
 
+/// The pattern of an eventflag.
 #[inline(always)]
 fn eventflag_number(machine: &PlainMachine, f: Object) -> u64
     ensures { result ≡ (eventflag machine.now f).pattern }
@@ -84,6 +88,7 @@ fn eventflag_number(machine: &PlainMachine, f: Object) -> u64
     u64::from(machine.eventflag(f).pattern)
 }
 
+/// How many values there are in a data queue.
 #[inline(always)]
 fn data_queue_number(machine: &PlainMachine, d: Object) -> u64
     ensures { result ≡ (length (values machine.now d)) }
@@ -91,6 +96,7 @@ fn data_queue_number(machine: &PlainMachine, d: Object) -> u64
     machine.value_count(d) as u64
 }
 
+/// How many blocks of a pool are free.
 #[inline(always)]
 fn pool_number(machine: &PlainMachine, m: Object) -> u64
     ensures { result ≡ (spec.free_blocks (pool machine.now m)) }
@@ -98,6 +104,7 @@ fn pool_number(machine: &PlainMachine, m: Object) -> u64
     free_blocks(&machine.pool(m))
 }
 
+/// The number of the processor on which a cyclic handler is started, or 0.
 #[inline(always)]
 fn cyclic_number(machine: &PlainMachine, c: Object) -> u64
     ensures { result ≡ (spec.started_on (item None machine.now.cyclics_left c.number) (cyclic machine.now c).assigned) }
@@ -105,6 +112,7 @@ fn cyclic_number(machine: &PlainMachine, c: Object) -> u64
     started_on(machine.cyclic_left(c), machine.cyclic(c).assigned)
 }
 
+/// The number of the processor on which an alarm is started, or 0.
 #[inline(always)]
 fn alarm_number(machine: &PlainMachine, a: Object) -> u64
     ensures { result ≡ (spec.started_on (item None machine.now.alarms_left a.number) (alarm machine.now a).assigned) }
@@ -112,6 +120,7 @@ fn alarm_number(machine: &PlainMachine, a: Object) -> u64
     started_on(machine.alarm_left(a), machine.alarm(a).assigned)
 }
 
+/// The number of the processor that holds a spin lock, or 0.
 #[inline(always)]
 fn spin_lock_number(machine: &PlainMachine, l: Object) -> u64
     ensures { result ≡ (spec.proc_number (holder machine.now l)) }

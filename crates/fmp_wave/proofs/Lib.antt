@@ -3,3 +3,6 @@ pub mod Changed  -- The lines of what changed: one processor or one task more, a
 pub mod Alike  -- What is shown of one more.
 pub mod Drawn  -- A drawing that saw all events is the waveform of their machine.
 pub mod JudgedTexts  -- What was drawn of a trace that was read and judged is what a run draws of its two texts.
+pub mod Stated  -- The states of tasks, found by how the tasks stand and where they are, are those that are shown.
+pub mod Unchanged  -- Of what is the same no lines are told.
+pub mod Equal  -- What is the same where its numbers are.

@@ -55,6 +55,10 @@ pub record Picture : Type 0 where
 abbrev pub start_of : Setup → Picture
 start_of c = let s = shown_of (booted c) in record { shown = s; wave = start_text c.names s }
 
+-- with the lines of what changed up to this state
+abbrev pub shown_behind : Picture → NameLists → State → Picture
+shown_behind d names w = record { shown = shown_of w; wave = d.wave ++ changes_text names d.shown (shown_of w) }
+
 -- behind event n, which led to this state
 abbrev pub behind : Picture → NameLists → ℕ → Event → State → Picture
 behind d names n e w = record { shown = shown_of w; wave = d.wave ++ change_text names n e d.shown (shown_of w) }

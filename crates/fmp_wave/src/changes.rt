@@ -3,6 +3,7 @@ ghost use Rattle.std.specs.Prelude.{◌≡◌, ◌++◌, length, not, IfOk, OnOk
 ghost use Rattle.std.specs.Str.{bytes_eq};
 ghost use Rattle.fmp_trace.specs.Lines.{runner_text, running_text};
 ghost use Rattle.fmp_wave.specs.Changes as spec;
+ghost use Rattle.fmp_wave.specs.Shown.{state_of};
 ghost use Rattle.fmp_wave.specs.Waves as waves;
 
 use crate::signal::Signal;
@@ -212,15 +213,40 @@ fn put_state_change(
     Ok(())
 }
 
-/// Adds the lines of the tasks whose states changed.
-fn put_tasks_changes(out: &mut Vec<u8>, old: &Snapshot, new: &Snapshot) -> Result<(), AllocError>
+/// Adds the line of a task, if its state changed. The states are found only where they may be others.
+#[inline(always)]
+fn put_task_change(
+    out: &mut Vec<u8>,
+    t: Task,
+    old: &Snapshot,
+    new: &Snapshot,
+) -> Result<(), AllocError>
+    ensures { OnOk result (out.new.items ≡ out.old.items ++ spec.state_change t (state_of old.now t) (state_of new.now t)) }
+{
+    if old.has_same_task(new, t) {
+        return Ok(());
+    }
+    put_state_change(out, t, old.task(t), new.task(t))
+}
+
+/// Adds the lines of the tasks whose states changed, one after the other.
+fn put_each_change(out: &mut Vec<u8>, old: &Snapshot, new: &Snapshot) -> Result<(), AllocError>
     ensures { OnOk result (out.new.items ≡ out.old.items ++ spec.tasks_changes old.now new.now (length new.now.tasks)) }
 {
     for index in 0..new.task_count() {
-        let t = Task::from_index(index);
-        put_state_change(out, t, old.task(t), new.task(t))?;
+        put_task_change(out, Task::from_index(index), old, new)?;
     }
     Ok(())
+}
+
+/// Adds the lines of the tasks whose states changed, if any did.
+fn put_tasks_changes(out: &mut Vec<u8>, old: &Snapshot, new: &Snapshot) -> Result<(), AllocError>
+    ensures { OnOk result (out.new.items ≡ out.old.items ++ spec.tasks_changes old.now new.now (length new.now.tasks)) }
+{
+    if old.has_same_tasks(new) {
+        return Ok(());
+    }
+    put_each_change(out, old, new)
 }
 
 /// Adds the lines of the signals that changed, in the order of their declarations.

@@ -72,6 +72,19 @@ impl Drawing {
         })
     }
 
+    /// Tells what changed of what is shown. Behind most events nothing did.
+    fn show(&mut self, names: &Names, machine: &PlainMachine) -> Result<(), AllocError>
+        ensures { OnOk result (self.new ≡ spec.shown_behind self.old names.now machine.now) }
+    {
+        if self.shown.shows(machine) {
+            return Ok(());
+        }
+        let shown = Snapshot::of(machine);
+        put_changes(&mut self.wave, &mut self.texts, names, &self.shown, &shown)?;
+        self.shown = shown;
+        Ok(())
+    }
+
     /// The waveform so far.
     pub(crate) fn into_wave(self) -> Vec<u8>
         ensures { result.items ≡ self.wave }
@@ -95,9 +108,6 @@ impl Watcher for Drawing {
     ) -> Result<(), AllocError> {
         put_time(&mut self.wave, n)?;
         put_mark(&mut self.wave, event)?;
-        let shown = Snapshot::of(machine);
-        put_changes(&mut self.wave, &mut self.texts, names, &self.shown, &shown)?;
-        self.shown = shown;
-        Ok(())
+        self.show(names, machine)
     }
 }

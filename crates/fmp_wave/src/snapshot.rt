@@ -1,11 +1,13 @@
 //! What a waveform shows of a state.
-ghost use Rattle.std.specs.Prelude.{◌≡◌, ◌≤◌, [], length};
+ghost use Rattle.std.specs.Prelude.{◌≡◌, ◌≤◌, [], IsTrue, length, map};
+ghost use Rattle.fmp_machine.specs.World.{item};
 ghost use Rattle.fmp_wave.specs.Shown as spec;
+ghost use Rattle.fmp_wave.specs.Signs as signs;
 ghost use Rattle.fmp_wave.specs.Values as values;
 
 use arrayvec::ArrayVec;
+use fmp_check::is_same;
 use fmp_codes::{Proc, Runner, Task};
-use fmp_machine::TaskRecord;
 use fmp_plain_machine::PlainMachine;
 use fmp_primitives::Words;
 use std::marker::Model;
@@ -63,19 +65,24 @@ impl Default for ShownProcessor {
     }
 }
 
-/// What is shown of a state. It is compared with what was shown before, and only what changed is written.
+/// What is shown of a state. It is compared with what was shown before, and only what changed is written. The states of the tasks
+/// are found where they are asked for: behind most events no task stands in another way.
 #[derive(Debug, Drop)]
 pub(crate) struct Snapshot {
     processors: ArrayVec<ShownProcessor, 8>,
-    tasks: ArrayVec<TaskState, 64>,
+    /// How each task stands, as the machine tells it.
+    kinds: ArrayVec<u8, 64>,
+    /// The number of the processor of each.
+    places: ArrayVec<u8, 64>,
 }
 
 impl Model for Snapshot {
     ghost use Rattle.fmp_wave.specs.Shown.{Shown};
+    ghost use Rattle.fmp_wave.specs.Signs.{states_at};
 
     ghost Value = { Shown };
 
-    ghost view = { λ a. record { processors = a.processors.items; tasks = a.tasks.items } };
+    ghost view = { λ a. record { processors = a.processors.items; tasks = states_at a.processors.items a.kinds.items a.places.items } };
 }
 
 /// The number of the task that runs, or 0.
@@ -101,33 +108,55 @@ fn ready_state(t: Task, running: Option<Task>) -> TaskState
     }
 }
 
-/// The state of a task, where this task runs on its processor. All that it may be is found first, since a choice between values
-/// costs less than a jump for each of 64 tasks.
+/// The state of a task that stands so, where this task runs on its processor.
 #[inline(always)]
-fn task_state(t: Task, task: &TaskRecord, running: Option<Task>) -> TaskState
-    ensures { result ≡ spec.task_state t task.now running }
+fn told_state(kind: u8, t: Task, running: Option<Task>) -> TaskState
+    ensures { result ≡ signs.told_state kind t running }
 {
-    let ready = ready_state(t, running);
-    let (waiting, idle) = if task.suspended {
-        (TaskState::WaitingSuspended, TaskState::Suspended)
-    } else {
-        (TaskState::Waiting, ready)
-    };
-    let active = if task.wait.is_some() { waiting } else { idle };
-    if task.active {
-        active
-    } else {
-        TaskState::Dormant
+    match kind {
+        0 => TaskState::Dormant,
+        1 => ready_state(t, running),
+        2 => TaskState::Waiting,
+        3 => TaskState::Suspended,
+        _ => TaskState::WaitingSuspended,
     }
 }
 
-/// What is shown of a task.
+/// What runs on the processor of this number.
 #[inline(always)]
-fn shown_task(machine: &PlainMachine, t: Task) -> TaskState
-    ensures { result ≡ spec.shown_task machine.now t }
+fn runs_at(processors: &[ShownProcessor], place: u8) -> Option<Task>
+    ensures { result ≡ signs.runs_at processors.now place }
 {
-    let task = machine.task(t);
-    task_state(t, &task, machine.processor(task.assigned).running)
+    match processors.get(usize::from(place.saturating_sub(1))) {
+        Some(shown) => shown.running,
+        None => None,
+    }
+}
+
+/// The byte of a task in a list of one for each, or else this one.
+#[inline(always)]
+fn byte_of(bytes: &[u8], t: Task, or: u8) -> u8
+    ensures { result ≡ item or bytes.now t.number }
+{
+    bytes.get(t.index()).copied().unwrap_or(or)
+}
+
+/// What runs on the processor of a task.
+#[inline(always)]
+fn runs_with(processors: &[ShownProcessor], places: &[u8], t: Task) -> Option<Task>
+    ensures { result ≡ signs.runs_at processors.now (item 1 places.now t.number) }
+{
+    runs_at(processors, byte_of(places, t, 1))
+}
+
+/// A list of these bytes.
+fn copied(bytes: &[u8]) -> ArrayVec<u8, 64>
+    requires { length bytes.now ≤ 64 }
+    ensures { result.items ≡ bytes.now }
+{
+    let mut list = ArrayVec::new();
+    let _ = list.try_extend_from_slice(bytes);
+    list
 }
 
 /// What is shown of a processor.
@@ -156,15 +185,82 @@ fn shown_processors(machine: &PlainMachine) -> ArrayVec<ShownProcessor, 8>
     shown
 }
 
-/// What is shown of all tasks.
-fn shown_tasks(machine: &PlainMachine) -> ArrayVec<TaskState, 64>
-    ensures { result.items ≡ (spec.shown_of machine.now).tasks }
+/// Whether the same task runs, or none.
+#[inline(always)]
+#[tactic(auto, using(crate::proofs::Equal::same_running))]
+fn is_same_running(a: Option<Task>, b: Option<Task>) -> bool
+    ensures { IsTrue result → a ≡ b }
 {
-    let mut shown = ArrayVec::new();
-    for index in 0..machine.task_count() {
-        shown.push(shown_task(machine, Task::from_index(index)));
+    number_of(a) == number_of(b)
+}
+
+/// Whether each processor runs what it runs among the others.
+fn run_the_same(processors: &[ShownProcessor], others: &[ShownProcessor]) -> bool
+    ensures { IsTrue result → map (λ p. p.running) processors.now ≡ map (λ p. p.running) others.now }
+{
+    let mut a = processors;
+    let mut b = others;
+    while let ([shown, after @ ..], [other, rest @ ..]) = (a, b) {
+        if !is_same_running(shown.running, other.running) {
+            return false;
+        }
+        a = after;
+        b = rest;
     }
-    shown
+    a.is_empty() && b.is_empty()
+}
+
+/// Whether two are the same task or handler.
+#[inline(always)]
+#[tactic(auto, using(crate::proofs::Equal::same_task, crate::proofs::Equal::same_alarm, crate::proofs::Equal::same_cyclic))]
+fn is_same_runner(a: Runner, b: Runner) -> bool
+    ensures { IsTrue result → a ≡ b }
+{
+    match (a, b) {
+        (Runner::Task(t), Runner::Task(u)) => t.number == u.number,
+        (Runner::Alarm(x), Runner::Alarm(y)) => x.number == y.number,
+        (Runner::Cyclic(x), Runner::Cyclic(y)) => x.number == y.number,
+        _ => false,
+    }
+}
+
+/// Whether the same handler is due, or none.
+#[inline(always)]
+fn is_same_due(a: Option<Runner>, b: Option<Runner>) -> bool
+    ensures { IsTrue result → a ≡ b }
+{
+    match (a, b) {
+        (None, None) => true,
+        (Some(x), Some(y)) => is_same_runner(x, y),
+        (None, Some(_)) | (Some(_), None) => false,
+    }
+}
+
+/// Whether the same is shown of two processors.
+#[inline(always)]
+#[tactic(auto, using(crate::proofs::Equal::same_shown_processor))]
+fn is_same_shown(a: ShownProcessor, b: ShownProcessor) -> bool
+    ensures { IsTrue result → a ≡ b }
+{
+    a.locked == b.locked
+        && a.disabled == b.disabled
+        && a.latch == b.latch
+        && is_same_running(a.running, b.running)
+        && is_same_due(a.due, b.due)
+}
+
+/// Whether this is what is shown of a machine's processors.
+#[inline(always)]
+fn show(processors: &[ShownProcessor], machine: &PlainMachine) -> bool
+    requires { length processors.now ≤ 8 }
+    ensures { IsTrue result → processors.now ≡ (spec.shown_of machine.now).processors }
+{
+    for (index, shown) in processors.iter().enumerate() {
+        if !is_same_shown(*shown, shown_processor(machine, Proc::from_index(index))) {
+            return false;
+        }
+    }
+    processors.len() == machine.processor_count()
 }
 
 impl Snapshot {
@@ -174,7 +270,8 @@ impl Snapshot {
     {
         Snapshot {
             processors: shown_processors(machine),
-            tasks: shown_tasks(machine),
+            kinds: copied(machine.kinds()),
+            places: copied(machine.places()),
         }
     }
 
@@ -191,7 +288,7 @@ impl Snapshot {
         ensures value { result ≡ length self.now.tasks }
         ensures few { result ≤ 64 }
     {
-        self.tasks.len()
+        self.kinds.len()
     }
 
     /// What is shown of a processor: nothing where there is none.
@@ -211,10 +308,42 @@ impl Snapshot {
     pub(crate) fn task(&self, t: Task) -> TaskState
         ensures { result ≡ spec.state_of self.now t }
     {
-        self.tasks
-            .as_slice()
-            .get(t.index())
-            .copied()
-            .unwrap_or(TaskState::default())
+        let running = runs_with(self.processors.as_slice(), self.places.as_slice(), t);
+        told_state(byte_of(self.kinds.as_slice(), t, 0), t, running)
+    }
+
+    /// Whether a task is shown as in another snapshot: it stands the same and, where it could run, its processor runs the same.
+    #[inline(always)]
+    pub(crate) fn has_same_task(&self, other: &Snapshot, t: Task) -> bool
+        ensures { IsTrue result → spec.state_of self.now t ≡ spec.state_of other.now t }
+    {
+        let kind = byte_of(self.kinds.as_slice(), t, 0);
+        if kind != byte_of(other.kinds.as_slice(), t, 0) {
+            return false;
+        }
+        kind != 1
+            || is_same_running(
+                runs_with(self.processors.as_slice(), self.places.as_slice(), t),
+                runs_with(other.processors.as_slice(), other.places.as_slice(), t),
+            )
+    }
+
+    /// Whether all tasks stand as in another snapshot, at processors that run the same.
+    pub(crate) fn has_same_tasks(&self, other: &Snapshot) -> bool
+        ensures { IsTrue result → self.now.tasks ≡ other.now.tasks }
+    {
+        is_same(self.kinds.as_slice(), other.kinds.as_slice())
+            && is_same(self.places.as_slice(), other.places.as_slice())
+            && run_the_same(self.processors.as_slice(), other.processors.as_slice())
+    }
+
+    /// Whether a machine's state is shown so.
+    #[inline(always)]
+    pub(crate) fn shows(&self, machine: &PlainMachine) -> bool
+        ensures { IsTrue result → self.now ≡ spec.shown_of machine.now }
+    {
+        is_same(self.kinds.as_slice(), machine.kinds())
+            && is_same(self.places.as_slice(), machine.places())
+            && show(self.processors.as_slice(), machine)
     }
 }

@@ -20,7 +20,7 @@ use Rattle.fmp_histories.specs.Histories.{state_after}
 use Rattle.fmp_histories.specs.Positions.{task_position, handler_position}
 use Rattle.fmp_histories.specs.Places.{moved_tasks, moved_handlers}
 use Rattle.fmp_histories.specs.Scripted.{choice, next_call, asked_at, position_of, Scripted, IsScripted}
-use Rattle.fmp_world.specs.Kept.{Keeps}
+use Rattle.fmp_world.specs.Kept.{KeepsHistory}
 use Rattle.fmp_histories.proofs.Histories.{step_event, after_more, run_more}
 use Rattle.fmp_histories.proofs.Advancing.{tasks_moved, handlers_moved}
 
@@ -30,7 +30,7 @@ zeros (suc n) zero = refl
 zeros (suc n) (suc i) = zeros n i
 
 -- the empty history
-pub opening_keeps : (c : Setup) (scripts : List Steps) (k : World Queues) → IsValid c → Stands k (booted c) → Keeps c scripts k (replicate 64 0) (replicate 8 0) []
+pub opening_keeps : (c : Setup) (scripts : List Steps) (k : World Queues) → IsValid c → Stands k (booted c) → KeepsHistory c scripts k (replicate 64 0) (replicate 8 0) []
 unfolding state_after task_position handler_position
 opening_keeps c scripts k valid stands = record {
   valid = valid;
@@ -61,10 +61,10 @@ scripted_more c scripts h r all last = λ n x at.
     ]
 
 -- a world's parts, with one event more
-pub keeps_more : (c : Setup) (scripts : List Steps) (k k' : World Queues) (ts hs : List ℕ) (h : List Record) (e : Event) (r : Record) → Keeps c scripts k ts hs h
+pub keeps_more : (c : Setup) (scripts : List Steps) (k k' : World Queues) (ts hs : List ℕ) (h : List Record) (e : Event) (r : Record) → KeepsHistory c scripts k ts hs h
     → ((m : State) → Stands k m → Stands k' (step numbered m e).0) → ((m : State) → Stands k m → r ≡ (step numbered m e).1)
     → (processor_of e).number ≤ c.processors → length ts ≡ 64 → length hs ≡ 8 → IsScripted c scripts h e
-    → Keeps c scripts k' (moved_tasks ts r.runner r.event r.answer) (moved_handlers hs r.runner r.event r.answer) (h ++ r ∷ [])
+    → KeepsHistory c scripts k' (moved_tasks ts r.runner r.event r.answer) (moved_handlers hs r.runner r.event r.answer) (h ++ r ∷ [])
 keeps_more c scripts k k' ts hs h e r keeps stands told here ts_long hs_long scripted =
     let is : r ≡ (step numbered (state_after c h) e).1 = told (state_after c h) keeps.stands in
     let event : r.event ≡ e = ap (λ (x : Record). x.event) is ∙ step_event (state_after c h) e in

@@ -16,7 +16,7 @@ use Rattle.fmp_histories.specs.Scripted.{Scripted}
 use Rattle.fmp_world.specs.Views.{History}
 
 -- the history is a run of the machine, the kernel stands for its end, and its scripts made it
-pub record Keeps (c : Setup) (scripts : List Steps) (k : World Queues) (tasks handlers : List ℕ) (h : List Record) : Type 0 where
+pub record KeepsHistory (c : Setup) (scripts : List Steps) (k : World Queues) (tasks handlers : List ℕ) (h : List Record) : Type 0 where
   pub valid : IsValid c
   pub run : IsRunOf c h
   pub stands : Stands k (state_after c h)

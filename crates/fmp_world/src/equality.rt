@@ -5,12 +5,14 @@ use crate::seats::Receipt;
 use fmp_codes::{Answer, Code, Event, Proc};
 use fmp_scripts::is_same_call;
 
+/// Whether two processors are the same.
 fn is_same_processor(one: &Proc, other: &Proc) -> bool
     ensures { IsTrue result ↔ (one.now ≡ other.now) }
 {
     one == other
 }
 
+/// Whether two events are equal.
 fn is_same_event(one: &Event, other: &Event) -> bool
     ensures { IsTrue result ↔ (one.now ≡ other.now) }
 {
@@ -22,18 +24,21 @@ fn is_same_event(one: &Event, other: &Event) -> bool
     }
 }
 
+/// Whether two codes of calls are the same.
 fn is_same_code(one: &Code, other: &Code) -> bool
     ensures { IsTrue result ↔ (one.now ≡ other.now) }
 {
     one == other
 }
 
+/// Whether two values of calls are the same, or neither call has one.
 fn is_same_value(one: &Option<i64>, other: &Option<i64>) -> bool
     ensures { IsTrue result ↔ (one.now ≡ other.now) }
 {
     one == other
 }
 
+/// Whether two answers are equal.
 fn is_same_answer(one: &Answer, other: &Answer) -> bool
     ensures { IsTrue result ↔ (one.now ≡ other.now) }
 {

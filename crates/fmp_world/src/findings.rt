@@ -12,7 +12,7 @@ use crate::equality::is_same;
 use crate::replay::Replay;
 use crate::seats::{Cpu, Receipt, Seats};
 use fmp_codes::{Answer, Event, Proc, Record};
-use fmp_histories::{is_taken, processor_of};
+use fmp_histories::is_taken;
 
 /// What was found in the records so far.
 #[derive(Drop)]
@@ -25,7 +25,7 @@ pub struct Findings {
     fits: bool,
 }
 
-// The place of the seat that is told an event.
+/// The place of the seat that is told an event.
 fn seat_of(event: &Event) -> usize
     ensures is { result ≡ spec.seat_of event.now }
     ensures small { result ≤ 8 }
@@ -37,7 +37,7 @@ fn seat_of(event: &Event) -> usize
     }
 }
 
-// The receipts of the seat of a place; the clock's is behind those of the processors.
+/// The receipts of the seat of a place; the clock's is behind those of the processors.
 fn receipts_at(seats: &Seats, place: usize) -> &[Receipt]
     ensures { result.now ≡ spec.receipts_at seats.entry.now.cpus.items seats.entry.now.clock place }
 {
@@ -47,6 +47,7 @@ fn receipts_at(seats: &Seats, place: usize) -> &[Receipt]
     }
 }
 
+/// The receipt of a record of this number.
 fn receipt_of(number: u32, made: &Record) -> Receipt
     ensures { result ≡ spec.receipt number made.now }
 {
@@ -57,7 +58,7 @@ fn receipt_of(number: u32, made: &Record) -> Receipt
     }
 }
 
-// Whether this receipt stands at this place.
+/// Whether this receipt stands at this place.
 fn stands(receipts: &[Receipt], at: u32, receipt: &Receipt) -> bool
     ensures { IsTrue result ↔ (slice_get receipts.now at ≡ Some receipt.now) }
 {
@@ -67,6 +68,7 @@ fn stands(receipts: &[Receipt], at: u32, receipt: &Receipt) -> bool
     }
 }
 
+/// Whether a record is that of a tick which its processor took.
 fn is_taken_tick(made: &Record) -> bool
     ensures { result ≡ spec.is_taken_tick made.now }
 {
@@ -77,18 +79,19 @@ fn is_taken_tick(made: &Record) -> bool
     }
 }
 
-// Counts a tick that its processor took.
+/// Counts a record, if it is that of a tick which its processor took.
 fn count(taken: &mut [u32; 8], made: &Record)
     requires { (i : ℕ) → i < 8 → slice_index taken.old i + 1 < 2 ^ 32 }
     ensures { taken.new ≡ spec.counted taken.old made.now }
 {
     if is_taken_tick(made) {
-        let at = processor_of(made.event).index();
+        let at = made.event.processor().index();
         taken[at] += 1;
     }
 }
 
 impl Findings {
+    /// What is found before the first record.
     fn none() -> Findings
         ensures { (cpus : List Seat) (clock : ClockSeat) → spec.Finds result cpus clock [] }
     {
@@ -99,7 +102,7 @@ impl Findings {
         }
     }
 
-    // One record more.
+    /// Adds what is found in one record more.
     fn take(&mut self, seats: &Seats, number: u32, made: &Record)
         requires passed { (i : ℕ) → i < 9 → slice_index self.old.passed i + 1 < 2 ^ 32 }
         requires taken { (i : ℕ) → i < 8 → slice_index self.old.taken i + 1 < 2 ^ 32 }
@@ -143,7 +146,7 @@ impl Findings {
         seats.clock.receipts().len() == self.passed[8] as usize
     }
 
-    // Whether each seat is that of the processor of its place, with as many receipts as it was told.
+    /// Whether each seat is that of the processor of its place, with as many receipts as it was told.
     fn all_passed(&self, cpus: &[Cpu]) -> bool
         requires { length cpus.now ≤ 8 }
         ensures { IsTrue result ↔ spec.AllPassed cpus.now self.now.passed }

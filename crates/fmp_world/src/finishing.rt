@@ -65,7 +65,7 @@ impl<'a> World<'a> {
 }
 
 impl<'a> History<'a> {
-    // How a run ended, if it is whole. Its records are made again on a second history.
+    /// How a run ended, if it is whole. Its records are made again on a second history.
     fn judge(
         &self,
         spare: History<'a>,
@@ -92,7 +92,7 @@ impl<'a> History<'a> {
         self.ended(&found.taken, ticks)
     }
 
-    // How the history ended, if no processor took too many ticks and it is whole.
+    /// How the history ended, if no processor took too many ticks and it is whole.
     fn ended(&self, taken: &[u32; 8], ticks: u32) -> Option<Ended>
         requires { AreTaken taken.now self.now.records }
         ensures whole { IsSome result ↔ (TicksWithin (self.now.config.processors) ticks self.now.records × (EndsQuiet self.now.config ticks self.now.records ⊎ (self.now.turns ≤ length self.now.records))) }
@@ -110,6 +110,7 @@ impl<'a> History<'a> {
         self.limit()
     }
 
+    /// That the history is full, if it is.
     fn limit(&self) -> Option<Ended>
         ensures { result ≡ (if is_full self.now then Some Ended.Limit else None) }
     {
@@ -121,7 +122,7 @@ impl<'a> History<'a> {
     }
 }
 
-// Whether the ticks of a processor count.
+/// Whether the ticks of a processor count.
 fn has_time(timer: Timer, p: Proc) -> bool
     ensures { result ≡ has_time timer p }
 {
@@ -131,14 +132,14 @@ fn has_time(timer: Timer, p: Proc) -> bool
     }
 }
 
-// Whether a processor that took so many ticks is to take more.
+/// Whether a processor that took so many ticks is to take more.
 fn owes(timer: Timer, p: Proc, taken: u32, ticks: u32) -> bool
     ensures { result ≡ has_time timer p && nat_lt taken ticks }
 {
     has_time(timer, p) && taken < ticks
 }
 
-// Whether each processor whose ticks count took all of them, or none where one took more.
+/// Whether each processor whose ticks count took all of them. None where a processor took more.
 fn all_taken(counts: &[u32; 8], timer: Timer, processors: u8, ticks: u32) -> Option<bool>
     requires { processors ≤ 8 }
     ensures within { (h : List Record) → AreTaken counts.now h → (IsSome result ↔ TicksWithin processors ticks h) }
@@ -157,7 +158,7 @@ fn all_taken(counts: &[u32; 8], timer: Timer, processors: u8, ticks: u32) -> Opt
     Some(all)
 }
 
-// The receipts of the processors, and then the clock's.
+/// The receipts of the processors, and then the clock's.
 fn receipts_of(seats: Seats) -> ArrayVec<Vec<Receipt>, 9, Global>
     requires { length seats.cpus.items ≤ 8 }
     ensures { map (λ v. v.items) result.items ≡ map (λ (s : Seat). s.receipts) seats.cpus.items ++ seats.clock.receipts ∷ [] }

@@ -42,14 +42,14 @@ impl<'a> Model for History<'a> {
     ghost use Rattle.std.specs.Prelude.{◌≡◌, ◌≤◌, [], length};
     ghost use Rattle.fmp_world.specs.Views as views;
     ghost use Rattle.fmp_world.specs.Moves.{played, AreMade};
-    ghost use Rattle.fmp_world.specs.Kept.{Keeps, IsSized};
+    ghost use Rattle.fmp_world.specs.Kept.{KeepsHistory, IsSized};
 
     ghost Value = { views.History };
 
     ghost view = { λ w. record { config = w.config.now; scripts = w.scripts.now; turns = w.turns; records = played w.config.now w.scripts.now w.moves.items } };
 
     ghost invariant = { λ w.
-        Keeps w.config.now w.scripts.now w.kernel w.tasks w.handlers (played w.config.now w.scripts.now w.moves.items)
+        KeepsHistory w.config.now w.scripts.now w.kernel w.tasks w.handlers (played w.config.now w.scripts.now w.moves.items)
         × AreMade w.config.now w.scripts.now [] w.moves.items
         × IsSized w.turns w.tasks w.handlers w.moves };
 }
@@ -91,6 +91,7 @@ impl<'a> History<'a> {
         Replay::new(&self.moves, again)
     }
 
+    /// How many processors there are.
     pub(crate) fn processors(&self) -> u8
         ensures is { result ≡ self.now.config.processors }
         ensures least { 1 ≤ result }
@@ -99,6 +100,7 @@ impl<'a> History<'a> {
         self.config.processors()
     }
 
+    /// The timer of the machine.
     pub(crate) fn timer(&self) -> Timer
         ensures { result ≡ self.now.config.timer }
     {
@@ -114,6 +116,7 @@ impl<'a> History<'a> {
         self.moves.len() as u32
     }
 
+    /// Whether there is no room for another record.
     pub(crate) fn is_full(&self) -> bool
         ensures { result ≡ is_full self.now }
     {
@@ -132,21 +135,21 @@ impl<'a> History<'a> {
         true
     }
 
-    // Whether on a processor no handler is due, no task runs and no request is pending.
+    /// Whether on a processor no handler is due, no task runs and no request is pending.
     fn is_idle(&self, p: Proc) -> bool
         ensures { result ≡ is_idle (state_after self.now.config self.now.records) p }
     {
         self.kernel.runner(p).is_none() && !self.kernel.pending(p)
     }
 
-    // Whether it is of this configuration, these scripts and this many turns.
+    /// Whether it is of this configuration, these scripts and this many turns.
     pub(crate) fn is_of(&self, config: &Config, scripts: &Scripts, turns: u32) -> bool
         ensures { IsTrue result ↔ ((self.now.config ≡ config.now) × (self.now.scripts ≡ scripts.now) × (self.now.turns ≡ turns)) }
     {
         self.config.is_same(config) && self.scripts.is_same(scripts) && self.turns == turns
     }
 
-    // What a processor does next.
+    /// What a processor does next. None where it has nothing to do.
     pub(crate) fn choose(&self, p: Proc) -> Option<Event>
         ensures { result ≡ scripted.choice self.now.config self.now.scripts self.now.records p }
     {
@@ -158,6 +161,7 @@ impl<'a> History<'a> {
         Some(Event::Call(p, asked_at(self.config, self.scripts, runner, position)))
     }
 
+    /// The position of a runner on a processor in its script.
     fn position(&self, runner: Runner, p: Proc) -> u32
         ensures { result ≡ scripted.position_of runner p self.now.records }
     {
@@ -168,7 +172,7 @@ impl<'a> History<'a> {
         }
     }
 
-    // The event of a move.
+    /// The event of a move. None for a turn of a processor that has nothing to do.
     fn event_of(&self, by: Move) -> Option<Event>
         ensures { result ≡ moves.moved self.now.config self.now.scripts self.now.records by }
     {

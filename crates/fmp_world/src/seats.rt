@@ -75,6 +75,7 @@ pub struct Seats {
 }
 
 impl Cpu {
+    /// The seat of a processor, without receipts, and with room for so many. The error is want of memory.
     pub(crate) fn new(alloc: Global, processor: Proc, room: u32) -> Result<Cpu, AllocError>
         ensures { IfOk result (λ s. s ≡ record { processor = processor; room = room; receipts = [] }) }
     {
@@ -99,18 +100,21 @@ impl Cpu {
         &self.receipts
     }
 
+    /// What its turns told, in their order.
     pub(crate) fn into_receipts(self) -> Vec<Receipt>
         ensures { result.items ≡ self.receipts }
     {
         self.receipts
     }
 
+    /// Whether there is room for another receipt.
     pub(crate) fn has_room(&self) -> bool
         ensures { result ≡ nat_lt (length self.now.receipts) self.now.room }
     {
         self.receipts.len() < self.room as usize
     }
 
+    /// Keeps one more receipt, behind the others.
     pub(crate) fn keep(&mut self, receipt: Receipt)
         requires { length self.old.receipts < self.old.room }
         ensures { self.new ≡ record self.old { receipts = self.old.receipts ++ receipt ∷ [] } }
@@ -130,6 +134,7 @@ impl MadeWith<Global> for Cpu {
 }
 
 impl Clock {
+    /// The seat of the clock, without receipts, and with room for so many. The error is want of memory.
     pub(crate) fn new(alloc: Global, room: u32) -> Result<Clock, AllocError>
         ensures { IfOk result (λ s. s ≡ record { room = room; receipts = [] }) }
     {
@@ -146,18 +151,21 @@ impl Clock {
         &self.receipts
     }
 
+    /// What its ticks told, in their order.
     pub(crate) fn into_receipts(self) -> Vec<Receipt>
         ensures { result.items ≡ self.receipts }
     {
         self.receipts
     }
 
+    /// Whether there is room for another receipt.
     pub(crate) fn has_room(&self) -> bool
         ensures { result ≡ nat_lt (length self.now.receipts) self.now.room }
     {
         self.receipts.len() < self.room as usize
     }
 
+    /// Keeps one more receipt, behind the others.
     pub(crate) fn keep(&mut self, receipt: Receipt)
         requires { length self.old.receipts < self.old.room }
         ensures { self.new ≡ record self.old { receipts = self.old.receipts ++ receipt ∷ [] } }

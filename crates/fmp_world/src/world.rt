@@ -139,7 +139,7 @@ impl<'a> World<'a> {
     }
 }
 
-// The seats of so many processors, in order.
+/// The seats of so many processors, in order.
 fn boot_cpus(
     alloc: Global,
     processors: u8,

@@ -18,6 +18,7 @@ enum Side {
 }
 
 impl Side {
+    /// The processor of this side.
     fn processor(self) -> Proc {
         match self {
             Side::One => Proc::new(1),
@@ -260,6 +261,7 @@ end
     receipts: &[&[1, 2, 3, 4, 5, 6, 7], &[]],
 };
 
+/// A turn of a seat, if the world has its processor.
 fn turned(world: &mut World<'_>, cpu: &mut Cpu) -> Option<Turn> {
     if cpu.processor().number > world.processors() {
         return None;
@@ -267,10 +269,12 @@ fn turned(world: &mut World<'_>, cpu: &mut Cpu) -> Option<Turn> {
     Some(world.turn(cpu))
 }
 
+/// A turn of a processor, if the world has it.
 fn take_turn(world: &mut World<'_>, seats: &mut Seats, side: Side) -> Option<Turn> {
     turned(world, seats.cpus.get_mut(side.processor().index())?)
 }
 
+/// A tick of a processor, if the world has it.
 fn take_tick(world: &mut World<'_>, seats: &mut Seats, side: Side) -> Option<Turn> {
     let p = side.processor();
     if p.number > world.processors() {
@@ -279,6 +283,7 @@ fn take_tick(world: &mut World<'_>, seats: &mut Seats, side: Side) -> Option<Tur
     Some(world.tick(&mut seats.clock, p))
 }
 
+/// Whether a turn or a tick made a record.
 fn is_made(turn: Option<Turn>) -> bool {
     turn.is_some() && turn != Some(Turn::Nothing) && turn != Some(Turn::Full)
 }

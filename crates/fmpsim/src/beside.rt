@@ -2,7 +2,7 @@
 use crate::STANDARD_INPUT;
 use fmp_config::{Config, ConfigFault, MOST_BYTES as MOST_CONFIG_BYTES, read_config};
 use fmp_context::{TextForm, config_context, question_context, text_advice, text_context};
-use fmp_explore_command::ExploreRequest;
+use fmp_partial_check::check_partial;
 use fmp_question::QuestionFault;
 use fmp_scripts::read_scripts;
 use fmp_text::{MOST_BYTES, TextFault, TextKind, read_events};
@@ -44,12 +44,13 @@ fn text_fault(alloc: Global, form: TextForm, text: &[u8], config: &Config) -> Op
         TextForm::Events => read_events(alloc, text, names).err(),
         TextForm::Scripts => read_scripts(alloc, text, names).err(),
         TextForm::Trace => read_trace(alloc, text, names).err(),
+        TextForm::Partial => check_partial(alloc, config, text).err(),
     }
 }
 
 /// Whether the other text came from standard input, which a trace never does.
 fn is_input(paths: &Paths<'_>, form: TextForm) -> bool {
-    paths.text == STANDARD_INPUT && form != TextForm::Trace
+    paths.text == STANDARD_INPUT && matches!(form, TextForm::Events | TextForm::Scripts)
 }
 
 /// What stands beside a fault of the other text, where it has the fault still.
@@ -122,14 +123,15 @@ pub fn tell<R: Files + Eprint + AllocGlobal>(rt: &R, paths: &Paths<'_>, fault: &
 /// Tells on standard error what stands beside a fault of a question, where that is asked for.
 pub fn tell_question<R: Eprint + AllocGlobal>(
     rt: &R,
-    request: &ExploreRequest<'_>,
+    paths: &Paths<'_>,
+    question: &str,
     fault: QuestionFault,
     place: usize,
 ) {
-    if !request.context {
+    if paths.context.is_none() {
         return;
     }
-    if let Ok(text) = question_context(rt.alloc(), request.question.as_bytes(), fault, place)
+    if let Ok(text) = question_context(rt.alloc(), question.as_bytes(), fault, place)
         && let Ok(shown) = str::from_utf8(text.as_slice())
     {
         let _ = eprint!(rt; "{shown}");

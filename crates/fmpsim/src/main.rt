@@ -12,9 +12,10 @@ use fmp_check::Verdict;
 use fmp_colour::ColourSink;
 use fmp_context::TextForm;
 use fmp_explore_command::ExploreRequest;
+use fmp_shrink_command::ShrinkRequest;
 use fmp_smp_command::SmpRequest;
 use fmpsim_cli::{Asked, Paths, Request, Told};
-use fmpsim_commands::{answer, judge, play, search};
+use fmpsim_commands::{answer, judge, play, search, shrink};
 use fmpsim_explore::QuestionLine;
 use fmpsim_run::{FaultLine, ReadSource, RunFault, Status, WriteSink};
 use output::{Ending, is_coloured, settled, settled_search};
@@ -61,6 +62,7 @@ where
     settled(run, sink.is_closed())
 }
 
+/// The file at a path, opened to be read. The fault is `Read` where it cannot be.
 fn opened<R: Files>(rt: &R, path: &str) -> Result<R::File, RunFault> {
     fs::open(rt, path).map_err(|_| RunFault::Read)
 }
@@ -194,6 +196,24 @@ fn explore<R: Files + Input + Print + AllocGlobal>(
     searched(rt, config, scripts, request)
 }
 
+/// How a run that answers a question ends the program. A fault is told.
+fn replied<R: Files + Eprint + AllocGlobal>(
+    rt: &R,
+    paths: &Paths<'_>,
+    question: &str,
+    run: Result<Status, Ending>,
+) -> Status {
+    let asked = match &run {
+        Err(Ending::Question(fault, place)) => Some((*fault, *place)),
+        _ => None,
+    };
+    let status = ended(rt, paths, run);
+    if let Some((fault, place)) = asked {
+        beside::tell_question(rt, paths, question, fault, place);
+    }
+    status
+}
+
 /// How a search ends the program. A fault is told.
 fn explored<R: Files + Input + Print + Eprint + AllocGlobal>(
     rt: &R,
@@ -205,13 +225,57 @@ fn explored<R: Files + Input + Print + Eprint + AllocGlobal>(
         context: request.context.then_some(TextForm::Scripts),
     };
     let run = explore(rt, &paths, request);
-    let question = match &run {
-        Err(Ending::Question(fault, place)) => Some((*fault, *place)),
-        _ => None,
+    replied(rt, &paths, request.question, run)
+}
+
+/// Writes the events that are needed to show what the request asks.
+fn shortened<R, C, E>(
+    rt: &R,
+    config: C,
+    events: E,
+    request: &ShrinkRequest<'_>,
+) -> Result<Status, Ending>
+where
+    R: Print + AllocGlobal,
+    C: Read + Drop,
+    E: Read + Drop,
+{
+    let alloc = rt.alloc();
+    let mut config = ReadSource::new(config);
+    let mut events = ReadSource::new(events);
+    let mut output = WriteSink::new(alloc, io::writer(rt))?;
+    let run = shrink(alloc, &mut config, &mut events, &mut output, request);
+    settled_search(run, output.is_closed())
+}
+
+/// Opens both files, or takes the events from standard input.
+fn shortened_from<R: Files + Input + Print + AllocGlobal>(
+    rt: &R,
+    paths: &Paths<'_>,
+    request: &ShrinkRequest<'_>,
+) -> Result<Status, Ending> {
+    if paths.text == STANDARD_INPUT {
+        return shortened(rt, opened(rt, paths.config)?, rt.reader(), request);
+    }
+    let (config, events) = both_opened(rt, paths)?;
+    shortened(rt, config, events, request)
+}
+
+/// How leaving events out ends the program. A fault is told, and where the answers to the events do not show what is asked.
+fn shrunk<R: Files + Input + Print + Eprint + AllocGlobal>(
+    rt: &R,
+    request: &ShrinkRequest<'_>,
+) -> Status {
+    let paths = Paths {
+        config: request.config,
+        text: request.events,
+        context: request.context.then_some(TextForm::Events),
     };
-    let status = ended(rt, &paths, run);
-    if let Some((fault, place)) = question {
-        beside::tell_question(rt, request, fault, place);
+    let run = shortened_from(rt, &paths, request);
+    let status = replied(rt, &paths, request.question, run);
+    if status == Status::Different {
+        let path = paths.text;
+        let _ = eprintln!(rt; "fmpsim: {path}: the answers to these events do not show it");
     }
     status
 }
@@ -298,6 +362,7 @@ fn uncoloured<R: Eprint>(rt: &R) -> Status {
     Status::Usage
 }
 
+/// The words of the command line, in their order.
 fn words_of<R: Env + AllocGlobal>(rt: &R) -> io::Result<Vec<String>> {
     Ok(env::args(rt)?.collect(rt.alloc())?)
 }
@@ -326,11 +391,13 @@ fn execute<R: Env + Files + Input + Print + Eprint + AllocGlobal + Threads + Wai
             ended(rt, &paths, smp(rt, &paths, &request, coloured))
         }
         Ok(Request::Explore(request)) => explored(rt, &request),
+        Ok(Request::Shrink(request)) => shrunk(rt, &request),
         Ok(Request::List(name)) => ended(rt, &NO_PATHS, list(rt, name)),
         Err(error) => refused(rt, &error),
     }
 }
 
+/// Does what the command line asks for, at standard output that is a terminal or not.
 fn run<R: Env + Files + Input + Print + Eprint + AllocGlobal + Threads + Wait + Sync>(
     rt: &R,
     is_terminal: bool,
@@ -345,6 +412,7 @@ fn run<R: Env + Files + Input + Print + Eprint + AllocGlobal + Threads + Wait + 
     }
 }
 
+/// The program, which ends with the exit status of what it did.
 fn main(rt: HostRuntime) -> ExitCode {
     let is_terminal = rt.stdout().is_terminal();
     ExitCode::from(run(&rt, is_terminal).code())

@@ -39,6 +39,7 @@ calls_asked r word words named asks = IfOk-weaker r _ _ go asks
     go (request.Trace p a) h = absurd h
     go (request.Smp x) h = absurd h
     go (request.Explore x) h = absurd h
+    go (request.Shrink x) h = absurd h
     go (request.List x) h = absurd h
 
 -- what `check` is asked for, behind its name
@@ -51,6 +52,7 @@ check_asked r word words named asks = IfOk-weaker r _ _ go asks
     go (request.Trace p a) h = inl (named, h)
     go (request.Smp x) h = absurd h
     go (request.Explore x) h = absurd h
+    go (request.Shrink x) h = absurd h
     go (request.List x) h = absurd h
 
 -- what `wave` is asked for, behind its name
@@ -63,6 +65,7 @@ wave_asked r word words named asks = IfOk-weaker r _ _ go asks
     go (request.Trace p a) h = inr (inl (named, h))
     go (request.Smp x) h = absurd h
     go (request.Explore x) h = absurd h
+    go (request.Shrink x) h = absurd h
     go (request.List x) h = absurd h
 
 -- what `view` is asked for, behind its name
@@ -75,4 +78,5 @@ view_asked r word words named asks = IfOk-weaker r _ _ go asks
     go (request.Trace p a) h = inr (inr (named, h))
     go (request.Smp x) h = absurd h
     go (request.Explore x) h = absurd h
+    go (request.Shrink x) h = absurd h
     go (request.List x) h = absurd h

@@ -1,28 +1,28 @@
 -- The command lines of the program, and what their words ask for.
-use Rattle.std.specs.Prelude.{◌≡◌, ◌⊎◌, Bool, true, false, List, [], Option, Some, codes, if◌then◌else◌, option_map, unwrap_or}
+use Rattle.std.specs.Prelude.{◌≡◌, ◌⊎◌, Bool, false, List, [], Option, Some, codes, option_map, unwrap_or}
 use Rattle.std.specs.Bool.{then_some}
 use Rattle.clap.specs.Words.{App, Row, Rule, Text, first_of, found_of, matches_of, new_app, new_rule, one_of, rows_of, with_rule}
 use Rattle.clap.specs.declared.builder.action.ArgAction.TheVariants.{Set, SetTrue}
 use Rattle.clap.specs.declared.parser.matches.ArgMatches.{ArgMatches}
-use Rattle.fmp_check.specs.declared.comparing.Shown.TheVariants.{First, Each}
 use Rattle.fmp_context.specs.declared.text.TextForm.{TextForm}
 use Rattle.fmp_context.specs.declared.text.TextForm.TheVariants as form
 use Rattle.fmp_smp_command.specs.Smp.{Asks, IsFlag, colour_by, colour_rule, found_in, path_rule}
 use Rattle.fmp_smp_command.specs.declared.colours.Colour.{Colour}
 use Rattle.fmp_explore_command.specs.Explore as explore
+use Rattle.fmp_shrink_command.specs.Shrink as shrink
 use Rattle.fmpsim_cli.specs.declared.Asked.{Asked}
-use Rattle.fmpsim_cli.specs.declared.Asked.TheVariants.{Verdict, Differences, Waveform, Page}
+use Rattle.fmpsim_cli.specs.declared.Asked.TheVariants.{Waveform, Page}
 use Rattle.fmpsim_cli.specs.declared.Paths.{Paths}
 use Rattle.fmpsim_cli.specs.declared.Request.{Request}
 use Rattle.fmpsim_cli.specs.declared.Request.TheVariants as request
 use Rattle.fmpsim_cli.specs.declared.Told.{Told}
-use Rattle.fmpsim_cli.specs.declared.Told.TheVariants as told
+use Rattle.fmpsim_cli.specs.Flags.{told_by, asked_by, form_by}
 
 -- what a parse reads of a flag
 abbrev pub flag_rule : Text → Rule
 flag_rule id = record (new_rule id) { long = Some id; action = Some SetTrue }
 
--- of a flag that another one rules out
+-- of a flag that others rule out, or that rules out others
 abbrev pub choice_rule : Text → Rule
 choice_rule id = record (flag_rule id) { is_free = false }
 
@@ -47,10 +47,12 @@ check_line = with_rule
     (with_rule
     (with_rule
     (with_rule
+    (with_rule
     (with_rule (new_app (codes "check")) (path_rule (codes "CFG")))
     (path_rule (codes "TRACE")))
     (choice_rule (codes "show")))
-    (flag_rule (codes "all")))
+    (choice_rule (codes "all")))
+    (choice_rule (codes "partial")))
     (flag_rule (codes "context"))
 
 abbrev pub wave_line : App
@@ -84,16 +86,6 @@ pub record NamesPaths (rows : List Row) (id : Text) (text_form : TextForm) (p : 
   pub text : p.text.now ≡ unwrap_or (first_of id rows) []
   pub context : (b : Bool) × IsFlag (one_of (codes "context") rows) b × (p.context ≡ then_some b text_form)
 
--- what is told of each event, by the flag
-abbrev pub told_by : Bool → Told
-told_by state = if state then told.State else told.Line
-
--- what is asked of a trace, by both flags: the first line that differs, or else all of them, or else the verdict alone
-abbrev pub asked_by : Bool → Bool → Asked
-asked_by true all = Differences First
-asked_by false true = Differences Each
-asked_by false false = Verdict
-
 -- the state is told where that is asked for, and the trace coloured as the word says
 pub record AsksCalls (rows : List Row) (p : Paths) (t : Told) (c : Colour) : Type 0 where
   pub paths : NamesPaths rows (codes "EVENTS") form.Events p
@@ -102,9 +94,14 @@ pub record AsksCalls (rows : List Row) (p : Paths) (t : Told) (c : Colour) : Typ
 
 -- what is asked is what the flags say
 pub record AsksCheck (rows : List Row) (p : Paths) (a : Asked) : Type 0 where
-  pub paths : NamesPaths rows (codes "TRACE") form.Trace p
-  pub asked : (show : Bool) × (all : Bool) × IsFlag (one_of (codes "show") rows) show × IsFlag (one_of (codes "all") rows) all
-      × (a ≡ asked_by show all)
+  pub partial : Bool
+  pub show : Bool
+  pub all : Bool
+  pub partial_flag : IsFlag (one_of (codes "partial") rows) partial
+  pub show_flag : IsFlag (one_of (codes "show") rows) show
+  pub all_flag : IsFlag (one_of (codes "all") rows) all
+  pub paths : NamesPaths rows (codes "TRACE") (form_by partial) p
+  pub asked : a ≡ asked_by partial show all
 
 -- the waveform is asked for
 pub record AsksWave (rows : List Row) (p : Paths) (a : Asked) : Type 0 where
@@ -125,6 +122,7 @@ AsksFor name words (request.Trace p a) =
     ⊎ ((name ≡ Some (codes "view")) × AsksView (found_by view_line words) p a))
 AsksFor name words (request.Smp r) = (name ≡ Some (codes "smp")) × Asks (found_in words) r
 AsksFor name words (request.Explore r) = (name ≡ Some (codes "explore")) × explore.Asks (explore.found_in words) r
+AsksFor name words (request.Shrink r) = (name ≡ Some (codes "shrink")) × shrink.Asks (shrink.found_in words) r
 AsksFor name words (request.List id) =
     (name ≡ Some (codes "list")) × (option_map (λ s. s.now) id ≡ first_of (codes "NAME") (found_by list_line words))
 

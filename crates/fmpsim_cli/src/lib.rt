@@ -6,14 +6,16 @@
 ghost use Rattle.std.specs.Prelude.{◌≡◌, ◌≤◌, IfOk, Some, codes, drop, false, length, map, true, option_map, slice_get};
 ghost use Rattle.clap.specs.Words.{app_of, first_of, rule_of};
 ghost use Rattle.fmp_smp_command.specs.Smp.{IsOptional};
-ghost use Rattle.fmpsim_cli.specs.Cli.{AsksFor, IsCalls, IsCheck, IsView, IsWave, NamesPaths, asked_by, found_by, rows_in, told_by};
+ghost use Rattle.fmpsim_cli.specs.Cli.{AsksFor, IsCalls, IsCheck, IsView, IsWave, NamesPaths, found_by, rows_in};
 ghost use Rattle.fmpsim_cli.specs.Cli.{calls_line, check_line, choice_rule, flag_rule, list_line, name_rule, view_line, wave_line};
+ghost use Rattle.fmpsim_cli.specs.Flags.{asked_by, form_by, told_by};
 
 use clap::error::ErrorKind;
 use clap::{Arg, ArgAction, ArgMatches, Command, Error};
 use fmp_check::Shown;
 use fmp_context::TextForm;
 use fmp_explore_command::{ExploreRequest, explore_command, parse_explore};
+use fmp_shrink_command::{ShrinkRequest, parse_shrink, shrink_command};
 pub use fmp_smp_command::Colour;
 use fmp_smp_command::{SmpRequest, colour_of, colour_option, parse_smp, path, smp_command};
 use std::alloc::{AllocError, Global};
@@ -92,6 +94,11 @@ With --all there is a unified diff in place of the verdict, which `patch TRACE` 
 every line that differs; behind one the machine goes on with its own answers. Where none does
 it is empty.
 
+With --partial each line may leave out its number, who made the call, and each field behind its
+answer: what is not written is not judged, and what is written is judged exactly:
+
+  P1 act_tsk(T2) E_OK
+
 Exit status:
   0  yes
   1  a fault in a text, told on standard error with its line
@@ -164,6 +171,8 @@ const SHOW: &str = "show";
 
 const ALL: &str = "all";
 
+const PARTIAL: &str = "partial";
+
 const CONTEXT: &str = "context";
 
 /// The paths of a configuration and of the other text.
@@ -189,6 +198,8 @@ pub enum Told {
 pub enum Asked {
     /// Whether it is the machine's.
     Verdict,
+    /// Whether it is the machine's, where each line may leave out its number, its runner and the fields behind its answer.
+    Partial,
     /// Where it is not the machine's.
     Differences(Shown),
     /// Its waveform.
@@ -208,10 +219,13 @@ pub enum Request<'a> {
     Smp(SmpRequest<'a>),
     /// What every order of what scripts ask shows.
     Explore(ExploreRequest<'a>),
+    /// The events that are needed to show something.
+    Shrink(ShrinkRequest<'a>),
     /// What may be written: all of it, or what is called so.
     List(Option<&'a str>),
 }
 
+/// The command for what a configuration answers to a list of events.
 fn calls_command<'a>(alloc: Global) -> Result<Command<'a>, AllocError>
     ensures { IfOk result (λ c. app_of c ≡ calls_line) }
 {
@@ -251,6 +265,7 @@ fn flag<'a>(alloc: Global, id: &'a str, about: &'a str) -> Arg<'a>
         .help(about)
 }
 
+/// The flag to show what stands beside a fault.
 fn context<'a>(alloc: Global) -> Arg<'a>
     ensures kind { IsOptional result (codes "context") }
     ensures rule { rule_of result ≡ flag_rule (codes "context") }
@@ -262,26 +277,39 @@ fn context<'a>(alloc: Global) -> Arg<'a>
     )
 }
 
-/// The flag for the first line that differs, which goes without the one for all of them.
-fn show<'a>(alloc: Global) -> Result<Arg<'a>, AllocError>
-    ensures { IfOk result (λ a. (a.global ≡ false) × (rule_of a ≡ choice_rule (codes "show"))) }
+/// A flag that goes without another one.
+fn choice<'a>(
+    alloc: Global,
+    id: &'a str,
+    about: &'a str,
+    other: &'a str,
+) -> Result<Arg<'a>, AllocError>
+    ensures { IfOk result (λ a. (a.global ≡ false) × (rule_of a ≡ choice_rule id.entry.now)) }
 {
-    let show = flag(alloc, SHOW, "Also shows the first line that differs");
-    let choice = show.conflicts_with(ALL)?;
+    let start = flag(alloc, id, about);
+    let choice = start.conflicts_with(other)?;
     Ok(choice)
 }
 
+/// The command for whether a trace is the machine's, and where it is not.
 fn check_command<'a>(alloc: Global) -> Result<Command<'a>, AllocError>
     ensures { IfOk result (λ c. app_of c ≡ check_line) }
 {
     let config = path(alloc, "CFG", "Path of the configuration");
     let trace = path(alloc, "TRACE", "Path of the trace");
-    let show = show(alloc)?;
-    let all = flag(
+    let show = choice(alloc, SHOW, "Also shows the first line that differs", ALL)?;
+    let all = choice(
         alloc,
         ALL,
         "Shows each line that differs, as a unified diff",
-    );
+        PARTIAL,
+    )?;
+    let partial = choice(
+        alloc,
+        PARTIAL,
+        "Judges only what is written of each line",
+        SHOW,
+    )?;
     let context = context(alloc);
     let start = Command::new(alloc, "check")
         .about(CHECK_ABOUT)
@@ -291,10 +319,12 @@ fn check_command<'a>(alloc: Global) -> Result<Command<'a>, AllocError>
     let two = one.arg(trace)?;
     let three = two.arg(show)?;
     let four = three.arg(all)?;
-    let five = four.arg(context)?;
-    Ok(five)
+    let five = four.arg(partial)?;
+    let six = five.arg(context)?;
+    Ok(six)
 }
 
+/// The command for the waveform of a trace.
 fn wave_command<'a>(alloc: Global) -> Result<Command<'a>, AllocError>
     ensures { IfOk result (λ c. app_of c ≡ wave_line) }
 {
@@ -311,6 +341,7 @@ fn wave_command<'a>(alloc: Global) -> Result<Command<'a>, AllocError>
     Ok(three)
 }
 
+/// The command for a page that shows a trace in a browser.
 fn view_command<'a>(alloc: Global) -> Result<Command<'a>, AllocError>
     ensures { IfOk result (λ c. app_of c ≡ view_line) }
 {
@@ -337,6 +368,7 @@ fn name<'a>(alloc: Global) -> Arg<'a>
         .help("A service call, a statement, or the number of a fault")
 }
 
+/// The command for what may be written.
 fn list_command<'a>(alloc: Global) -> Result<Command<'a>, AllocError>
     ensures { IfOk result (λ c. app_of c ≡ list_line) }
 {
@@ -362,6 +394,7 @@ fn whole_command<'a>(alloc: Global) -> Result<Command<'a>, AllocError> {
         .subcommand(view_command(alloc)?)?
         .subcommand(smp_command(alloc)?)?
         .subcommand(explore_command(alloc)?)?
+        .subcommand(shrink_command(alloc)?)?
         .subcommand(list_command(alloc)?)
 }
 
@@ -387,14 +420,15 @@ fn told_for(state: bool) -> Told
     if state { Told::State } else { Told::Line }
 }
 
-/// What is asked of a trace by these two flags.
-fn asked_for(show: bool, all: bool) -> Asked
-    ensures { result ≡ asked_by show all }
+/// What is asked of a trace by these flags.
+fn asked_for(partial: bool, show: bool, all: bool) -> Asked
+    ensures { result ≡ asked_by partial show all }
 {
-    match (show, all) {
-        (true, _) => Asked::Differences(Shown::First),
-        (false, true) => Asked::Differences(Shown::Each),
-        (false, false) => Asked::Verdict,
+    match (partial, show, all) {
+        (true, _, _) => Asked::Partial,
+        (false, true, _) => Asked::Differences(Shown::First),
+        (false, false, true) => Asked::Differences(Shown::Each),
+        (false, false, false) => Asked::Verdict,
     }
 }
 
@@ -410,16 +444,28 @@ fn parse_calls<'a>(alloc: Global, words: &'a [String]) -> Result<Request<'a>, Er
     Ok(Request::Calls(paths, told_for(state), colour))
 }
 
-/// What `check` is asked for: by `--show`, by `--all`, or by neither.
+/// What the text of `check` is.
+fn checked_form(partial: bool) -> TextForm
+    ensures { result ≡ form_by partial }
+{
+    if partial {
+        TextForm::Partial
+    } else {
+        TextForm::Trace
+    }
+}
+
+/// What `check` is asked for: by `--partial`, by `--show`, by `--all`, or by none of them.
 fn parse_check<'a>(alloc: Global, words: &'a [String]) -> Result<Request<'a>, Error>
     ensures { IfOk result (IsCheck (found_by check_line (map (λ w. w.bytes.items) words.now))) }
 {
     let command = check_command(alloc)?;
     let matches = command.try_get_matches_from(words)?;
-    let paths = named_paths(&matches, "TRACE", TextForm::Trace);
+    let partial = matches.get_flag(PARTIAL);
+    let paths = named_paths(&matches, "TRACE", checked_form(partial));
     let show = matches.get_flag(SHOW);
     let all = matches.get_flag(ALL);
-    Ok(Request::Trace(paths, asked_for(show, all)))
+    Ok(Request::Trace(paths, asked_for(partial, show, all)))
 }
 
 /// What `wave` is asked for.
@@ -498,6 +544,9 @@ pub fn parse<'a>(alloc: Global, words: &'a [String]) -> Result<Request<'a>, Erro
     }
     if is_named(command, "explore") {
         return Ok(Request::Explore(parse_explore(alloc, behind(words))?));
+    }
+    if is_named(command, "shrink") {
+        return Ok(Request::Shrink(parse_shrink(alloc, behind(words))?));
     }
     if is_named(command, "list") {
         return Ok(Request::List(listed_name(alloc, behind(words))?));

@@ -41,7 +41,7 @@ pub fn search<R: Source, S: Source, W: Sink>(
     // Both texts were read to their ends, and what is written says what is known of all orders by these rules. None of it is held back.
     ensures explored { IsKnown (R.left config.old) → IsKnown (S.left scripts.old) → IsKnown (W.written output.old)
         → IfOk result (λ status. (finding : AnyFinding) × (status ≡ spec.status_of finding)
-        × IsExplored (bytes_of (R.left config.old)) (bytes_of (S.left scripts.old)) request.now.question.now (asked.rules_of request.now) request.now.bounds.turns (bytes_of (W.written output.old)) (bytes_of (W.written output.new)) finding) }
+        × IsExplored (bytes_of (R.left config.old)) (bytes_of (S.left scripts.old)) request.now.question.now (asked.rules_of request.now) request.now.bounds.turns (request.now.bounds.places - 1) (bytes_of (W.written output.old)) (bytes_of (W.written output.new)) finding) }
     ensures known { IsKnown (W.written output.old) → IsKnown (W.written output.new) }
     ensures passed { OnOk result (W.buffered output.new ≡ []) }
     ensures config_read { IsKnown (R.left config.old) → OnOk result (bytes_of (R.left config.new) ≡ []) }
@@ -54,7 +54,7 @@ pub fn search<R: Source, S: Source, W: Sink>(
 
     // After a failed write or flush a beginning of what tells it is out, and after any other fault nothing is.
     ensures write { IsKnown (R.left config.old) → IsKnown (S.left scripts.old) → IsKnown (W.written output.old) → (result ≡ Err (ExploreFault.Run RunFault.Write))
-        → IsBegun (bytes_of (R.left config.old)) (bytes_of (S.left scripts.old)) request.now.question.now (asked.rules_of request.now) request.now.bounds.turns (bytes_of (W.written output.old)) (bytes_of (W.written output.new)) }
+        → IsBegun (bytes_of (R.left config.old)) (bytes_of (S.left scripts.old)) request.now.question.now (asked.rules_of request.now) request.now.bounds.turns (request.now.bounds.places - 1) (bytes_of (W.written output.old)) (bytes_of (W.written output.new)) }
     ensures unwritten { IsKnown (W.written output.old) → IfErr result (λ fault. fault ≢ ExploreFault.Run RunFault.Write → bytes_of (W.written output.new) ≡ bytes_of (W.written output.old)) }
 
     // No thread was started.

@@ -7,6 +7,7 @@ ghost use Rattle.fmp_judging.specs.Traces.{Checked, FirstTraceFault, IsOwn, IsYe
 ghost use Rattle.fmp_view.specs.Runs.{LeavesShown, Shown};
 ghost use Rattle.fmp_wave.specs.Runs.{Drawn, LeavesDrawn};
 ghost use Rattle.fmpsim_run.specs.Checks.{IsCheckBegun, verdict_text};
+ghost use Rattle.fmpsim_partial.specs.Partials.{CheckedPartly, FirstPartialFault, IsPartialBegun, IsPartlyOwn, verdict_text as partial_text};
 ghost use Rattle.fmpsim_run.specs.Reports.{IsReported, IsReportBegun};
 ghost use Rattle.fmpsim_run.specs.Scripted.{Played};
 ghost use Rattle.fmp_check.specs.declared.comparing.Shown.{Shown as AnyShown};
@@ -17,6 +18,7 @@ use fmp_devices::{Sink, Source};
 use fmp_view::run_view;
 use fmp_wave::run_wave;
 use fmpsim_cli::Asked;
+use fmpsim_partial::run_partial;
 use fmpsim_run::{RunFault, run_check, run_report};
 use std::alloc::Global;
 
@@ -39,6 +41,15 @@ pub fn judge<R: Source, S: Source, W: Sink>(
         → IfOk result (λ verdict. bytes_of (W.written output.new) ≡ bytes_of (W.written output.old) ++ verdict_text verdict) }
     ensures verdict_begun { asked ≡ Asked.Verdict → IsKnown (R.left config.old) → IsKnown (S.left trace.old) → IsKnown (W.written output.old) → (result ≡ Err RunFault.Write)
         → IsCheckBegun (bytes_of (R.left config.old)) (bytes_of (S.left trace.old)) (bytes_of (W.written output.old)) (bytes_of (W.written output.new)) }
+
+    // The verdict on what is written alone.
+    ensures partial { asked ≡ Asked.Partial → IsKnown (R.left config.old) → IsKnown (S.left trace.old)
+        → IfOk result (CheckedPartly (bytes_of (R.left config.old)) (bytes_of (S.left trace.old))) }
+    ensures partial_written { asked ≡ Asked.Partial → IsKnown (W.written output.old)
+        → IfOk result (λ verdict. bytes_of (W.written output.new) ≡ bytes_of (W.written output.old) ++ partial_text verdict) }
+    ensures partly_own { asked ≡ Asked.Partial → IsKnown (R.left config.old) → IsKnown (S.left trace.old) → IsPartlyOwn (bytes_of (R.left config.old)) (bytes_of (S.left trace.old)) → IsYes result }
+    ensures partial_begun { asked ≡ Asked.Partial → IsKnown (R.left config.old) → IsKnown (S.left trace.old) → IsKnown (W.written output.old) → (result ≡ Err RunFault.Write)
+        → IsPartialBegun (bytes_of (R.left config.old)) (bytes_of (S.left trace.old)) (bytes_of (W.written output.old)) (bytes_of (W.written output.new)) }
 
     // The lines that differ.
     ensures differences { (shown : AnyShown) → asked ≡ Asked.Differences shown → IsKnown (R.left config.old) → IsKnown (S.left trace.old) → IsKnown (W.written output.old)
@@ -76,7 +87,8 @@ pub fn judge<R: Source, S: Source, W: Sink>(
 
     // A fault of a text is its first one.
     ensures config_fault { IsKnown (R.left config.old) → IfErr result (FirstConfigFault (bytes_of (R.left config.old))) }
-    ensures text_fault { IsKnown (R.left config.old) → IsKnown (S.left trace.old) → IfErr result (FirstTraceFault (bytes_of (R.left config.old)) (bytes_of (S.left trace.old))) }
+    ensures text_fault { asked ≢ Asked.Partial → IsKnown (R.left config.old) → IsKnown (S.left trace.old) → IfErr result (FirstTraceFault (bytes_of (R.left config.old)) (bytes_of (S.left trace.old))) }
+    ensures partial_fault { asked ≡ Asked.Partial → IsKnown (R.left config.old) → IsKnown (S.left trace.old) → IfErr result (FirstPartialFault (bytes_of (R.left config.old)) (bytes_of (S.left trace.old))) }
 
     // After a fault that is no failed write nothing is out, but of a waveform or a page perhaps a beginning.
     ensures unwritten { asked ≢ Asked.Waveform → asked ≢ Asked.Page → IsKnown (W.written output.old)
@@ -91,6 +103,7 @@ pub fn judge<R: Source, S: Source, W: Sink>(
 {
     match asked {
         Asked::Verdict => run_check(alloc, config, trace, output),
+        Asked::Partial => run_partial(alloc, config, trace, output),
         Asked::Differences(shown) => run_report(alloc, config, trace, output, shown),
         Asked::Waveform => run_wave(alloc, config, trace, output),
         Asked::Page => run_view(alloc, config, trace, output),

@@ -15,4 +15,4 @@ pub use fault::{ExploreFault, QuestionLine};
 pub use finding::Finding;
 pub use fmp_orders::Rules;
 pub use fmp_question::QuestionFault;
-pub use run::run_explore;
+pub use run::{question_from, run_explore};

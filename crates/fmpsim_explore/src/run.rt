@@ -18,7 +18,7 @@ use fmp_question::{Question, ReadFault, read_question};
 use std::alloc::Global;
 
 /// The question of a text, or its first fault.
-fn question_from(alloc: Global, names: &Names, text: &[u8]) -> Result<Question, ExploreFault>
+pub fn question_from(alloc: Global, names: &Names, text: &[u8]) -> Result<Question, ExploreFault>
     ensures asks { IfOk result (λ q. question_in names.now text.now ≡ Ok q) }
     ensures fault { IfErr result (faults.IsNoQuestion names.now text.now) }
 {
@@ -33,7 +33,7 @@ fn question_from(alloc: Global, names: &Names, text: &[u8]) -> Result<Question, 
 /// what the question asks.
 ///
 /// It looks at orders of at most so many lines, and has room for so many places, each of which takes 24 bytes. Where the room does not do it
-/// says for how many lines it did.
+/// says for how many lines it did, and all of it was used.
 pub fn run_explore<R: Source, S: Source, W: Sink>(
     alloc: Global,
     config: &mut R,
@@ -52,7 +52,7 @@ pub fn run_explore<R: Source, S: Source, W: Sink>(
 
     // Both texts were read to their ends, and what is written says what is known of all orders. None of it is held back.
     ensures explored { IsKnown (R.left config.old) → IsKnown (S.left scripts.old) → IsKnown (W.written output.old)
-        → IfOk result (IsExplored (bytes_of (R.left config.old)) (bytes_of (S.left scripts.old)) question.now rules turns (bytes_of (W.written output.old)) (bytes_of (W.written output.new))) }
+        → IfOk result (IsExplored (bytes_of (R.left config.old)) (bytes_of (S.left scripts.old)) question.now rules turns (places - 1) (bytes_of (W.written output.old)) (bytes_of (W.written output.new))) }
     ensures known { IsKnown (W.written output.old) → IsKnown (W.written output.new) }
     ensures passed { OnOk result (W.buffered output.new ≡ []) }
     ensures config_read { IsKnown (R.left config.old) → OnOk result (bytes_of (R.left config.new) ≡ []) }
@@ -65,7 +65,7 @@ pub fn run_explore<R: Source, S: Source, W: Sink>(
 
     // After a failed write or flush a beginning of what tells it is out, and after any other fault nothing is.
     ensures write { IsKnown (R.left config.old) → IsKnown (S.left scripts.old) → IsKnown (W.written output.old) → (result ≡ Err (ExploreFault.Run RunFault.Write))
-        → IsBegun (bytes_of (R.left config.old)) (bytes_of (S.left scripts.old)) question.now rules turns (bytes_of (W.written output.old)) (bytes_of (W.written output.new)) }
+        → IsBegun (bytes_of (R.left config.old)) (bytes_of (S.left scripts.old)) question.now rules turns (places - 1) (bytes_of (W.written output.old)) (bytes_of (W.written output.new)) }
     ensures unwritten { IsKnown (W.written output.old) → IfErr result (λ fault. fault ≢ ExploreFault.Run RunFault.Write → bytes_of (W.written output.new) ≡ bytes_of (W.written output.old)) }
 
     // No thread was started.

@@ -27,7 +27,7 @@ fn answered(
     more: u32,
 ) -> Result<Answer, AllocError>
     requires { turns < 2 ^ 31 }
-    ensures { IfOk result (λ answer. Says places.after is_seen (places.origin config.now scripts.now rules question.now) turns answer) }
+    ensures { IfOk result (λ answer. Says places.after is_seen (places.origin config.now scripts.now rules question.now) turns more answer) }
 {
     let mut walker = Walker::new(config, scripts, rules, question)?;
     let mut base = Walker::new(config, scripts, rules, question)?;
@@ -48,7 +48,7 @@ pub(crate) fn found(
 ) -> Result<(Finding, Vec<u8>), AllocError>
     requires turns { turns ≤ 1000000 }
     requires in_bits { AreInBits scripts.now }
-    ensures { IfOk result (λ r. Finds config.now scripts.now rules question.now turns r.1.items r.0) }
+    ensures { IfOk result (λ r. Finds config.now scripts.now rules question.now turns more r.1.items r.0) }
 {
     let names = config.names();
     names.validity();

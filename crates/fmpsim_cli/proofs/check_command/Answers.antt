@@ -8,5 +8,6 @@ returns c =
     let one_is = c.in_ok-one.ensures.shape c.path-config.ensures.kind.optional.local ∙ ap₂ with_rule start_is c.path-config.ensures.rule in
     let two_is = c.in_ok-two.ensures.shape c.path-trace.ensures.kind.optional.local ∙ ap₂ with_rule one_is c.path-trace.ensures.rule in
     let three_is = c.in_ok-three.ensures.shape c.in_ok-show.ensures.0 ∙ ap₂ with_rule two_is c.in_ok-show.ensures.1 in
-    let four_is = c.in_ok-four.ensures.shape c.flag-all.ensures.kind.local ∙ ap₂ with_rule three_is c.flag-all.ensures.rule in
-    c.in_ok-five.ensures.shape c.context-context.ensures.kind.local ∙ ap₂ with_rule four_is c.context-context.ensures.rule
+    let four_is = c.in_ok-four.ensures.shape c.in_ok-all.ensures.0 ∙ ap₂ with_rule three_is c.in_ok-all.ensures.1 in
+    let five_is = c.in_ok-five.ensures.shape c.in_ok-partial.ensures.0 ∙ ap₂ with_rule four_is c.in_ok-partial.ensures.1 in
+    c.in_ok-six.ensures.shape c.context-context.ensures.kind.local ∙ ap₂ with_rule five_is c.context-context.ensures.rule

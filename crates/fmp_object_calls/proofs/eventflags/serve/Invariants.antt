@@ -6,8 +6,8 @@ use Rattle.fmp_object_calls.proofs.eventflags.serve.Given as goal
 abbrev pub invariant-loop-t : goal.invariant-loop-t
 invariant-loop-t g l = let W = g.M.Words in record {
   made :
-      and_releases l.told (served W.ordering (W.world l.machine) l.f l.bits (drop l.t-index l.tasks))
-      ≡ and_releases l.fn.told (served W.ordering (W.world l.fn.machine) l.f l.x l.tasks);
-  few : length l.told ≤ length l.fn.told + l.t-index;
+      and_releases l.releases (served W.ordering (W.world l.machine) l.f l.bits (drop l.t-index l.tasks))
+      ≡ and_releases l.fn.releases (served W.ordering (W.world l.fn.machine) l.f l.x l.tasks);
+  few : length l.releases ≤ length l.fn.releases + l.t-index;
   room : W.room l.fn.machine ≤ W.room l.machine + l.t-index;
 }

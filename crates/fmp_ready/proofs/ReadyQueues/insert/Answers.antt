@@ -4,7 +4,7 @@ use Rattle.std.proofs.lemmas.List.{get_or-set_other}
 use Rattle.fmp_links.specs.Lists as links
 use Rattle.fmp_links.specs.Tasks.{has_task}
 use Rattle.fmp_links.proofs.Tasks.{task_is}
-use Rattle.fmp_ready.specs.Queues.{Queues, list_at, push_last}
+use Rattle.fmp_ready.specs.Queues.{PriorityLists, queue_at, push_last}
 use Rattle.fmp_ready.specs.Kept.{tasks_of}
 use Rattle.fmp_ready.proofs.Tasks.{has_task-tasks_of, push_tasks, queues_same}
 use Rattle.fmp_ready.proofs.Kept.{kept_push}
@@ -20,7 +20,7 @@ push_last-requires c = (
       c.index.ensures.in_range,
       (λ i.
           sym (has_task-tasks_of c.self.inside.links c.args.task c.index.result i c.index.ensures.next c.self.invariant.0.small)
-          ∙ ap (λ q. has_task c.args.task (list_at q i)) (ap (λ v. v.lists) c.self.view_is) ∙ c.requires i),
+          ∙ ap (λ q. has_task c.args.task (queue_at q i)) (ap (λ v. v.lists) c.self.view_is) ∙ c.requires i),
     ),
   ),
 )
@@ -41,7 +41,7 @@ invariant_of-self c = (
 
 pub returns : goal.returns
 returns c =
-    let lists = ap (λ (v : Queues). v.lists) c.self.view_is in
+    let lists = ap (λ (v : PriorityLists). v.lists) c.self.view_is in
     queues_same _ _
     (ap tasks_of c.push_last.ensures ∙ push_tasks c.self.inside.links c.list_of-list.result c.index.result c.args.task (task_is c.args.task c.index.result c.index.ensures.next)
     ∙ ap (λ (q : List (List Task)). push_last q c.list_of-list.result c.args.task) lists

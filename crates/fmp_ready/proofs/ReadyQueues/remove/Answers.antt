@@ -6,7 +6,7 @@ use Rattle.fmp_links.specs.Lists as links
 use Rattle.fmp_links.proofs.Having.{without_lacking}
 use Rattle.fmp_links.proofs.Soundness.{list_in, list_at-take_out}
 use Rattle.fmp_links.specs.Tasks.{has_task}
-use Rattle.fmp_ready.specs.Queues.{Queues, list_at, take_out}
+use Rattle.fmp_ready.specs.Queues.{PriorityLists, queue_at, take_out}
 use Rattle.fmp_ready.specs.Kept.{tasks_of}
 use Rattle.fmp_ready.proofs.Tasks.{has_task-tasks_of, remove_tasks, take_out-lacking, queues_same}
 use Rattle.fmp_ready.proofs.Kept.{kept_remove}
@@ -51,7 +51,7 @@ invariant_of-self c = (
 
 pub returns-in-Some : goal.returns-in-Some
 returns-in-Some c =
-    let lists = ap (λ (v : Queues). v.lists) c.self.view_is in
+    let lists = ap (λ (v : PriorityLists). v.lists) c.self.view_is in
     queues_same _ _
     (ap tasks_of c.remove.ensures ∙ remove_tasks c.self.inside.links c.args.task c.index-item.result c.index-item.ensures.next c.self.invariant.0.small
     ∙ ap (λ (q : List (List Task)). take_out q c.args.task) lists)
@@ -60,5 +60,5 @@ pub returns-in_default : goal.returns-in_default
 returns-in_default c =
     queues_same _ _
     (sym (take_out-lacking c.args.self.now.lists c.args.task (λ i.
-    ap (λ (v : Queues). has_task c.args.task (list_at v.lists i)) (sym c.self.view_is)
+    ap (λ (v : PriorityLists). has_task c.args.task (queue_at v.lists i)) (sym c.self.view_is)
     ∙ has_task-tasks_of c.self.inside.links c.args.task c.index-item.result i c.index-item.ensures.next c.self.invariant.0.small ∙ c.in_default.ensures i)))

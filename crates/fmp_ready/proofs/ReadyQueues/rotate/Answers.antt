@@ -3,7 +3,7 @@ use Rattle.std.specs.Prelude.{slice_set}
 use Rattle.std.proofs.lemmas.List.{get_or-set_other}
 use Rattle.fmp_codes.specs.declared.numbers.Task.{Task}
 use Rattle.fmp_links.specs.Lists as links
-use Rattle.fmp_ready.specs.Queues.{Queues, list_at, rotated}
+use Rattle.fmp_ready.specs.Queues.{PriorityLists, queue_at, rotated}
 use Rattle.fmp_ready.specs.Kept.{tasks_of}
 use Rattle.fmp_ready.proofs.Tasks.{rotate_tasks, queues_same}
 use Rattle.fmp_ready.proofs.Kept.{kept_rotate}
@@ -26,8 +26,8 @@ invariant_of-self c = (
 
 pub returns : goal.returns
 returns c =
-    let lists = ap (λ (v : Queues). v.lists) c.self.view_is in
+    let lists = ap (λ (v : PriorityLists). v.lists) c.self.view_is in
     queues_same _ _
     (ap tasks_of c.rotate.ensures ∙ rotate_tasks c.self.inside.links c.list_of-list.result
-    ∙ ap (λ (q : List (List Task)). slice_set q c.list_of-list.result (rotated (list_at q c.list_of-list.result))) lists
-    ∙ ap (λ (i : ℕ). slice_set c.args.self.now.lists i (rotated (list_at c.args.self.now.lists i))) c.list_of-list.ensures.value)
+    ∙ ap (λ (q : List (List Task)). slice_set q c.list_of-list.result (rotated (queue_at q c.list_of-list.result))) lists
+    ∙ ap (λ (i : ℕ). slice_set c.args.self.now.lists i (rotated (queue_at c.args.self.now.lists i))) c.list_of-list.ensures.value)

@@ -1,8 +1,9 @@
 use Rattle.std.proofs.Common.{arith, ◌≡◌, ◌∙◌, ◌+◌, length, false, List, refl, sym, subst}
 use Rattle.fmp_search.specs.declared.nodes.Node.{Node}
-use Rattle.fmp_search.specs.Answers.{Explored}
-use Rattle.fmp_search.specs.Growth.{Opens}
-use Rattle.fmp_search.proofs.Layers.{explored-root, layer-more, none-ever}
+use Rattle.fmp_search.specs.Answers.{Explored, UsedUp}
+use Rattle.fmp_search.specs.Growth.{AreBefore, Fills, Opens}
+use Rattle.fmp_search.proofs.Apart.{before_none}
+use Rattle.fmp_search.proofs.Layers.{explored-root, layer-more, none-ever, none-within}
 use Rattle.fmp_search.proofs.exploring.explore.Goals as goal
 
 pub loop-depth-init : goal.loop-depth-init
@@ -11,11 +12,13 @@ loop-depth-init g c =
     let wanted = g.W.Space.wanted in
     let q = g.W.Space.origin c.args.walker.now in
     let clean : wanted q ≡ false = subst (λ x. wanted x ≡ false) c.in_ok-restart.ensures.there (sym c.if-is_wanted.ensures) in (
-      subst (λ (ns : List Node). Explored after wanted q ns 0 (length ns + 1) 0) (sym c.in_ok-store.ensures) (explored-root after wanted q clean),
+      subst (λ (ns : List Node). Explored after wanted q ns 0 (length ns + 1) 0) (sym c.in_ok-store.ensures.empty) (explored-root after wanted q clean),
       omega arith,
       c.restart.ensures.origin,
       c.requires.origins.0,
       c.requires.origins.1,
+      subst (λ (ns : List Node). AreBefore ns 0 0) (sym c.in_ok-store.ensures.empty) before_none,
+      c.in_ok-store.ensures.room,
     )
 
 pub loop-depth-preserved : goal.loop-depth-preserved
@@ -30,6 +33,8 @@ loop-depth-preserved g c =
       c.open_layer.ensures.walker_origin ∙ c.loop-depth.invariant.2,
       c.open_layer.ensures.base_origin ∙ c.loop-depth.invariant.3,
       c.open_layer.ensures.other_origin ∙ c.loop-depth.invariant.4,
+      subst (λ how. Fills after (g.W.Space.origin c.loop-depth.walker) c.loop-depth.depth c.loop-depth.store.most c.count-end.result 0 how c.open_layer.new.store.nodes.items) c.in-Done.is c.in_ok-steps.ensures.fills,
+      c.open_layer.ensures.room ∙ c.loop-depth.invariant.6,
     )
 
 pub returns-then-begin-end : goal.returns-then-begin-end
@@ -47,3 +52,18 @@ returns-then-begin-count g c =
     let all : c.loop-depth.begin ≡ length nodes + 1 = c.if-begin-count.true ∙ c.count.ensures in
     none-ever g.W.Space.after g.W.Space.wanted q nodes c.loop-depth.depth (length nodes + 1)
     (subst (λ n. Explored g.W.Space.after g.W.Space.wanted q nodes c.loop-depth.depth (length nodes + 1) n) all c.loop-depth.invariant.0) refl
+
+pub returns-in-Full : goal.returns-in-Full
+returns-in-Full g c =
+    let after = g.W.Space.after in
+    let q = g.W.Space.origin c.args.walker.now in
+    let nodes = c.loop-depth.store.nodes.items in
+    let fills = subst (λ how. Fills after (g.W.Space.origin c.loop-depth.walker) c.loop-depth.depth c.loop-depth.store.most c.count-end.result 0 how c.open_layer.new.store.nodes.items) c.in-Full.is c.in_ok-steps.ensures.fills in
+    let used = subst (λ x. UsedUp after x c.loop-depth.depth c.loop-depth.store.most) c.loop-depth.invariant.2 fills in (
+      omega arith,
+      none-within after g.W.Space.wanted q nodes c.loop-depth.depth (length nodes + 1) c.loop-depth.begin c.loop-depth.invariant.0,
+      λ lt. subst (λ n. UsedUp after q c.loop-depth.depth n) c.loop-depth.invariant.6 used,
+    )
+
+pub open_layer-requires-clause-before : goal.open_layer-requires-clause-before
+open_layer-requires-clause-before g c = c.loop-depth.invariant.5

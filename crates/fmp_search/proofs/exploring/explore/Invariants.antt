@@ -1,5 +1,6 @@
 use Rattle.std.proofs.Common.{◌≡◌, ◌≤◌, ◌+◌, length}
 use Rattle.fmp_search.specs.Answers.{Explored}
+use Rattle.fmp_search.specs.Growth.{AreBefore}
 use Rattle.fmp_search.proofs.exploring.explore.Given as goal
 
 abbrev pub invariant-loop-depth : goal.invariant-loop-depth
@@ -11,3 +12,5 @@ invariant-loop-depth g l =
     × (g.W.Space.origin l.walker ≡ q)
     × (g.W.Space.origin l.base ≡ q)
     × (g.W.Space.origin l.other ≡ q)
+    × AreBefore nodes l.begin 0
+    × (l.store.most ≡ l.fn.most)

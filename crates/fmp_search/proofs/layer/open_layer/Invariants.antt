@@ -1,5 +1,6 @@
 use Rattle.std.proofs.Common.{◌≡◌}
 use Rattle.fmp_search.specs.Answers.{Explored}
+use Rattle.fmp_search.specs.Growth.{AreBefore}
 use Rattle.fmp_search.proofs.layer.open_layer.Given as goal
 
 abbrev pub invariant-loop-at : goal.invariant-loop-at
@@ -9,3 +10,5 @@ invariant-loop-at g l =
     × (g.W.Space.origin l.walker ≡ q)
     × (g.W.Space.origin l.base ≡ q)
     × (g.W.Space.origin l.other ≡ q)
+    × AreBefore l.store.nodes.items l.at 0
+    × (l.store.most ≡ l.fn.store.most)

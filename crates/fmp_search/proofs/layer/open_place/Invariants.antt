@@ -1,6 +1,6 @@
 use Rattle.std.proofs.Common.{◌≡◌}
 use Rattle.fmp_search.specs.Answers.{Explored}
-use Rattle.fmp_search.specs.Growth.{Extends, AreTried}
+use Rattle.fmp_search.specs.Growth.{Extends, AreTried, AreBefore}
 use Rattle.fmp_search.proofs.layer.open_place.Given as goal
 
 abbrev pub invariant-loop-step : goal.invariant-loop-step
@@ -14,3 +14,5 @@ invariant-loop-step g l =
     × (g.W.Space.origin l.walker ≡ q)
     × (g.W.Space.origin l.base ≡ q)
     × (g.W.Space.origin l.other ≡ q)
+    × AreBefore nodes l.fn.at l.step
+    × (l.store.most ≡ l.fn.store.most)

@@ -1,6 +1,9 @@
 use Rattle.std.proofs.Common.{ℕ, ◌+◌, ◌≤◌, Bool, true, List, [], ◌∷◌, ◌++◌, Option, Some, subst, arith, ◌≡◌, ◌∙◌, length, refl, sym}
 use Rattle.std.proofs.lemmas.Grind.{common_steps}
+use Rattle.fmp_search.specs.declared.nodes.Node.{Node}
 use Rattle.fmp_search.specs.Runs.{Goes}
+use Rattle.fmp_search.specs.Growth.{AreBefore}
+use Rattle.fmp_search.proofs.Apart.{before_more}
 use Rattle.fmp_search.proofs.Trees.{made}
 use Rattle.fmp_search.proofs.Layers.{is-shortest}
 use Rattle.fmp_search.proofs.Growth.{stepped, leads_there, depth_there, step_there}
@@ -47,4 +50,8 @@ returns-clause-steps g c =
     let q = g.W.Space.origin c.args.walker.now in
     let step = step_there after q _ (g.W.Space.place c.go.new.self) _ c.args.store.now.nodes.items c.args.at c.args.step (c.in_ok-copy_from.ensures.there ∙ c.requires.base) refl (went after (g.W.Space.place c.copy_from.new.self) (g.W.Space.place c.go.new.self) c.args.step c.in_ok-made.made c.in_ok-made.ensures.goes c.if-not-made.false) in
     stepped after q wanted c.args.store.now.nodes.items _ c.args.front.depth c.args.front.end c.args.at _ (g.W.Space.place c.go.new.self) c.requires.explored c.requires.place refl
-    step (sym c.if-is_wanted.ensures) c.in_ok-push-2.ensures
+    step (sym c.if-is_wanted.ensures) c.in_ok-push-2.ensures.more
+
+pub returns-clause-fills : goal.returns-clause-fills
+returns-clause-fills g c =
+    subst (λ (ns : List Node). AreBefore ns c.args.at (c.args.step + 1)) (sym c.in_ok-push-2.ensures.more) (before_more c.args.store.now.nodes.items _ c.requires.before)

@@ -1,12 +1,7 @@
-use Rattle.fmp_wave.specs.Changes.{tasks_changes}
-use Rattle.fmp_wave.proofs.Changed.{no_task_changed, task_changed}
-use Rattle.fmp_wave.proofs.Counted.{nothing}
+use Rattle.std.proofs.Common.{length}
+use Rattle.fmp_wave.proofs.Unchanged.{no_tasks_lines}
 use Rattle.fmp_wave.proofs.changes.put_tasks_changes.Goals as goal
 
-pub loop-index-init : goal.loop-index-init
-loop-index-init c = nothing (tasks_changes c.args.old.now c.args.new.now) c.args.out.now.items (no_task_changed c.args.old.now c.args.new.now)
-
-pub loop-index-preserved : goal.loop-index-preserved
-loop-index-preserved c =
-    task_changed c.args.old.now c.args.new.now c.loop-index.index _ _ _ c.args.out.now.items c.loop-index.out.items _
-    c.from_index-t.ensures.value c.task.ensures c.task-in-loop-index.ensures c.loop-index.invariant c.in_ok-put_state_change.ensures
+pub returns-then-has_same_tasks : goal.returns-then-has_same_tasks
+returns-then-has_same_tasks c =
+    no_tasks_lines c.args.old.now c.args.new.now (length c.args.new.now.tasks) c.args.out.now.items (c.has_same_tasks.ensures c.if-has_same_tasks.true)

@@ -11,4 +11,4 @@ explore-requires-clause-origins c =
     (ap origin_of (c.in_ok-base.ensures ∙ sym c.in_ok-walker.ensures), ap origin_of (c.in_ok-other.ensures ∙ sym c.in_ok-walker.ensures))
 
 pub returns : goal.returns
-returns c = subst (λ (w : Place). IfOk c.explore.result (λ answer. Says after is_seen w c.args.turns answer)) (ap origin_of c.in_ok-walker.ensures) c.explore.ensures
+returns c = subst (λ (w : Place). IfOk c.explore.result (λ answer. Says after is_seen w c.args.turns c.args.more answer)) (ap origin_of c.in_ok-walker.ensures) c.explore.ensures

@@ -1,8 +1,8 @@
 use Rattle.std.proofs.Common.{◌≡◌}
 use Rattle.fmp_machine.specs.World.{first}
 use Rattle.fmp_machine.specs.Arrivals.{in_order}
-use Rattle.fmp_plain_machine.specs.Groups.{is_member, precedes}
+use Rattle.fmp_plain_machine.specs.Groups.{is_member, precedes, rule_of}
 use Rattle.fmp_plain_machine.proofs.machine.PlainMachine.first_of.Given as goal
 
 abbrev pub invariant-loop-index : goal.invariant-loop-index
-invariant-loop-index l = l.best ≡ first (in_order (is_member l.self l.group) (precedes l.self l.group) l.index)
+invariant-loop-index l = l.best ≡ first (in_order (is_member l.self l.group) (precedes l.self (rule_of l.group)) l.index)

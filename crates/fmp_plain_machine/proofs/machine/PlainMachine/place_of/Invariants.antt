@@ -6,4 +6,4 @@ use Rattle.fmp_plain_machine.proofs.machine.PlainMachine.place_of.Given as goal
 -- the task comes before none of those that were passed
 abbrev pub invariant-loop-index : goal.invariant-loop-index
 invariant-loop-index l =
-    take l.index l.list ++ inserted (precedes l.self l.group) l.t (drop l.index l.list) ≡ inserted (precedes l.self l.group) l.t l.list
+    take l.index l.list ++ inserted (precedes l.self l.rule) l.t (drop l.index l.list) ≡ inserted (precedes l.self l.rule) l.t l.list

@@ -2,6 +2,7 @@ use Rattle.std.proofs.Common.{◌≡◌, refl, sym, ap, ◌∙◌}
 use Rattle.fmp_machine.specs.World.{item, no_task}
 use Rattle.fmp_plain_machine.specs.Tops.{rank_of}
 use Rattle.fmp_plain_machine.proofs.Raised.{set_renewed}
+use Rattle.fmp_plain_machine.proofs.Signed.{signed}
 use Rattle.fmp_plain_machine.proofs.SameTops.{same_tops}
 use Rattle.fmp_plain_machine.proofs.tops.Tasks.set.Goals as goal
 
@@ -9,11 +10,15 @@ pub invariant_of-self-else-not-same : goal.invariant_of-self-else-not-same
 invariant_of-self-else-not-same c =
     let records = c.self.inside.records.items in
     let was : c.record.result ≡ item no_task records c.args.t.number = rw (← c.self.view_is) at c.record.ensures in
-    let same : rank_of (item no_task records c.args.t.number) ≡ rank_of c.args.changed = ap rank_of (sym was) ∙ c.if-not-same.ensures refl in
-    rw c.write.ensures (same_tops records c.args.t c.args.changed same c.self.inside.ready.items c.self.inside.tops c.self.invariant)
+    let same : rank_of (item no_task records c.args.t.number) ≡ rank_of c.args.changed = ap rank_of (sym was) ∙ c.if-not-same.ensures refl in (
+      rw c.write.ensures (same_tops records c.args.t c.args.changed same c.self.inside.ready.items c.self.inside.tops c.self.invariant.0),
+      signed _ _ _ _ _ _ c.args.t c.args.changed c.self.invariant.1 c.write.ensures c.note.ensures.kinds c.note.ensures.places,
+    )
 
 pub invariant_of-self : goal.invariant_of-self
-invariant_of-self c =
-    set_renewed c.self.inside.records.items c.self.inside.ready.items c.args.t c.args.changed c.self.inside.tops c.self.invariant
-    c.write.new.records.items c.renew.ensures.few c.write.ensures c.renew.new.tops c.is_top-was_top.result c.is_top-was_top.ensures
-    c.renew.ensures.walked c.renew.ensures.raised
+invariant_of-self c = (
+  set_renewed c.self.inside.records.items c.self.inside.ready.items c.args.t c.args.changed c.self.inside.tops c.self.invariant.0
+      c.write.new.records.items c.renew.ensures.few c.write.ensures c.renew.new.tops c.is_top-was_top.result c.is_top-was_top.ensures
+      c.renew.ensures.walked c.renew.ensures.raised,
+  signed _ _ _ _ _ _ c.args.t c.args.changed c.self.invariant.1 c.write.ensures c.note.ensures.kinds c.note.ensures.places,
+)

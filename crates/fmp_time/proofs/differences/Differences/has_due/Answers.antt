@@ -1,7 +1,7 @@
 use Rattle.std.proofs.Common.{◌≡◌, ℕ, false, Some, nat_eq, sym, ap, ◌∙◌, arith, ⊎_elim}
 use Rattle.std.specs.Option.{option_eq}
 use Rattle.std.proofs.lemmas.Bool.{cases_eq}
-use Rattle.fmp_time.specs.Differences.{list_at, ticks_in}
+use Rattle.fmp_time.specs.Differences.{entries_at, ticks_in}
 use Rattle.fmp_time.proofs.Dues.{begins_over, all_later, none_over}
 use Rattle.fmp_time.proofs.differences.Differences.has_due.Goals as goal
 
@@ -12,7 +12,7 @@ loop-list-preserved c =
     let later : option_eq nat_eq c.next.result (Some 0) ≡ false = sym c.eq.ensures ∙ c.if-eq.false in
     record {
       later = λ j l k m e. ⊎_elim
-          (λ (f : j ≡ i). all_later (list_at q i) c.next.result c.next.ensures.value later c.next.ensures.least k m (ap (λ (n : ℕ). ticks_in (list_at c.args.self.now n) k) (sym f) ∙ e))
+          (λ (f : j ≡ i). all_later (entries_at q i) c.next.result c.next.ensures.value later c.next.ensures.least k m (ap (λ (n : ℕ). ticks_in (entries_at c.args.self.now n) k) (sym f) ∙ e))
           (λ (f : j ≡ i → ⊥). c.loop-list.invariant.later j (omega (arith, l, f)) k m e)
           (cases_eq j i);
       count = λ l. c.next.ensures.disjoint.count;

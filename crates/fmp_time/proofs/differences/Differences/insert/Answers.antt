@@ -2,7 +2,7 @@ use Rattle.std.proofs.Common.{List, length, sym, ap, ◌∙◌, arith, rules}
 use Rattle.std.specs.Prelude.{slice_index, slice_set}
 use Rattle.std.proofs.lemmas.List.{length-map}
 use Rattle.fmp_links.specs.Lists as links
-use Rattle.fmp_time.specs.Differences.{Entry, list_at, has_entry, sorted_in, entries_from, entries_of}
+use Rattle.fmp_time.specs.Differences.{Entry, entries_at, has_entry, sorted_in, entries_from, entries_of}
 use Rattle.fmp_time.proofs.Sums.{spot_there, spot_less}
 use Rattle.fmp_time.proofs.Entries.{has_entry-entries_of, some_summed, some_entries, none_summed, none_entries}
 use Rattle.fmp_time.proofs.differences.Differences.insert.Goals as goal
@@ -37,7 +37,7 @@ insert_before-requires c =
             there,
             (
               c.requires.item_in,
-              (λ i. sym (has_entry-entries_of c.self.inside.more c.self.inside.links c.args.item i) ∙ ap (λ (q : List (List Entry)). has_entry c.args.item (list_at q i)) c.self.view_is ∙ c.requires.nowhere i),
+              (λ i. sym (has_entry-entries_of c.self.inside.more c.self.inside.links c.args.item i) ∙ ap (λ (q : List (List Entry)). has_entry c.args.item (entries_at q i)) c.self.view_is ∙ c.requires.nowhere i),
             ),
           ),
         ),
@@ -51,7 +51,7 @@ push_last-requires c = (
     c.requires.list_in,
     (
       c.requires.item_in,
-      (λ i. sym (has_entry-entries_of c.self.inside.more c.self.inside.links c.args.item i) ∙ ap (λ (q : List (List Entry)). has_entry c.args.item (list_at q i)) c.self.view_is ∙ c.requires.nowhere i),
+      (λ i. sym (has_entry-entries_of c.self.inside.more c.self.inside.links c.args.item i) ∙ ap (λ (q : List (List Entry)). has_entry c.args.item (entries_at q i)) c.self.view_is ∙ c.requires.nowhere i),
     ),
   ),
 )
@@ -60,7 +60,7 @@ pub invariant_of-self : goal.invariant_of-self
 invariant_of-self c =
     rw c.insert_before.ensures (some_summed c.self.inside.more c.self.inside.links c.args.list c.args.item c.in-Some.behind c.args.ticks c.spot-behind.result.1 c.self.invariant
     c.spot-behind.ensures.disjoint c.self.told c.requires.list_in c.requires.item_in
-    (λ i. sym (has_entry-entries_of c.self.inside.more c.self.inside.links c.args.item i) ∙ ap (λ (q : List (List Entry)). has_entry c.args.item (list_at q i)) c.self.view_is ∙ c.requires.nowhere i)
+    (λ i. sym (has_entry-entries_of c.self.inside.more c.self.inside.links c.args.item i) ∙ ap (λ (q : List (List Entry)). has_entry c.args.item (entries_at q i)) c.self.view_is ∙ c.requires.nowhere i)
     (sym c.spot-behind.ensures.item ∙ c.in-Some.is) c.spot-behind.ensures.rest)
 
 pub returns-in-Some-clause-entries : goal.returns-in-Some-clause-entries
@@ -68,15 +68,15 @@ returns-in-Some-clause-entries c =
     ap (entries_of _) c.insert_before.ensures
     ∙ some_entries c.self.inside.more c.self.inside.links c.args.list c.args.item c.in-Some.behind c.args.ticks c.spot-behind.result.1 c.self.invariant
     c.spot-behind.ensures.disjoint c.self.told c.requires.list_in c.requires.item_in
-    (λ i. sym (has_entry-entries_of c.self.inside.more c.self.inside.links c.args.item i) ∙ ap (λ (q : List (List Entry)). has_entry c.args.item (list_at q i)) c.self.view_is ∙ c.requires.nowhere i)
+    (λ i. sym (has_entry-entries_of c.self.inside.more c.self.inside.links c.args.item i) ∙ ap (λ (q : List (List Entry)). has_entry c.args.item (entries_at q i)) c.self.view_is ∙ c.requires.nowhere i)
     (sym c.spot-behind.ensures.item ∙ c.in-Some.is) c.spot-behind.ensures.rest
-    ∙ ap (λ (q : List (List Entry)). slice_set q c.args.list (sorted_in c.args.item c.args.ticks (list_at q c.args.list))) c.self.view_is
+    ∙ ap (λ (q : List (List Entry)). slice_set q c.args.list (sorted_in c.args.item c.args.ticks (entries_at q c.args.list))) c.self.view_is
 
 pub invariant_of-self-in-None : goal.invariant_of-self-in-None
 invariant_of-self-in-None c =
     rw c.push_last.ensures (none_summed c.self.inside.more c.self.inside.links c.args.list c.args.item c.args.ticks c.spot-behind.result.1 c.self.invariant
     c.self.told c.requires.list_in c.requires.item_in c.ranges.ticks.fits
-    (λ i. sym (has_entry-entries_of c.self.inside.more c.self.inside.links c.args.item i) ∙ ap (λ (q : List (List Entry)). has_entry c.args.item (list_at q i)) c.self.view_is ∙ c.requires.nowhere i)
+    (λ i. sym (has_entry-entries_of c.self.inside.more c.self.inside.links c.args.item i) ∙ ap (λ (q : List (List Entry)). has_entry c.args.item (entries_at q i)) c.self.view_is ∙ c.requires.nowhere i)
     (sym c.spot-behind.ensures.item ∙ c.in-None.is) c.spot-behind.ensures.rest)
 
 pub returns-in-None-clause-entries : goal.returns-in-None-clause-entries
@@ -84,9 +84,9 @@ returns-in-None-clause-entries c =
     ap (entries_of _) c.push_last.ensures
     ∙ none_entries c.self.inside.more c.self.inside.links c.args.list c.args.item c.args.ticks c.spot-behind.result.1 c.self.invariant
     c.self.told c.requires.list_in c.requires.item_in
-    (λ i. sym (has_entry-entries_of c.self.inside.more c.self.inside.links c.args.item i) ∙ ap (λ (q : List (List Entry)). has_entry c.args.item (list_at q i)) c.self.view_is ∙ c.requires.nowhere i)
+    (λ i. sym (has_entry-entries_of c.self.inside.more c.self.inside.links c.args.item i) ∙ ap (λ (q : List (List Entry)). has_entry c.args.item (entries_at q i)) c.self.view_is ∙ c.requires.nowhere i)
     (sym c.spot-behind.ensures.item ∙ c.in-None.is) c.spot-behind.ensures.rest
-    ∙ ap (λ (q : List (List Entry)). slice_set q c.args.list (sorted_in c.args.item c.args.ticks (list_at q c.args.list))) c.self.view_is
+    ∙ ap (λ (q : List (List Entry)). slice_set q c.args.list (sorted_in c.args.item c.args.ticks (entries_at q c.args.list))) c.self.view_is
 
 pub returns-in-Some-clause-count : goal.returns-in-Some-clause-count
 returns-in-Some-clause-count c = ap length (sym c.self.view_is) ∙ length-map c.self.inside.links (entries_from (slice_index c.self.inside.more) 0) ∙ c.self.invariant.count

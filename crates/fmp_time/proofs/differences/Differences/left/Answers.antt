@@ -3,7 +3,7 @@ use Rattle.std.specs.Option.{option_map}
 use Rattle.std.proofs.lemmas.Bool.{eq-eqb}
 use Rattle.fmp_links.specs.Lists as links
 use Rattle.fmp_links.proofs.Soundness.{list_in}
-use Rattle.fmp_time.specs.Differences.{Entry, list_at, ticks_in}
+use Rattle.fmp_time.specs.Differences.{Entry, entries_at, ticks_in}
 use Rattle.fmp_time.specs.Left.{ticks_of}
 use Rattle.fmp_time.proofs.Entries.{list_at-entries_of}
 use Rattle.fmp_time.proofs.Found.{place_entry, left_none, left_some}
@@ -27,5 +27,5 @@ pub returns : goal.returns
 returns c =
     sym (ap (option_map ticks_of) (left_some c.args.self.now c.args.item c.in_ok-list.list c.ticks_at.result
     (place_entry c.self.inside.more c.self.inside.links c.args.self.now c.args.item (Some c.in_ok-list.list) c.self.view_is c.in_ok-list.ensures)
-    (ap (λ (q : List (List Entry)). ticks_in (list_at q c.in_ok-list.list) c.args.item) (sym c.self.view_is)
+    (ap (λ (q : List (List Entry)). ticks_in (entries_at q c.in_ok-list.list) c.args.item) (sym c.self.view_is)
     ∙ ap (λ (es : List Entry). ticks_in es c.args.item) (list_at-entries_of c.self.inside.more c.self.inside.links c.in_ok-list.list) ∙ c.ticks_at.ensures)))

@@ -1,6 +1,6 @@
 use Rattle.std.proofs.Common.{List, sym, ap, subst, ◌∙◌, arith}
 use Rattle.std.specs.Prelude.{slice_set}
-use Rattle.fmp_time.specs.Differences.{Entry, list_at, lowered}
+use Rattle.fmp_time.specs.Differences.{Entry, entries_at, lowered}
 use Rattle.fmp_time.specs.Left.{AreDisjoint}
 use Rattle.fmp_time.proofs.Expiring.{small, positive, lower_entries, lower_summed, idle_entries}
 use Rattle.fmp_time.proofs.Found.{disjoint-entries_of}
@@ -30,7 +30,7 @@ invariant_of-self c =
 pub returns-in-Some-clause-entries : goal.returns-in-Some-clause-entries
 returns-in-Some-clause-entries c =
     lower_entries c.self.inside.more c.self.inside.links c.args.list c.in-Some.item c.self.invariant c.adding.ensures.disjoint c.self.told c.requires (sym c.adding.ensures.value ∙ c.in-Some.is)
-    ∙ ap (λ (q : List (List Entry)). slice_set q c.args.list (lowered (list_at q c.args.list))) c.self.view_is
+    ∙ ap (λ (q : List (List Entry)). slice_set q c.args.list (lowered (entries_at q c.args.list))) c.self.view_is
 
 pub returns-in-Some-clause-disjoint : goal.returns-in-Some-clause-disjoint
 returns-in-Some-clause-disjoint c = subst AreDisjoint c.self.view_is (disjoint-entries_of c.self.inside.more c.self.inside.links c.self.invariant.count c.adding.ensures.disjoint)
@@ -38,7 +38,7 @@ returns-in-Some-clause-disjoint c = subst AreDisjoint c.self.view_is (disjoint-e
 pub returns-in_default-clause-entries : goal.returns-in_default-clause-entries
 returns-in_default-clause-entries c =
     sym c.self.view_is ∙ idle_entries c.self.inside.more c.self.inside.links c.args.list (sym c.adding.ensures.value ∙ c.in_default.is)
-    ∙ ap (λ (q : List (List Entry)). slice_set q c.args.list (lowered (list_at q c.args.list))) c.self.view_is
+    ∙ ap (λ (q : List (List Entry)). slice_set q c.args.list (lowered (entries_at q c.args.list))) c.self.view_is
 
 pub returns-in_default-clause-disjoint : goal.returns-in_default-clause-disjoint
 returns-in_default-clause-disjoint c = subst AreDisjoint c.self.view_is (disjoint-entries_of c.self.inside.more c.self.inside.links c.self.invariant.count c.adding.ensures.disjoint)

@@ -3,7 +3,7 @@ use Rattle.std.specs.List.{list_any}
 use Rattle.std.proofs.lemmas.List.{get_or-replicate, take_all}
 use Rattle.std.proofs.lemmas.List.Folds.{list_any_more}
 use Rattle.fmp_links.specs.Lists.{has}
-use Rattle.fmp_time.specs.Differences.{Entry, list_at, due, items_of}
+use Rattle.fmp_time.specs.Differences.{Entry, entries_at, due, items_of}
 use Rattle.fmp_time.specs.Left.{AreDisjoint}
 use Rattle.fmp_time.proofs.Found.{disjoint-entries_of}
 use Rattle.fmp_time.proofs.Lefts.{over-left}
@@ -21,7 +21,7 @@ loop-list-preserved c =
     record {
       marks = λ k h. c.mark_zeros.ensures.marks k h
           ∙ ap (λ (b : Bool). get_or c.loop-list.marks k false || b) (zeros_at c.self.inside.more c.self.inside.links now i k c.self.view_is)
-          ∙ ap (λ (b : Bool). b || has k (items_of (due (list_at c.args.self.now c.loop-list.list)))) (c.loop-list.invariant.marks k h)
+          ∙ ap (λ (b : Bool). b || has k (items_of (due (entries_at c.args.self.now c.loop-list.list)))) (c.loop-list.invariant.marks k h)
           ∙ sym (list_any_more (λ (es : List Entry). has k (items_of (due es))) now i [] (omega (arith, c.loop-list-test.true, apart.count)));
       disjoint = λ l. apart;
     }

@@ -2,7 +2,7 @@ use Rattle.std.proofs.Common.{Some, List, sym, ap, subst, ◌∙◌, arith}
 use Rattle.std.specs.Prelude.{slice_index}
 use Rattle.fmp_links.specs.Lists as links
 use Rattle.fmp_links.proofs.Soundness.{first_there}
-use Rattle.fmp_time.specs.Differences.{Entry, list_at, least_of, IsLeastIn}
+use Rattle.fmp_time.specs.Differences.{Entry, entries_at, least_of, IsLeastIn}
 use Rattle.fmp_time.specs.Left.{AreDisjoint}
 use Rattle.fmp_time.proofs.Entries.{list_at-entries_of}
 use Rattle.fmp_time.proofs.Reading.{least_some, least_none}
@@ -20,17 +20,17 @@ bounds-self-inside-item c = c.first.ensures.disjoint.small c.args.list c.in_ok-i
 pub returns-in_err-item : goal.returns-in_err-item
 returns-in_err-item c = record {
   value = c.from_residual.ensures ∙ sym (least_none (slice_index c.self.inside.more) (links.list_at c.self.inside.links c.args.list) (sym c.in_err-item.ensures.value))
-      ∙ ap least_of (sym (list_at-entries_of c.self.inside.more c.self.inside.links c.args.list)) ∙ ap (λ (q : List (List Entry)). least_of (list_at q c.args.list)) c.self.view_is;
-  least = subst (IsLeastIn (list_at c.args.self.now c.args.list)) (sym c.from_residual.ensures) tt;
+      ∙ ap least_of (sym (list_at-entries_of c.self.inside.more c.self.inside.links c.args.list)) ∙ ap (λ (q : List (List Entry)). least_of (entries_at q c.args.list)) c.self.view_is;
+  least = subst (IsLeastIn (entries_at c.args.self.now c.args.list)) (sym c.from_residual.ensures) tt;
   disjoint = subst AreDisjoint c.self.view_is (disjoint-entries_of c.self.inside.more c.self.inside.links c.self.invariant.count c.first.ensures.disjoint);
 }
 
 pub returns : goal.returns
 returns c = record {
   value = sym (least_some (slice_index c.self.inside.more) (links.list_at c.self.inside.links c.args.list) c.in_ok-item.item (sym c.in_ok-item.ensures.value))
-      ∙ ap least_of (sym (list_at-entries_of c.self.inside.more c.self.inside.links c.args.list)) ∙ ap (λ (q : List (List Entry)). least_of (list_at q c.args.list)) c.self.view_is;
+      ∙ ap least_of (sym (list_at-entries_of c.self.inside.more c.self.inside.links c.args.list)) ∙ ap (λ (q : List (List Entry)). least_of (entries_at q c.args.list)) c.self.view_is;
   least = subst (λ (es : List Entry). IsLeastIn es (Some (slice_index c.self.inside.more c.in_ok-item.item)))
-      (sym (list_at-entries_of c.self.inside.more c.self.inside.links c.args.list) ∙ ap (λ (q : List (List Entry)). list_at q c.args.list) c.self.view_is)
+      (sym (list_at-entries_of c.self.inside.more c.self.inside.links c.args.list) ∙ ap (λ (q : List (List Entry)). entries_at q c.args.list) c.self.view_is)
       (least_first (slice_index c.self.inside.more) (links.list_at c.self.inside.links c.args.list) c.in_ok-item.item (sym c.in_ok-item.ensures.value));
   disjoint = subst AreDisjoint c.self.view_is (disjoint-entries_of c.self.inside.more c.self.inside.links c.self.invariant.count c.first.ensures.disjoint);
 }

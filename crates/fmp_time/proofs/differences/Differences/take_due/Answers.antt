@@ -2,7 +2,7 @@ use Rattle.std.proofs.Common.{◌≡◌, List, [], sym, ap, ◌∙◌, arith}
 use Rattle.std.specs.Prelude.{slice_set}
 use Rattle.std.proofs.lemmas.List.{set-get_or}
 use Rattle.fmp_links.proofs.Soundness.{first_there}
-use Rattle.fmp_time.specs.Differences.{Entry, list_at, due, not_due, entries_of, items_of, items_given}
+use Rattle.fmp_time.specs.Differences.{Entry, entries_at, due, not_due, entries_of, items_of, items_given}
 use Rattle.fmp_time.proofs.Expiring.{rest_entries, rest_summed, rest_due, quiet_entries, quiet_due, empty_is}
 use Rattle.fmp_time.proofs.differences.Differences.take_due.Goals as goal
 
@@ -16,8 +16,8 @@ bounds-self-inside-first c = c.first.ensures.disjoint.small c.args.list c.in_ok-
 
 pub returns-in_err-first : goal.returns-in_err-first
 returns-in_err-first c =
-    let empty : list_at c.args.self.now c.args.list ≡ [] =
-    ap (λ (q : List (List Entry)). list_at q c.args.list) (sym c.self.view_is) ∙ empty_is c.self.inside.more c.self.inside.links c.args.list (sym c.in_err-first.ensures.value) in
+    let empty : entries_at c.args.self.now c.args.list ≡ [] =
+    ap (λ (q : List (List Entry)). entries_at q c.args.list) (sym c.self.view_is) ∙ empty_is c.self.inside.more c.self.inside.links c.args.list (sym c.in_err-first.ensures.value) in
     record {
       entries = sym (ap (λ (es : List Entry). slice_set c.args.self.now c.args.list (not_due es)) empty ∙ ap (slice_set c.args.self.now c.args.list) (sym empty)
           ∙ set-get_or c.args.self.now c.args.list []);
@@ -27,12 +27,12 @@ returns-in_err-first c =
 pub returns-then-self-first-gt0-clause-entries : goal.returns-then-self-first-gt0-clause-entries
 returns-then-self-first-gt0-clause-entries c =
     sym c.self.view_is ∙ quiet_entries c.self.inside.more c.self.inside.links c.args.list c.self.invariant c.requires c.in_ok-first.first (sym c.in_ok-first.ensures.value) c.if-self-first-gt0.true
-    ∙ ap (λ (q : List (List Entry)). slice_set q c.args.list (not_due (list_at q c.args.list))) c.self.view_is
+    ∙ ap (λ (q : List (List Entry)). slice_set q c.args.list (not_due (entries_at q c.args.list))) c.self.view_is
 
 pub returns-then-self-first-gt0-clause-due : goal.returns-then-self-first-gt0-clause-due
 returns-then-self-first-gt0-clause-due c =
     quiet_due c.self.inside.more c.self.inside.links c.args.list c.self.invariant c.requires c.in_ok-first.first (sym c.in_ok-first.ensures.value) c.if-self-first-gt0.true
-    ∙ ap (λ (q : List (List Entry)). items_of (due (list_at q c.args.list))) c.self.view_is
+    ∙ ap (λ (q : List (List Entry)). items_of (due (entries_at q c.args.list))) c.self.view_is
 
 pub invariant_of-self : goal.invariant_of-self
 invariant_of-self c = rw c.expire.ensures.lists (rest_summed c.self.inside.more c.self.inside.links c.args.list c.self.invariant c.requires)
@@ -40,9 +40,9 @@ invariant_of-self c = rw c.expire.ensures.lists (rest_summed c.self.inside.more 
 pub returns-clause-entries : goal.returns-clause-entries
 returns-clause-entries c =
     ap (entries_of _) c.expire.ensures.lists ∙ rest_entries c.self.inside.more c.self.inside.links c.args.list c.self.invariant c.requires
-    ∙ ap (λ (q : List (List Entry)). slice_set q c.args.list (not_due (list_at q c.args.list))) c.self.view_is
+    ∙ ap (λ (q : List (List Entry)). slice_set q c.args.list (not_due (entries_at q c.args.list))) c.self.view_is
 
 pub returns-clause-due : goal.returns-clause-due
 returns-clause-due c =
     c.expire.ensures.items ∙ rest_due c.self.inside.more c.self.inside.links c.args.list c.self.invariant c.requires
-    ∙ ap (λ (q : List (List Entry)). items_of (due (list_at q c.args.list))) c.self.view_is
+    ∙ ap (λ (q : List (List Entry)). items_of (due (entries_at q c.args.list))) c.self.view_is

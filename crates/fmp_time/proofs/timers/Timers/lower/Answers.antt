@@ -1,6 +1,6 @@
 use Rattle.std.proofs.Common.{◌≡◌, ℕ, List, sym, ap, subst, ◌∙◌}
 use Rattle.std.specs.Prelude.{slice_set}
-use Rattle.fmp_time.specs.Differences.{Entry, list_at, lowered}
+use Rattle.fmp_time.specs.Differences.{Entry, entries_at, lowered}
 use Rattle.fmp_time.specs.Left.{left_in}
 use Rattle.fmp_time.specs.Times as times
 use Rattle.fmp_time.specs.Times.{Times, AreWaits}
@@ -14,7 +14,7 @@ use Rattle.fmp_time.proofs.timers.Timers.lower.Goals.{After-lower}
 shown : (c : After-lower) → times_of c.lower.new.self c.self.inside.waits ≡ times.lowered (times_of c.self.inside.differences c.self.inside.waits) c.args.processor
 shown c =
     let q = c.self.inside.differences in
-    ap (λ (r : List (List Entry)). times_of r c.self.inside.waits) (c.lower.ensures.entries ∙ ap (λ (i : ℕ). slice_set q i (lowered (list_at q i))) c.index.ensures.value)
+    ap (λ (r : List (List Entry)). times_of r c.self.inside.waits) (c.lower.ensures.entries ∙ ap (λ (i : ℕ). slice_set q i (lowered (entries_at q i))) c.index.ensures.value)
     ∙ lowered_is q c.self.inside.waits c.args.processor c.lower.ensures.disjoint
 
 pub invariant_of-self : goal.invariant_of-self

@@ -1,5 +1,5 @@
 use Rattle.std.proofs.Common.{ℕ, ap, subst, ◌∙◌}
-use Rattle.fmp_time.specs.Differences.{list_at, least_of, IsLeastIn}
+use Rattle.fmp_time.specs.Differences.{entries_at, least_of, IsLeastIn}
 use Rattle.fmp_time.specs.Times.{Times, IsLeastOn}
 use Rattle.fmp_time.proofs.Effects.{least_is}
 use Rattle.fmp_time.proofs.timers.Timers.next.Goals as goal
@@ -10,5 +10,5 @@ returns-clause-least c =
     let r = c.next.result in
     subst (λ (m : Times). IsLeastOn m c.args.processor r) c.self.view_is
     (least_is q c.self.inside.waits c.args.processor r c.next.ensures.disjoint
-    (c.next.ensures.value ∙ ap (λ (i : ℕ). least_of (list_at q i)) c.index.ensures.value)
-    (subst (λ (i : ℕ). IsLeastIn (list_at q i) r) c.index.ensures.value c.next.ensures.least))
+    (c.next.ensures.value ∙ ap (λ (i : ℕ). least_of (entries_at q i)) c.index.ensures.value)
+    (subst (λ (i : ℕ). IsLeastIn (entries_at q i) r) c.index.ensures.value c.next.ensures.least))

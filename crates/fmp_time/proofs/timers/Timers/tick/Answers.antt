@@ -2,7 +2,7 @@ use Rattle.std.proofs.Common.{◌≡◌, ℕ, ◌<◌, false, None, List, ◌++�
 use Rattle.std.specs.Prelude.{slice_index_or, slice_set}
 use Rattle.fmp_links.specs.Lists.{has}
 use Rattle.fmp_time.specs.declared.item.Item.{Item}
-use Rattle.fmp_time.specs.Differences.{list_at, lowered, due, not_due, items_of}
+use Rattle.fmp_time.specs.Differences.{entries_at, lowered, due, not_due, items_of}
 use Rattle.fmp_time.specs.Left.{left_in}
 use Rattle.fmp_time.specs.Times.{Times, is_due, marked_handlers, ticked, served, AreWaits}
 use Rattle.fmp_time.specs.Shown.{times_of}
@@ -17,14 +17,14 @@ marks : (c : After-serve_handlers) → (k : ℕ) → k < 128 →
     slice_index_or c.marks_of-marks.result k false ≡ is_due c.args.processor (slice_index_or (times_of c.self.inside.differences c.self.inside.waits).left k None)
 marks c k h =
     let q = c.self.inside.differences in
-    c.marks_of-marks.ensures k h ∙ ap (has k) (c.as_slice.ensures.value ∙ c.in-Some.ensures.due ∙ ap (λ (i : ℕ). items_of (due (lowered (list_at q i)))) c.index.ensures.value)
+    c.marks_of-marks.ensures k h ∙ ap (has k) (c.as_slice.ensures.value ∙ c.in-Some.ensures.due ∙ ap (λ (i : ℕ). items_of (due (lowered (entries_at q i)))) c.index.ensures.value)
     ∙ sym (due_where q c.self.inside.waits c.args.processor c.tick.ensures.disjoint k h)
 
 shown : (c : After-serve_handlers) → times_of c.tick.new.self c.serve_waits-items.new.waits ≡ ticked (times_of c.self.inside.differences c.self.inside.waits) c.args.processor
 shown c =
     let q = c.self.inside.differences in
     ticked_is q c.tick.new.self c.self.inside.waits c.serve_waits-items.new.waits c.args.processor c.tick.ensures.disjoint
-    (c.tick.ensures.entries ∙ ap (λ (i : ℕ). slice_set q i (not_due (lowered (list_at q i)))) c.index.ensures.value)
+    (c.tick.ensures.entries ∙ ap (λ (i : ℕ). slice_set q i (not_due (lowered (entries_at q i)))) c.index.ensures.value)
     (c.serve_waits-items.ensures.waits ∙ waits_kept (times_of q c.self.inside.waits) c.args.processor c.marks_of-marks.result (marks c))
 
 pub invariant_of-self : goal.invariant_of-self
@@ -45,13 +45,13 @@ quiet : (c : After-new) → (k : ℕ) → k < 128 → is_due c.args.processor (s
 quiet c k h =
     let q = c.self.inside.differences in
     due_where q c.self.inside.waits c.args.processor c.tick.ensures.disjoint k h
-    ∙ ap (has k) (sym (c.in-None.ensures.due ∙ ap (λ (i : ℕ). items_of (due (lowered (list_at q i)))) c.index.ensures.value))
+    ∙ ap (has k) (sym (c.in-None.ensures.due ∙ ap (λ (i : ℕ). items_of (due (lowered (entries_at q i)))) c.index.ensures.value))
 
 still : (c : After-new) → times_of c.tick.new.self c.self.inside.waits ≡ ticked (times_of c.self.inside.differences c.self.inside.waits) c.args.processor
 still c =
     let q = c.self.inside.differences in
     ticked_is q c.tick.new.self c.self.inside.waits c.self.inside.waits c.args.processor c.tick.ensures.disjoint
-    (c.tick.ensures.entries ∙ ap (λ (i : ℕ). slice_set q i (not_due (lowered (list_at q i)))) c.index.ensures.value)
+    (c.tick.ensures.entries ∙ ap (λ (i : ℕ). slice_set q i (not_due (lowered (entries_at q i)))) c.index.ensures.value)
     (sym (all_kept (times_of q c.self.inside.waits) c.args.processor (quiet c)))
 
 pub invariant_of-self-in-None : goal.invariant_of-self-in-None

@@ -1,0 +1,15 @@
+use Rattle.std.proofs.Common.{◌≡◌, length, take}
+use Rattle.fmp_machine.specs.Arrivals.{numbered}
+use Rattle.fmp_machine.specs.Boot.{booted}
+use Rattle.fmp_machine.specs.Step.{answers, replay}
+use Rattle.fmp_refinement.specs.Stands.{Stands}
+use Rattle.fmp_shrink.specs.Seen.{AreSeen}
+use Rattle.fmp_shrink.proofs.showing.shows.Given as goal
+
+-- what may have been seen in the answers so far
+abbrev pub invariant-loop-event : goal.invariant-loop-event
+invariant-loop-event l = record {
+  stands : Stands l.watch.kernel (replay numbered (booted l.config) (take l.event-index l.events));
+  processors : length l.watch.kernel.processors ≡ l.config.processors;
+  seen : AreSeen l.config l.question (answers numbered (booted l.config) (take l.event-index l.events)) l.watch.numbers;
+}

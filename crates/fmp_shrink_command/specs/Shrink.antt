@@ -1,0 +1,27 @@
+-- The command line of leaving events out, and what it gives.
+use Rattle.std.specs.Prelude.{◌≡◌, List, codes}
+use Rattle.clap.specs.Words.{App, Row, Text, matches_of, new_app, one_of, with_rule}
+use Rattle.fmp_smp_command.specs.Smp.{IsFlag, path_rule}
+use Rattle.fmp_explore_command.specs.Explore.{flag_rule, text_of, wanted_rule}
+use Rattle.fmp_shrink_command.specs.declared.ShrinkRequest.{ShrinkRequest}
+
+-- the command line, as a parse reads it
+abbrev pub shrink_line : App
+shrink_line = with_rule
+    (with_rule
+    (with_rule
+    (with_rule (new_app (codes "shrink")) (path_rule (codes "CFG")))
+    (path_rule (codes "EVENTS")))
+    (wanted_rule (codes "find")))
+    (flag_rule (codes "context"))
+
+-- what clap finds in the words of that command line, by the ids of the arguments
+unfoldable pub found_in : List Text → List Row
+found_in words = matches_of shrink_line words
+
+-- the request is what was found: each of its parts is that of one id
+pub record Asks (rows : List Row) (r : ShrinkRequest) : Type 0 where
+  pub config : r.config.now ≡ text_of (codes "CFG") rows
+  pub events : r.events.now ≡ text_of (codes "EVENTS") rows
+  pub question : r.question.now ≡ text_of (codes "find") rows
+  pub context : IsFlag (one_of (codes "context") rows) r.context
