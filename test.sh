@@ -13,7 +13,7 @@ trap 'rm -rf "$room"' EXIT
 passed=0 failed=0 proved=
 
 # What is run of a program beside the cases: the function of this name, in the file of this name in tests/program.
-subjects=(examples texts_at_fault reports contexts states colours waves views lists help_texts completions command_lines paths pipes
+subjects=(examples texts_at_fault reports contexts diagnostics states lives colours waves views lists help_texts completions command_lines paths pipes
     host_tests devices_that_fail scripts seeds searches shrinking processors greatest_texts long_lines little_memory refused_growth player
     from_toppers from_log from_trace installing pages)
 
@@ -30,6 +30,12 @@ add() {
     fi
     failed=$((failed + 1))
     echo "FAILED: $1 ended with status $status, and counts no failure"
+}
+
+# A word of a test that is no command: what it was to check is not checked.
+command_not_found_handle() {
+    echo "FAILED: there is no $1" | tee -a "$room/missing"
+    return 127
 }
 
 prove() {
@@ -50,6 +56,7 @@ try() {
         # shellcheck source=/dev/null
         source "$top/tests/program/$subject.sh" && declare -F "$subject" > function && "$subject"
         [ -s function ] || count no tests/program/"$subject".sh
+        [ ! -e "$room/missing" ] || { count no tests/program/"$subject".sh '# a command that is not there'; rm "$room/missing"; }
         cd "$room" && rm -r "${room:?}/$subject"
     done
 }

@@ -4,14 +4,14 @@ _fmpsim() {
     COMPREPLY=()
     case $COMP_CWORD,${COMP_WORDS[1]},$word in
         1,*) words='calls check wave view smp explore shrink list help --help --version' ;;
-        *,calls,-*) words='--state --context --color --help' ;;
-        *,check,-*) words='--show --all --partial --context --help' ;;
-        *,wave,-*) words='--context --help' ;;
-        *,view,-*) words='--context --help' ;;
-        *,smp,-*) words='--ticks --turns --seed --context --color --help' ;;
-        *,explore,-*) words='--ticks --turns --find --prompt --drift --places --context --help' ;;
-        *,shrink,-*) words='--find --context --help' ;;
-        *,list,-*) words='--help' ;;
+        *,calls,-*) words='--state --of --context --color --help --diagnostics=gcc' ;;
+        *,check,-*) words='--show --all --partial --context --help --diagnostics=gcc' ;;
+        *,wave,-*) words='--gtkw --context --help --diagnostics=gcc' ;;
+        *,view,-*) words='--differences --context --help --diagnostics=gcc' ;;
+        *,smp,-*) words='--ticks --turns --seed --seeds --find --strict --context --color --help --diagnostics=gcc' ;;
+        *,explore,-*) words='--ticks --turns --find --prompt --drift --places --from --context --help --diagnostics=gcc' ;;
+        *,shrink,-*) words='--find --context --help --diagnostics=gcc' ;;
+        *,list,-*) words='--context --help --diagnostics=gcc' ;;
         2,help,*) words='calls check wave view smp explore shrink list help' ;;
         2,list,*) words=$("${COMP_WORDS[0]}" list 2> /dev/null | grep -oE "^[A-Za-z][A-Za-z0-9_]*") ;;
     esac

@@ -15,6 +15,11 @@ options() {
         | sed -nE 's/^ +(-[a-z], )?--([a-z]+) <([A-Z]+)> +(.*)$/\2\t\3\t\4/p; s/^ +(-[a-z], )?--([a-z]+) +(.*)$/\2\t-\t\3/p'
 }
 
+# what the option of all commands is about
+about_diagnostics() {
+    "$program" --help | sed -nE 's/^ +--diagnostics <FORM> +(.*)$/\1/p'
+}
+
 names() {
     cut -f 1 | paste -s -d ' '
 }
@@ -28,7 +33,7 @@ for_bash() {
     echo '    case $COMP_CWORD,${COMP_WORDS[1]},$word in'
     echo "        1,*) words='$(commands | names) --help --version' ;;"
     for command in $(commands | names); do
-        [ "$command" = help ] || echo "        *,$command,-*) words='$(options "$command" | sed 's/^/--/' | names)' ;;"
+        [ "$command" = help ] || echo "        *,$command,-*) words='$(options "$command" | sed 's/^/--/' | names) --diagnostics=gcc' ;;"
     done
     echo "        2,help,*) words='$(commands | names)' ;;"
     echo '        2,list,*) words=$("${COMP_WORDS[0]}" list 2> /dev/null | grep -oE "^[A-Za-z][A-Za-z0-9_]*") ;;'
@@ -44,11 +49,16 @@ for_fish() {
     while IFS=$'\t' read -r command about; do
         echo "complete -c fmpsim -n __fish_use_subcommand -f -a $command -d '$about'"
         [ "$command" = help ] || while IFS=$'\t' read -r option value about; do
-            [ "$value" = - ] && value= || value=' -x'
+            case $value in
+                -) value= ;;
+                TRACE) value=' -r' ;;
+                *) value=' -x' ;;
+            esac
             echo "complete -c fmpsim -n '__fish_seen_subcommand_from $command' -l $option$value -d '$about'"
         done < <(options "$command")
     done < <(commands)
-    echo "complete -c fmpsim -n '__fish_seen_subcommand_from list' -f -a \"(fmpsim list | string match -r '^[A-Za-z][A-Za-z0-9_]*')\""
+    echo "complete -c fmpsim -l diagnostics -x -a 'plain gcc' -d '$(about_diagnostics)'"
+    echo "complete -c fmpsim -n '__fish_seen_subcommand_from list' -a \"(fmpsim list | string match -r '^[A-Za-z][A-Za-z0-9_]*')\""
 }
 
 for_zsh() {
@@ -68,9 +78,10 @@ for_zsh() {
         [ "$command" = help ] && continue
         echo "        words,$command)"
         echo '            _arguments \'
-        options "$command" | sed -E "s/^([a-z]+)\t-\t(.*)$/                '--\1[\2]' \\\\/; s/^([a-z]+)\t([A-Z]+)\t(.*)$/                '--\1=[\3]:\2:' \\\\/"
+        options "$command" | sed -E "s/^([a-z]+)\t-\t(.*)$/                '--\1[\2]' \\\\/; s/^([a-z]+)\tTRACE\t(.*)$/                '--\1=[\2]:TRACE:_files' \\\\/; s/^([a-z]+)\t([A-Z]+)\t(.*)$/                '--\1=[\3]:\2:' \\\\/"
+        echo "                '--diagnostics=[$(about_diagnostics)]:FORM:(plain gcc)' \\"
         if [ "$command" = list ]; then
-            echo "                '1:name:(\${(f)\"\$(fmpsim list 2> /dev/null | grep -oE \"^[A-Za-z][A-Za-z0-9_]*\")\"})' ;;"
+            echo "                '1:name:{ compadd -- \${(f)\"\$(fmpsim list 2> /dev/null | grep -oE \"^[A-Za-z][A-Za-z0-9_]*\")\"}; _files }' ;;"
         else
             echo "                '*:file:_files' ;;"
         fi

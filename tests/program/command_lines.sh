@@ -47,10 +47,20 @@ refused_lines() {
 	wave machine.cfg trace.txt more
 	wave --show machine.cfg trace.txt
 	wave --partial machine.cfg trace.txt
+	wave --gtkw
+	wave --gtkw machine.cfg trace.txt
+	wave machine.cfg trace.txt --gtkw
+	wave --gtkw --gtkw machine.cfg
+	view --gtkw machine.cfg
 	view machine.cfg
 	view machine.cfg trace.txt more
 	view --all machine.cfg trace.txt
+	view --differences machine.cfg
+	view --differences --differences machine.cfg trace.txt
+	wave --differences machine.cfg trace.txt
 	list act_tsk sig_sem
+	list machine.cfg events.txt
+	list --state machine.cfg
 	smp machine.cfg scripts.txt
 	smp machine.cfg scripts.txt --ticks 0
 	smp machine.cfg scripts.txt --turns 1
@@ -77,6 +87,7 @@ refused_lines() {
         refused "${words[@]}"
     done <<- END
 	check --show=yes machine.cfg trace.txt
+	view --differences=yes machine.cfg trace.txt
 	calls --state=yes machine.cfg events.txt
 	calls --color=sometimes machine.cfg events.txt
 	smp machine.cfg scripts.txt --ticks 0 --turns 1 --color=yes
@@ -97,22 +108,10 @@ options_anywhere() {
     run 0 "$spin/trace.txt" /dev/null smp --turns 100 --seed 11 "$spin/machine.cfg" --ticks 1 "$spin/scripts.txt"
     run 0 "$spin/trace.txt" /dev/null smp --context "$spin/machine.cfg" "$spin/scripts.txt" --ticks 1 --turns 100 --seed 11
     run 0 "$late/trace.vcd" /dev/null wave --context "$late/machine.cfg" "$late/trace.txt"
-}
-
-# usage STATUS TOLD SILENT WORD..: the program on these words ends so, tells its usage in one file, and the other is empty.
-usage() {
-    local well=no
-    play "${@:4}"
-    [ $? = "$1" ] && grep -q '^Usage: fmpsim' "$2" && [ ! -s "$3" ] && well=yes
-    count "$well" "${@:4}"
-}
-
-# refused WORD..: the program refuses these words, tells why on standard error, and does nothing.
-refused() {
-    local well=no
-    play "$@"
-    [ $? = 2 ] && [ -s errors ] && [ ! -s output ] && well=yes
-    count "$well" "$@"
+    run 0 "$late/trace.gtkw" /dev/null wave --gtkw --context "$late/machine.cfg"
+    "$program" view --differences "$late/machine.cfg" other.txt > page
+    run 5 page /dev/null view "$late/machine.cfg" other.txt --differences
+    run 5 page /dev/null view "$late/machine.cfg" --differences other.txt --context
 }
 
 # value GIVEN OPTION WHY: how clap refuses the value of an option.

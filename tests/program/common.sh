@@ -46,14 +46,47 @@ run() {
     count "$well" "${@:4}"
 }
 
-# unread WORD..: the program cannot read one of the files that these words name.
+# unread WORD..: the program cannot read one of the files that these words name, and tells below that which one and why.
 unread() {
-    run 3 /dev/null <(echo fmpsim: read failed) "$@"
+    local well=yes
+    : > output
+    play "$@"
+    [ $? = 3 ] && [ ! -s output ] || well=no
+    { [ "$(wc -l < errors)" = 2 ] && [ "$(head -n 1 errors)" = 'fmpsim: read failed' ] && tail -n 1 errors | grep -qE '^  .*: .+ \(os error [0-9]+\)$'; } \
+        || { well=no && cat errors; }
+    count "$well" "$@"
 }
 
 # unwritten WORD..: the program cannot write what these words ask for.
 unwritten() {
     to=/dev/full run 3 /dev/null <(echo fmpsim: write failed) "$@"
+}
+
+# usage STATUS TOLD SILENT WORD..: the program on these words ends so, tells its usage in one file, and the other is empty.
+usage() {
+    local well=no
+    play "${@:4}"
+    [ $? = "$1" ] && grep -q '^Usage: fmpsim' "$2" && [ ! -s "$3" ] && well=yes
+    count "$well" "${@:4}"
+}
+
+# refused WORD..: the program refuses these words, tells why on standard error, and does nothing.
+refused() {
+    local well=no
+    play "$@"
+    [ $? = 2 ] && [ -s errors ] && [ ! -s output ] && well=yes
+    count "$well" "$@"
+}
+
+# unread_output WORD..: nobody reads what the program writes on these words. It ends silently.
+unread_output() {
+    local ended=no
+    mkfifo unread && { sleep 60 < unread & } && exec 4> unread && kill $! && wait $! 2> /dev/null
+    ("$program" "$@" >&4 2> errors; echo $? > ended)
+    exec 4>&-
+    rm unread
+    [ "$(cat ended)" = 3 ] && [ ! -s errors ] && ended=yes
+    count "$ended" "$@" '# with no reader'
 }
 
 # Writes the configuration of a machine whose only task starts itself anew each time, and its scripts.

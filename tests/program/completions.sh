@@ -7,7 +7,7 @@ completions() {
         diff "$top/completions/$command" "made/$command" || same=no
     done
     count "$same" --help
-    [ "$(completed calls --)" = "$(long_options calls)" ] && [ "$(completed smp --t)" = $'--ticks\n--turns' ] \
+    [ "$(completed calls --)" = "$(long_options calls && echo --diagnostics=gcc)" ] && [ "$(completed smp --t)" = $'--ticks\n--turns' ] \
         && [ "$(completed list twai_s)" = twai_sem ] && [ "$(completed l)" = list ] && [ -z "$(completed calls x)" ] && right=yes
     count "$right" '<Tab>'
     for command in $(sed -nE "s/.* words='(.*) help --help --version'.*/\1/p" "$top/completions/fmpsim.bash"); do

@@ -10,8 +10,8 @@ contexts() {
         '  Use the name of an object of the configuration, or a constant.') calls "$machine" - --context
     printf 'PROCESSORS(1);\nDEF_CLASS(C, 1, {1});\nCLASS(C) { CRE_SEM(S, {TA_NULL, 0, 0}); }\n' > number.cfg
     run 1 /dev/null <(printf '%s\n' 'fmpsim: number.cfg: line 3: F7 value out of range' '  CLASS(C) { CRE_SEM(S, {TA_NULL, 0, 0}); }' \
-        '                                     ^' '  wanted: CRE_SEM(name, {attribute | .., number, number});' \
-        '  attribute: TA_NULL TA_TFIFO TA_TPRI' '  second number: within 1 to 65535' \
+        '                                     ^' '  wanted: CRE_SEM(semid, {sematr | .., isemcnt, maxsem});' \
+        '  sematr: TA_NULL TA_TFIFO TA_TPRI' '  maxsem: within 1 to 65535' '  isemcnt: within 0 to maxsem' \
         '  Give a number within the range that `fmpsim list` tells, without leading zeros, or a name defined before.') \
         check number.cfg "$late/trace.txt" --context
     printf '1 P1 T1 tick taken' > cut.txt
@@ -24,18 +24,36 @@ contexts() {
     sed '3s/taken/none/' "$late/trace.txt" > changed.txt
     run 5 <(echo no 3) /dev/null check --context "$machine" changed.txt
     unread_with_causes
+    configuration_from_a_pipe
     greatest_with_context
 }
 
-# Under a failed read stands why. Events and scripts from standard input are no file, and a trace always is one.
+# A configuration from a pipe cannot be read twice, and the place of a fault is shown all the same, also of one of the events.
+configuration_from_a_pipe() {
+    local unset='  Begin with `PROCESSORS(n);`.'
+    mkfifo pipe.cfg
+    printf 'DEF_CLASS(C, 1, {1});\n' > pipe.cfg &
+    run 1 /dev/null <(printf '%s\n' 'fmpsim: pipe.cfg: line 1: F10 no PROCESSORS line DEF_CLASS' '  DEF_CLASS(C, 1, {1});' '  ^' "$unset") \
+        calls --context pipe.cfg events.txt
+    wait
+    cat "$machine" > pipe.cfg &
+    run 1 <(echo 1 P1 T1 tick taken) <(printf '%s\n' 'fmpsim: events.txt: line 2: E3 unknown name' '  P1 act_tsk(T9)' \
+        '             ^' '  wanted: act_tsk(task)' "$task") calls --context pipe.cfg events.txt
+    wait
+}
+
+# Under a failed read stands which file it was and why, the first one that cannot be opened or read. Events and scripts from standard
+# input are no file, and a trace always is one.
 unread_with_causes() {
     local missing='missing: No such file or directory (os error 2)'
+    run 3 /dev/null <(printf 'fmpsim: read failed\n  %s\n' "$missing") calls missing "$late/events.txt"
     run 3 /dev/null <(printf 'fmpsim: read failed\n  %s\n' "$missing") calls --context missing "$late/events.txt"
-    run 3 /dev/null <(printf 'fmpsim: read failed\n  %s\n' "$top: Is a directory (os error 21)") check "$late/machine.cfg" "$top" --context
+    run 3 /dev/null <(printf 'fmpsim: read failed\n  %s\n' "$top: Is a directory (os error 21)") check "$late/machine.cfg" "$top"
+    run 3 /dev/null <(printf 'fmpsim: read failed\n  %s\n' "$top: Is a directory (os error 21)") check "$top" "$late/trace.txt" --context
     from=$late/events.txt run 3 /dev/null <(printf 'fmpsim: read failed\n  %s\n' "$missing") calls --context missing -
-    from=again.txt run 3 /dev/null <(printf 'fmpsim: read failed\n  %s\n' "$missing") smp --context missing - --ticks 0 --turns 1
-    from=$late/trace.txt run 3 /dev/null <(printf 'fmpsim: read failed\n  %s\n' "${missing/missing/-}") check --context "$late/machine.cfg" -
-    run 3 /dev/null <(printf 'fmpsim: read failed\n  %s\n  %s\n' "$missing" "${missing/missing/-}") check --context missing -
+    from=again.txt run 3 /dev/null <(printf 'fmpsim: read failed\n  %s\n' "$missing") smp missing - --ticks 0 --turns 1
+    from=$late/trace.txt run 3 /dev/null <(printf 'fmpsim: read failed\n  %s\n' "${missing/missing/-}") check "$late/machine.cfg" -
+    run 3 /dev/null <(printf 'fmpsim: read failed\n  %s\n' "$missing") check --context missing -
 }
 
 # Texts at their greatest length, and above it. The pipe has more than 1 GiB of comments.

@@ -9,6 +9,7 @@ from_log() {
     echo yes > yes
     run 0 yes /dev/null check --partial "$logs/machine.cfg" made
     log_differs
+    log_to_events
     reads_texts "$logs/told.txt"
     log_command_lines
 }
@@ -28,6 +29,18 @@ log_differs() {
     "$tool" "$logs/machine.cfg" kernel.log --trace --tick 16 --ipi 65552 > made 2> told
     echo 'no 2' > no
     run 5 no /dev/null check --partial "$logs/machine.cfg" made
+}
+
+# The example that leads from a board's log to six events: each file is made of the one before it, as its story says.
+log_to_events() {
+    local story=$top/examples/log-to-six-events words well=no
+    words=("$story/machine.cfg" "$story/kernel.log" --tick 16 --tick 131088 --ipi 65552)
+    "$tool" "${words[@]}" > made 2> told && cmp made "$story/events.txt" &&
+        "$tool" "${words[@]}" --trace > made 2> told && cmp made "$story/partial.txt" && well=yes
+    count "$well" '#' tools/from-log "${words[@]}"
+    run 0 yes /dev/null check --partial "$story/machine.cfg" "$story/partial.txt"
+    run 0 "$story/left-ahead.txt" /dev/null shrink "$story/machine.cfg" "$story/events.txt" --find 'twai_sem(DONE, 2) E_OK'
+    run 0 "$story/left-timeout.txt" /dev/null shrink "$story/machine.cfg" "$story/events.txt" --find 'rel=WORKER:E_TMOUT'
 }
 
 # reads_texts TABLE: each row has a status, the words, the text of x.log, what is made and what is told, with a tab between two.

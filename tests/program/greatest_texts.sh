@@ -18,4 +18,15 @@ greatest_texts() {
     run 0 <(echo yes) /dev/null check "$late/machine.cfg" front.txt
     # 1 GiB of line feeds, for one program: this is among the longest of all runs, and both programs are of the same text
     [ "$kind" != llvm ] || from=<(yes '') run 1 /dev/null <(echo fmpsim: -: line 0: E7 too many) calls "$late/machine.cfg" -
+    [ "$kind" != llvm ] || begun_at_length
+}
+
+# begun_at_length: the trace with which a search begins has 1 GiB, and then a byte more. It is of zeros, so no order has its first line.
+begun_at_length() {
+    local folder=$top/examples/explore-lock-order words
+    words=(explore "$folder/machine.cfg" "$folder/scripts.txt" --ticks 0 --turns 9 --find end --from begun.txt)
+    truncate -s 1073741824 begun.txt
+    run 1 /dev/null <(echo fmpsim: begun.txt: line 1: no order of these scripts has it here) "${words[@]}"
+    truncate -s 1073741825 begun.txt
+    run 1 /dev/null <(echo fmpsim: begun.txt: too long) "${words[@]}"
 }

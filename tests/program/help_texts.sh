@@ -5,8 +5,8 @@ help_texts() {
     local command version well
     # what each status means, wherever it is told, and which ones a command may end with
     local means=('done|yes|all ticks were taken|never' 'a fault in a text|a text has a fault' 'the command line is wrong'
-        'output (could )?not be written' 'want of memory|memory ran out' '\bno\b|not the machine|shows it' 'turns')
-    local -A statuses=([calls]='0 1 2 3 4' [check]='0 1 2 3 4 5' [wave]='0 1 2 3 4 5' [view]='0 1 2 3 4 5' [smp]='0 1 2 3 4 6' [explore]='0 1 2 3 4 5 6' [shrink]='0 1 2 3 4 5' [list]='0 2 3 4')
+        'output (could )?not be written' 'want of memory|memory ran out' '\bno\b|not the machine|shows it' 'turns' 'a task waits')
+    local -A statuses=([calls]='0 1 2 3 4' [check]='0 1 2 3 4 5' [wave]='0 1 2 3 4 5' [view]='0 1 2 3 4 5' [smp]='0 1 2 3 4 5 6 7' [explore]='0 1 2 3 4 5 6' [shrink]='0 1 2 3 4 5' [list]='0 1 2 3 4')
     version=$(sed -nE 's/^\.TH FMPSIM 1 "" "(fmpsim [0-9.]+)" .*/\1/p' "$top/man/fmpsim.1")
     run 0 <(echo "$version") /dev/null --version
     unwritten --version
@@ -22,10 +22,10 @@ help_texts() {
         count "$well" "$command" --help '# its exit statuses'
     done
     well=no
-    told '0 1 2 3 4 5 6' < <(sed -n '/^\.SH EXIT STATUS/,/^\.SH EXAMPLES/p' "$top/man/fmpsim.1" | manual_items) && well=yes
+    told '0 1 2 3 4 5 6 7' < <(sed -n '/^\.SH EXIT STATUS/,/^\.SH EXAMPLES/p' "$top/man/fmpsim.1" | manual_items) && well=yes
     count "$well" '# exit statuses in the manual'
     well=no
-    told '0 1 2 3 4 5 6' < <(sed -n '/^## Exit statuses/,$p' "$top/docs/formats/faults.md" | sed -nE 's/^\| ([0-9]) \| (.*) \|$/\1 \2/p') && well=yes
+    told '0 1 2 3 4 5 6 7' < <(sed -n '/^## Exit statuses/,$p' "$top/docs/formats/faults.md" | sed -nE 's/^\| ([0-9]) \| (.*) \|$/\1 \2/p') && well=yes
     count "$well" '# exit statuses in docs/formats/faults.md'
 }
 
@@ -34,7 +34,7 @@ told() {
     local status words all=
     while read -r status words; do
         all+="$status "
-        if [[ ! $status =~ ^[0-6]$ ]] || ! grep -qiE "${means[status]}" <<< "$words"; then
+        if [[ ! $status =~ ^[0-7]$ ]] || ! grep -qiE "${means[status]}" <<< "$words"; then
             echo "status $status: $words"
             return 1
         fi

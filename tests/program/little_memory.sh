@@ -20,12 +20,13 @@ little_memory() {
     starved verdict.txt check "$late/machine.cfg" "$late/trace.txt"
     starved "$spin/trace.txt" smp "$spin/machine.cfg" "$spin/scripts.txt" --ticks 1 --turns 100 --seed 11
     starved "$late/trace.vcd" wave "$late/machine.cfg" "$late/trace.txt"
+    starved "$late/trace.gtkw" wave --gtkw "$late/machine.cfg"
     starved "$late/trace.txt" calls "$late/machine.cfg" line.txt
 }
 
 # starved TEXT WORD..: in each of the $rooms the run of these words writes this text, or whole lines of its beginning and that
 # memory ran out. It does so in the first room, and the whole in the last. Where there is room for all but for the stack to grow,
-# the system ends the run by a signal: that is so in few rooms, next to each other.
+# the system ends the run by a signal: that is so in at most 8 of the rooms below the first in which the run is whole.
 starved() {
     local memory ended well=yes all=()
     for memory in "${rooms[@]}"; do
@@ -41,6 +42,6 @@ starved() {
         esac
         head -n "$(wc -l < output)" "$1" | cmp - output || well=no
     done
-    [[ "${all[*]}" =~ ^(4 )+(139 ){0,4}(4 )*0( 0)*$ ]] || well=no
+    [[ "${all[*]}" =~ ^4\ ((4|139)\ )*0(\ 0)*$ ]] && [ "$(grep -o 139 <<< "${all[*]}" | wc -l)" -le 8 ] || well=no
     count "$well" "${@:2}"
 }

@@ -26,17 +26,6 @@ pipes() {
     count "$ended" calls "$late/machine.cfg" events.txt "# in $pieces writes"
 }
 
-# unread_output WORD..: nobody reads what the program writes on these words. It ends silently.
-unread_output() {
-    local ended=no
-    mkfifo unread && { sleep 60 < unread & } && exec 4> unread && kill $! && wait $! 2> /dev/null
-    ("$program" "$@" >&4 2> errors; echo $? > ended)
-    exec 4>&-
-    rm unread
-    [ "$(cat ended)" = 3 ] && [ ! -s errors ] && ended=yes
-    count "$ended" "$@" '# with no reader'
-}
-
 # in_pieces COMMAND..: in how many pieces the command's output comes through a pipe that keeps its writes apart.
 in_pieces() {
     python3 -c '

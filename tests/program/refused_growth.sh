@@ -13,18 +13,19 @@ refused_growth() {
         return
     fi
     echo yes > verdict.txt
-    refused "$late/trace.txt" calls "$late/machine.cfg" "$late/events.txt"
-    refused "$whole/trace.txt" calls "$whole/machine.cfg" "$whole/events.txt"
-    refused verdict.txt check "$late/machine.cfg" "$late/trace.txt"
-    refused "$spin/trace.txt" smp "$spin/machine.cfg" "$spin/scripts.txt" --ticks 1 --turns 100 --seed 11
-    refused "$late/trace.vcd" wave "$late/machine.cfg" "$late/trace.txt"
-    refused threads smp "$spin/machine.cfg" "$spin/scripts.txt" --ticks 0 --turns 6
+    refused_in_turn "$late/trace.txt" calls "$late/machine.cfg" "$late/events.txt"
+    refused_in_turn "$whole/trace.txt" calls "$whole/machine.cfg" "$whole/events.txt"
+    refused_in_turn verdict.txt check "$late/machine.cfg" "$late/trace.txt"
+    refused_in_turn "$spin/trace.txt" smp "$spin/machine.cfg" "$spin/scripts.txt" --ticks 1 --turns 100 --seed 11
+    refused_in_turn "$late/trace.vcd" wave "$late/machine.cfg" "$late/trace.txt"
+    refused_in_turn "$late/trace.gtkw" wave --gtkw "$late/machine.cfg"
+    refused_in_turn threads smp "$spin/machine.cfg" "$spin/scripts.txt" --ticks 0 --turns 6
 }
 
-# refused TEXT WORD..: with the first request for memory refused, then with the second one, and so on until none is: each run
+# refused_in_turn TEXT WORD..: with the first request for memory refused, then with the second one, and so on until none is: each run
 # writes this text, or whole lines of its beginning and that memory ran out. The last one writes the text. Where it is `threads`
 # the run may write any trace that `check` says yes to, with the machine of the second word, and else nothing.
-refused() {
+refused_in_turn() {
     local n=0 ended told=0 well=yes
     while n=$((n + 1)) && : > output && rm -f met; do
         (REFUSE=$n LD_PRELOAD=$PWD/refuse.so exec "$program" "${@:2}") < /dev/null > output 2> errors

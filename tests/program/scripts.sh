@@ -34,4 +34,35 @@ scripts() {
     unwritten smp again.cfg again.txt --ticks 0 --turns 1 --seed 0
     # a million records of over a kilobyte each
     memory=100000 run 4 /dev/null <(echo fmpsim: want of memory) smp again.cfg again.txt --ticks 0 --turns 1000000 --seed 0
+    waiting
+}
+
+# Who waits at the end of a run, and for what, stands on standard error, and is a status of its own where that is asked for.
+waiting() {
+    local trace=('1 P1 T1 twai_sem(S1, 2) wait run=T2' '2 P1 T2 slp_tsk() wait run=T3' '3 P1 T3 sus_tsk(T2) E_OK' '4 P1 T3 ext_tsk() gone run=idle')
+    local words=(smp wait.cfg wait.txt --ticks 0) seed
+    printf 'PROCESSORS(1);\nDEF_CLASS(C, 1, {1});\nCLASS(C) {\nCRE_SEM(S1, {TA_NULL, 0, 1});\n' > wait.cfg
+    printf 'CRE_TSK(T%d, {TA_ACT, 0, main%d, %d, 4096, NULL});\n' 1 1 1 2 2 2 3 3 3 >> wait.cfg
+    echo '}' >> wait.cfg
+    printf 'script main1\ntwai_sem(S1, 2)\nend\nscript main2\nslp_tsk()\nend\nscript main3\nsus_tsk(T2)\nend\n' > wait.txt
+    printf 'PROCESSORS(1);\nDEF_CLASS(C, 1, {1});\nCLASS(C) { CRE_TSK(T3, {TA_ACT, 0, main3, 1, 4096, NULL}); }\n' > one.cfg
+    printf 'script main3\nget_tid()\nend\n' > one.txt
+    # behind a wait of two ticks three are left of it
+    printf '%s\n' 'fmpsim: T1 waits sem S1 left=3' 'fmpsim: T2 suspended waits slp' > waits.txt
+    for seed in '' '--seed 0' '--seed 18446744073709551615'; do
+        # shellcheck disable=SC2086
+        {
+            run 0 <(printf '%s\n' "${trace[@]}") waits.txt "${words[@]}" --turns 10 $seed
+            run 7 <(printf '%s\n' "${trace[@]}") waits.txt "${words[@]}" --turns 10 --strict $seed
+            # full and quiet at once is quiet
+            run 7 <(printf '%s\n' "${trace[@]}") waits.txt "${words[@]}" --turns 4 --strict $seed
+            # at its limit of turns it has the status of that
+            run 6 <(printf '%s\n' "${trace[@]:0:3}") waits.txt "${words[@]}" --turns 3 --strict $seed
+            run 6 <(echo "${trace[0]}") <(head -n 1 waits.txt) "${words[@]}" --turns 1 $seed
+        }
+    done
+    # nobody waits where all came to the ends of their scripts
+    run 0 <(printf '%s\n' '1 P1 T3 get_tid() E_OK:1' '2 P1 T3 ext_tsk() gone run=idle') /dev/null smp one.cfg one.txt --ticks 0 --turns 9 --strict
+    # what cannot be written is told alone
+    to=/dev/full run 3 /dev/null <(echo fmpsim: write failed) "${words[@]}" --turns 10 --strict
 }

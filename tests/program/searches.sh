@@ -19,6 +19,8 @@ searches() {
     unread explore "$folder/machine.cfg" missing --ticks 0 --turns 1 --find end
     unwritten explore "$folder/machine.cfg" "$folder/scripts.txt" --ticks 0 --turns 100 --find E_PAR
     unwritten explore "$folder/machine.cfg" "$folder/scripts.txt" --ticks 0 --turns 100 --find 'end & waits sem'
+    begins_behind
+    tells_how_far
     # no room for a table of a hundred million places
     memory=400000 run 4 /dev/null <(echo fmpsim: want of memory) \
         explore "$folder/machine.cfg" "$folder/scripts.txt" --ticks 0 --turns 100 --find E_PAR --places 100000000
@@ -63,4 +65,71 @@ has_places() {
     play explore "$cfg" "$scripts" "${@:3}" "${question[@]}" --places $(($2 - 1))
     [ $? = 6 ] && [ ! -s errors ] && grep -qxE 'not within [0-9]+' output && well=yes
     count "$well" explore "$cfg" "$scripts" "${@:3}" "${question[@]}" --places $(($2 - 1))
+}
+
+# begins_behind: a search begins where a trace ends. What it writes begins with that trace, and lines count with those of it.
+begins_behind() {
+    local folder=$top/examples/explore-lost-wakeup lines words
+    words=(explore "$folder/machine.cfg" "$folder/scripts.txt" --turns 100 --find 'end & WORKER waits slp')
+    for lines in 0 1 3 7 8; do
+        head -n "$lines" "$folder/trace.txt" > begun.txt
+        run 5 "$folder/trace.txt" /dev/null "${words[@]}" --ticks 0 --from begun.txt && judged "$folder/machine.cfg"
+    done
+    # it sleeps before the first wakeup, which ends the sleep: none is refused, and the second ends the other sleep
+    echo '1 P2 WORKER slp_tsk() wait run=idle' > begun.txt
+    run 0 <(echo never) /dev/null "${words[@]}" --ticks 0 --from begun.txt
+    # a tick in the trace is one that was taken
+    echo '1 P1 PRODUCER tick taken' > begun.txt
+    awk '{ $1 = NR + 1; print }' "$folder/trace.txt" | cat begun.txt - > later.txt
+    run 5 later.txt /dev/null "${words[@]}" --ticks 1 --from begun.txt
+    strays 1 --ticks 0 < begun.txt
+    strays 2 --ticks 1 < <(cat begun.txt && echo '2 P1 PRODUCER tick taken')
+    # another answer, half a line, a carriage return, a number that is not the line's, a blank line, and one that tells nothing
+    strays 2 --ticks 0 < <(sed '2s/E_OK/E_QOVR/' "$folder/trace.txt")
+    strays 8 --ticks 0 < <(head -c -1 "$folder/trace.txt")
+    strays 3 --ticks 0 < <(sed $'3s/$/\r/' "$folder/trace.txt")
+    strays 1 --ticks 0 < <(tail -n +2 "$folder/trace.txt")
+    strays 4 --ticks 0 < <(sed 3G "$folder/trace.txt")
+    strays 9 --ticks 0 < <(cat "$folder/trace.txt" && echo end)
+    # what the machine answers to calls that the scripts do not make there, and to an interrupt that was not asked for
+    strays 1 --ticks 0 < <(echo '1 P1 PRODUCER wup_tsk(WORKER) E_OK')
+    strays 1 --ticks 0 < <(echo '1 P2 WORKER ipi none')
+    run 1 /dev/null <(echo 'stray.txt:1: error: no order of these scripts has it here') "${words[@]}" --ticks 0 --from stray.txt --diagnostics=gcc
+    unread "${words[@]}" --ticks 0 --from missing
+    folder=$top/examples/explore-lock-order
+    words=(explore "$folder/machine.cfg" "$folder/scripts.txt" --ticks 0)
+    head -n 3 "$folder/trace.txt" > begun.txt
+    run 6 <(echo not within 3) /dev/null "${words[@]}" --turns 3 --find 'end & waits sem' --from begun.txt
+    run 5 "$folder/trace.txt" /dev/null "${words[@]}" --turns 4 --find 'end & waits sem' --from begun.txt
+    # it has both, and gives both back
+    printf '1 P1 READER wai_sem(FLASH) E_OK\n2 P1 READER wai_sem(BUFFER) E_OK\n' > begun.txt
+    run 0 <(echo never) /dev/null "${words[@]}" --turns 100 --find 'end & waits sem' --from begun.txt
+    # what must not come before came at the first line: that is no fault of the trace
+    run 0 <(echo never) /dev/null "${words[@]}" --turns 100 --find 'wai_sem(BUFFER) E_OK without wai_sem(FLASH) E_OK' --from begun.txt
+}
+
+# strays LINE WORD..: the trace on standard input has this line, and no order of the scripts has it there.
+strays() {
+    cat > stray.txt
+    run 1 /dev/null <(echo "fmpsim: stray.txt: line $1: no order of these scripts has it here") "${words[@]}" "${@:2}" --from stray.txt
+}
+
+# tells_how_far: at a terminal a search of more than a second tells how far it has come, and takes that away before its answer. A signal ends
+# it with nothing written.
+tells_how_far() {
+    local folder=$top/examples/explore-philosophers words well=no
+    words=(--ticks 1 --turns 100 --find E_PAR --places 200000)
+    [ "$kind" = unproved ] && words=(--ticks 0 --turns 6 --find E_PAR)
+    words=(explore "$folder/machine.cfg" "$folder/scripts.txt" "${words[@]}")
+    if type script > /dev/null 2>&1; then
+        script -qec "$(printf '%q ' "$program" "${words[@]}")" /dev/null < /dev/null > output
+        grep -qaE $'[0-9]+ places, line [0-9]+, [0-9]+ s\r\033\\[K(never|not within [0-9]+)\r$' output && well=yes
+        count "$well" "${words[@]}" '# at a terminal'
+    else
+        left_out 'there is no command script' "${words[@]}"
+    fi
+    well=no
+    timeout --preserve-status -s INT 1 "$program" "${words[@]}" < /dev/null > output 2> errors
+    [ $? = 130 ] && [ ! -s output ] && [ ! -s errors ] && well=yes
+    count "$well" "${words[@]}" '# and a signal'
 }

@@ -28,4 +28,103 @@ seeds() {
     echo '}' >> many.cfg
     run 0 trace.txt /dev/null smp many.cfg many.txt --ticks 0 --turns 200 --seed 4294967296
     run 0 trace.txt /dev/null smp many.cfg many.txt --ticks 0 --turns 200
+    seeds_in_a_row
+    seeds_that_show
+}
+
+# Many seeds one after the other. T1 and T2 take two semaphores, each the other one first, T2 after six other calls. They wait for each
+# other where the first of T1 is taken before the second of T2, and the first of T2 before the second of T1: so where of the first
+# eight numbers of the seed one alone is even, which is P1's turn. By another program these seeds are 21, 73, 101 and more.
+seeds_in_a_row() {
+    local words=(smp dead.cfg dead.txt --ticks 0 --turns) step line seed wrong well=no
+    printf 'PROCESSORS(2);\nDEF_CLASS(C1, 1, {1});\nDEF_CLASS(C2, 2, {2});\n' > dead.cfg
+    printf 'CLASS(C1) { CRE_TSK(T1, {TA_ACT, 0, one, 1, 4096, NULL}); CRE_SEM(A, {TA_NULL, 1, 1}); CRE_SEM(B, {TA_NULL, 1, 1}); }\n' >> dead.cfg
+    printf 'CLASS(C2) { CRE_TSK(T2, {TA_ACT, 0, two, 1, 4096, NULL}); }\n' >> dead.cfg
+    {
+        printf 'script one\nwai_sem(A)\nwai_sem(B)\nsig_sem(B)\nsig_sem(A)\nend\nscript two\n'
+        for step in {1..6}; do echo 'get_pid()'; done
+        printf 'wai_sem(B)\nwai_sem(A)\nsig_sem(A)\nsig_sem(B)\nend\n'
+    } > dead.txt
+    line=0
+    while read -r step; do echo "$((line += 1)) $step"; done > dead.trace << 'END'
+P2 T2 get_pid() E_OK:2
+P2 T2 get_pid() E_OK:2
+P2 T2 get_pid() E_OK:2
+P2 T2 get_pid() E_OK:2
+P2 T2 get_pid() E_OK:2
+P2 T2 get_pid() E_OK:2
+P1 T1 wai_sem(A) E_OK
+P2 T2 wai_sem(B) E_OK
+P1 T1 wai_sem(B) wait run=idle
+P2 T2 wai_sem(A) wait run=idle
+END
+    printf 'fmpsim: %s\n' 'T1 waits sem B' 'T2 waits sem A' > dead.waits
+    { echo fmpsim: seed 21 && cat dead.waits; } > dead.errors
+    run 7 dead.trace dead.errors "${words[@]}" 25 --seeds 0..99
+    run 7 dead.trace dead.errors "${words[@]}" 25 --seeds 0..21 --strict
+    run 7 dead.trace dead.errors "${words[@]}" 25 --seeds 21..21
+    run 7 dead.trace dead.errors "${words[@]}" 10 --seeds 21..18446744073709551615
+    from=dead.txt run 7 dead.trace dead.errors smp dead.cfg - --ticks 0 --turns 25 --seeds +20..21
+    run 0 /dev/null /dev/null "${words[@]}" 25 --seeds 0..20
+    run 0 /dev/null /dev/null "${words[@]}" 25 --seeds 22..72
+    # a run at its limit of turns is none of these
+    run 0 /dev/null /dev/null "${words[@]}" 9 --seeds 21..21
+    run 0 /dev/null /dev/null smp idle.cfg none.txt --ticks 1 --turns 2 --seeds 18446744073709551615..18446744073709551615
+    # the run of the seed alone is the same, and it is the first whose trace tells of no task that is gone
+    run 0 dead.trace dead.waits "${words[@]}" 25 --seed 21
+    run 7 dead.trace dead.waits "${words[@]}" 25 --seed 21 --strict
+    for seed in {0..21}; do
+        play "${words[@]}" 25 --seed "$seed"
+        grep -q ' gone ' output || break
+    done
+    [ "$seed" = 21 ] && cmp output dead.trace && well=yes
+    count "$well" "${words[@]}" 25 --seed '# the first seed, by trying each'
+    # the seeds are wrong, or stand beside one
+    for wrong in '5..4' 5 5.6 ..5 5.. 5..x 5..6..7 5..18446744073709551616 ''; do
+        run 2 /dev/null <(echo 'fmpsim: --seeds: wanted two numbers as in 0..999, the second not below the first, and no --seed') "${words[@]}" 25 --seeds "$wrong"
+    done
+    run 2 /dev/null <(echo 'fmpsim: --seeds: wanted two numbers as in 0..999, the second not below the first, and no --seed') "${words[@]}" 25 --seeds 0..1 --seed 0
+    unread smp dead.cfg missing --ticks 0 --turns 25 --seeds 0..99
+    unwritten "${words[@]}" 25 --seeds 0..99
+}
+
+# Seeds up to the first whose run shows what a question asks. T1 waits for a hundred ticks, and three are given: where all of these come first,
+# nothing can change any more at its call, though its wait counts ticks. So where the first three numbers of a seed are odd, which is the
+# clock's place. By another program these seeds are 3, 11, 21 and more.
+seeds_that_show() {
+    local late='dly_tsk(100) wait & end' words=(smp wait.cfg wait.txt --ticks 3 --turns) seed calls
+    printf 'PROCESSORS(1);\nDEF_CLASS(C, 1, {1});\nCLASS(C) { CRE_TSK(T1, {TA_ACT, 0, main, 1, 4096, NULL}); }\n' > wait.cfg
+    printf 'script main\ndly_tsk(100)\nend\n' > wait.txt
+    printf '%s\n' '1 P1 T1 tick taken' '2 P1 T1 tick taken' '3 P1 T1 tick taken' '4 P1 T1 dly_tsk(100) wait run=idle' > wait.trace
+    printf 'fmpsim: %s\n' 'seed 3' 'T1 waits dly left=101' > wait.errors
+    run 5 wait.trace wait.errors "${words[@]}" 25 --seeds 0..99 --find "$late"
+    run 5 wait.trace wait.errors "${words[@]}" 25 --seeds 3..3 --find "$late" --strict
+    from=wait.txt run 5 wait.trace wait.errors smp wait.cfg - --ticks 3 --turns 25 --seeds 0..18446744073709551615 --find "$late"
+    run 0 /dev/null /dev/null "${words[@]}" 25 --seeds 0..2 --find "$late"
+    run 0 /dev/null /dev/null "${words[@]}" 25 --seeds 4..10 --find "$late"
+    # the fourth number of seed 11 is even: with a tick more there is one left at the call, and with one less none
+    run 0 /dev/null /dev/null smp wait.cfg wait.txt --ticks 4 --turns 25 --seeds 11..11 --find "$late"
+    run 5 wait.trace <(sed 's/seed 3/seed 11/' wait.errors) "${words[@]}" 25 --seeds 11..11 --find "$late"
+    # a run at its limit of turns may show it too
+    run 5 <(head -n 3 wait.trace) <(echo fmpsim: seed 3) "${words[@]}" 3 --seeds 0..99 --find '3 times tick taken without dly_tsk(100)'
+    # behind `end` nothing comes, but for ticks for which nothing waits
+    run 0 /dev/null /dev/null "${words[@]}" 25 --seeds 0..99 --find 'end then *'
+    run 5 <(head -n 2 ticks.txt) <(echo fmpsim: seed 7) smp idle.cfg none.txt --ticks 2 --turns 3 --seeds 7..9 --find 'end then *'
+    # the two that wait for each other
+    run 5 dead.trace dead.errors smp dead.cfg dead.txt --ticks 0 --turns 25 --seeds 0..99 --find 'end & waits sem'
+    run 0 /dev/null /dev/null smp dead.cfg dead.txt --ticks 0 --turns 25 --seeds 22..72 --find 'end & waits sem'
+    # the first seed whose first five calls are those of T2, by the documented order
+    for seed in {0..99}; do
+        python3 "$top/tests/program/order.py" "$seed" 10 80 > five.txt
+        calls=$(grep -oE 'E_OK:[12]$' five.txt | head -n 5 | sort -u)
+        [ "$calls" != E_OK:2 ] || break
+    done
+    run 5 five.txt <(echo "fmpsim: seed $seed") smp two.cfg two.txt --ticks 10 --turns 80 --seeds 0..99 --find '5 times E_OK:2 without E_OK:1'
+    # faults of the question, behind those of the texts, and a question without seeds
+    run 1 /dev/null <(echo 'fmpsim: --find: byte 1: E3 unknown name') "${words[@]}" 25 --seeds 0..99 --find 'act_tsk(NOBODY)'
+    run 1 /dev/null <(echo 'fmpsim: --find: byte 10: E2 bad word') "${words[@]}" 25 --seeds 0..99 --find 'tick then'
+    run 1 /dev/null <(echo 'fmpsim: wait.cfg: line 1: E1 bad byte') smp wait.cfg wait.cfg --ticks 3 --turns 25 --seeds 0..99 --find 'tick then'
+    run 2 /dev/null <(echo 'fmpsim: --find: wanted --seeds too, as in --seeds 0..999') "${words[@]}" 25 --find end
+    run 2 /dev/null <(echo 'fmpsim: --find: wanted --seeds too, as in --seeds 0..999') "${words[@]}" 25 --seed 3 --find end
+    unwritten "${words[@]}" 25 --seeds 0..99 --find "$late"
 }

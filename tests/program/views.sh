@@ -1,4 +1,4 @@
-# The page of a trace. Of a trace that is not the machine's there is none.
+# The page of a trace. Of a trace that is not the machine's there is one only with its differences.
 
 views() {
     local folder first='' exact=yes same=yes plain=yes
@@ -28,6 +28,7 @@ views() {
     unread view "$late/machine.cfg" missing
     unwritten view "$late/machine.cfg" "$late/trace.txt"
     half_a_page
+    differences
     in_a_browser
 }
 
@@ -51,11 +52,11 @@ every_value() {
         'CRE_CYC(Y, {TA_STA, 0, cyc, 1, 0});' 'CRE_ALM(A, {TA_NULL, 0, alm});' '}' > all.cfg
     printf '%s\n' 'view 1' 'processors 2' 'timer 2' 'task T 3' 'task U 4' 'sem S 2' 'flg F' 'dtq D 3' 'mpf B 4' 'cyc Y 1' 'alm A' 'spn X' > setup
     # an event, and the values behind it
-    printf '%s\n' ': r1 1,r2 0,l1 -,l2 -,h1 -,h2 -,s1 r,s2 -,n1 0,n2 0,a1 1 3 0 0,a2 1 4 0 0,S1 0,F1 5,D1 0,M1 4,C1 2,A1 0,X1 0' \
+    printf '%s\n' ': r1 1,r2 0,l1 -,l2 -,h1 -,h2 -,s1 r,s2 -,n1 0,n2 0,a1 1 3 0 0,a2 1 4 0 0,S1 0,F1 5,D1 0,M1 4,C1 2 @1,A1 0,X1 0' \
         'P1 sig_sem(S): S1 1' 'P1 act_tsk(U): s2 y,n2 1' 'P1 wup_tsk(U): a2 1 4 0 1' 'P1 clr_flg(F, 4): F1 4' \
         'P1 psnd_dtq(D, 7): D1 1' 'P1 get_mpf(B): M1 3' 'P1 loc_spn(X): l1 l,X1 1' 'P1 unl_spn(X): l1 -,X1 0' \
-        'P1 sta_alm(A, 1): A1 2' 'P1 chg_pri(U, 9): n2 2,a2 1 9 0 1' 'P1 tslp_tsk(5): r1 2,s1 w slp @6,s2 r' 'P1 dis_dsp(): l1 d' \
-        'P2 tick: h2 C1' 'P1 loc_cpu(): l1 ld' 'P2 ret_hdr: h2 -' 'P2 tick: h2 A1;C1,A1 0' 'P1 unl_cpu(): l1 d' 'P1 ena_dsp(): l1 -' \
+        'P1 sta_alm(A, 1): A1 2 @2' 'P1 chg_pri(U, 9): n2 2,a2 1 9 0 1' 'P1 tslp_tsk(5): r1 2,s1 w slp @6,s2 r' 'P1 dis_dsp(): l1 d' \
+        'P2 tick: h2 C1,C1 2 @2' 'P1 loc_cpu(): l1 ld' 'P2 ret_hdr: h2 -' 'P2 tick: h2 A1;C1,C1 2 @3,A1 0' 'P1 unl_cpu(): l1 d' 'P1 ena_dsp(): l1 -' \
         'P2 iwup_tsk(T): l1 i,s1 y,n1 4' 'P1 ipi: r1 1,l1 -,s1 r,s2 y' 'P1 sus_tsk(U): s2 s' 'P1 act_tsk(U): a2 1 9 1 1' \
         'P1 act_tsk(U):' > steps
     : > changes
@@ -96,7 +97,71 @@ half_a_page() {
     count "$well" view '# half a page'
 }
 
-# What a page tells in a browser is what `calls --state` writes, but for the lines that it does not tell, and it is drawn.
+# A trace in which some lines were changed is shown as the machine would have it, and these lines stand there too.
+differences() {
+    local folder part edits well
+    for folder in "$top"/examples/*/; do
+        well=yes
+        play view "$folder/machine.cfg" "$folder/trace.txt" || well=no
+        mv output own.html
+        # one that is the machine's own
+        play view --differences "$folder/machine.cfg" "$folder/trace.txt" || well=no
+        cmp output own.html && [ -z "$(part_of output given)" ] && [ ! -s errors ] || well=no
+        # one whose first and last line have another answer
+        sed -E '1s/ (taken|wait|E_OK)( |:|$)/ E_CTX\2/; $s/ (taken|wait|none|E_OK)( |:|$)/ E_RLWAI\2/' "$folder/trace.txt" > changed.txt
+        cmp -s changed.txt "$folder/trace.txt" && well=no
+        shown_instead "$folder/machine.cfg" "$folder/trace.txt" changed.txt || well=no
+        count "$well" view --differences "$folder" '# the lines that differ'
+    done
+    # who called, what was released and who runs; and what a line tells that the machine's does not
+    folder=$top/examples/producer-consumer
+    for edits in '2s/CONSUMER/PRODUCER/' '7s/ ipi=1//' '9s/E_TMOUT/E_OK/;10s/13/14/;11s/:14/:13/' '14s/-/CONSUMER/;15s/ rel=.*//' \
+        '1,$s/^\([0-9]* P[12]\) [^ ]*/\1 -/' '3,4s/$/ lost=-9223372036854775808/;10s/ lost=13//'; do
+        well=no
+        sed "$edits" "$folder/trace.txt" > changed.txt
+        shown_instead "$folder/machine.cfg" "$folder/trace.txt" changed.txt && well=yes
+        count "$well" view --differences "$folder" "# $edits"
+    done
+    # a text that cannot be read has its fault, also where an earlier line differs, and no page
+    { sed '2s/CONSUMER/PRODUCER/' "$folder/trace.txt" && printf '16 P2 CONSUMER tick taken'; } > cut.txt
+    run 1 /dev/null <(echo fmpsim: cut.txt: line 16: E6 cut short) view --differences "$folder/machine.cfg" cut.txt
+    run 1 /dev/null <(echo fmpsim: "$folder/machine.cfg": line 1: E2 bad word) view --differences "$folder/machine.cfg" "$folder/machine.cfg"
+    run 1 /dev/null <(printf '%s\n' 'fmpsim: cut.txt: line 16: E6 cut short' '  16 P2 CONSUMER tick taken' '                           ^' \
+        '  End the last line with a line feed, and the last script with `end`.') view --context --differences "$folder/machine.cfg" cut.txt
+    run 1 /dev/null <(echo fmpsim: cut.txt: line 1: F1 syntax) view --differences cut.txt "$folder/trace.txt"
+    unread view --differences missing "$folder/trace.txt"
+    unread view --differences "$folder/machine.cfg" -
+    unwritten view --differences "$folder/machine.cfg" changed.txt
+    half_of_differences
+}
+
+# shown_instead CFG TRACE CHANGED: a page of the changed trace is the page of the trace, with its lines that are not those of the trace.
+shown_instead() {
+    local part
+    play view "$1" "$2" || return
+    mv output own.html
+    play view --differences "$1" "$3"
+    [ $? = 5 ] && [ ! -s errors ] || return
+    for part in setup trace changes; do
+        part_of output $part > told
+        part_of own.html $part | cmp - told || return
+    done
+    awk 'NR == FNR { own[FNR] = $0; next } own[FNR] != $0 { print FNR " " $0 }' "$2" "$3" > wanted
+    [ -s wanted ] && part_of output given | diff wanted - && cmp <(frame_of output) <(frame_of own.html)
+}
+
+# The room on the disk is over behind half of such a page.
+half_of_differences() {
+    local well=yes
+    play view --differences "$folder/machine.cfg" changed.txt
+    mv output whole
+    (trap '' XFSZ && ulimit -f 32 && exec "$program" view --differences "$folder/machine.cfg" changed.txt) > half 2> errors
+    [ $? = 3 ] && [ "$(wc -c < half)" = 32768 ] && head -c 32768 whole | cmp - half || well=no
+    diff errors <(echo fmpsim: write failed) || well=no
+    count "$well" view --differences '# half a page'
+}
+
+# What a page tells in a browser is what `calls --state` writes, byte for byte, and it is drawn.
 in_a_browser() {
     local folder well
     if ! command -v chromium > /dev/null; then
@@ -110,14 +175,22 @@ in_a_browser() {
         sed -E 's/^[0-9]+ (P[0-9]+) [^ ]+ (tick|ipi|ret_hdr|[a-z_]+\([^)]*\)).*/\1 \2/' "$folder/trace.txt" > events.txt
         play calls --state "$folder/machine.cfg" events.txt
         seen page.html '#states' | awk '/<body>/ { on = 1; sub(/.*<pre>/, "") } /<\/pre>/ { exit } on' > states
-        grep -vE '^  [^ ]+ (values=|left=|stopped$)' output > wanted
-        diff states wanted > differs || { well=no && head differs; }
+        diff states output > differs || { well=no && head differs; }
         count "$well" view "$folder" '# its states in a browser'
     done
     well=yes
     seen page.html '#3' > drawn
     grep -q "data-shown=\"$(wc -l < "$folder/trace.txt")\"" drawn && grep -q '<h2>3 P' drawn || well=no
     count "$well" view "$folder" '# drawn in a browser'
+    well=yes
+    folder=$top/examples/producer-consumer
+    sed '9s/E_TMOUT/E_OK/;12s/:16/:17/' "$folder/trace.txt" > changed.txt
+    play view --differences "$folder/machine.cfg" changed.txt
+    mv output page.html
+    seen page.html '#9' > drawn
+    grep -q 'data-shown="15" data-differs="2"' drawn && grep -q '2 lines differ: 1 of 2' drawn && [ "$(grep -o 'class="row given[^<]*' drawn | grep -o 'Given: [^"]*')" \
+        = $'Given: 9 P1 PRODUCER psnd_dtq(SAMPLES, 15) E_OK\nGiven: 12 P2 CONSUMER prcv_dtq(SAMPLES) E_OK:17' ] && grep -q 'given: .*<b>E_OK</b>' drawn || well=no
+    count "$well" view --differences "$folder" '# drawn in a browser'
 }
 
 # seen PAGE PLACE: a page behind its scripts. Chromium does not shut itself in where it is run by root.

@@ -6,10 +6,12 @@
 CASE names cases as for tests/play: those with events that end well are replayed. Without one, its reader of Value Change Dumps is
 tried first, which is written from the standard (IEEE 1364) with the strings that GTKWave adds, on what it has to refuse and on what it
 has to read, and the replay, on a waveform each of whose lines is left out in turn. Then all examples are replayed, tasks with each
-number, runs by seeds, and the cases of tests/cases/waves and states. The last line is 'N passed, M failed'.
+number, runs by seeds, and the cases of tests/cases/waves and states. With each waveform comes the save file of its configuration, which
+has to name each variable once. The last line is 'N passed, M failed'.
 """
 import importlib.machinery
 import importlib.util
+import itertools
 import re
 import subprocess
 import sys
@@ -331,8 +333,10 @@ def reader_reads_the_standard():
 
 # The replay.
 
-OF_PROCESSOR = (("string", 1, "r", "running"), ("wire", 7, "n", "number"), ("wire", 1, "l", "locked"), ("wire", 1, "d", "disabled"),
+OF_PROCESSOR = (("string", 1, "r", "running"), ("string", 1, "c", "call"), ("wire", 1, "l", "locked"), ("wire", 1, "d", "disabled"),
                 ("wire", 1, "i", "latch"), ("string", 1, "h", "due"), ("event", 1, "t", "tick"))
+# The objects that have a number: their statement, the letter and the last word of their signal, and which field is the number at boot.
+OF_OBJECTS = (("CRE_SEM", "S", "count", 1), ("CRE_FLG", "F", "pattern", 1), ("CRE_DTQ", "D", "values", None), ("CRE_MPF", "M", "free", 1))
 COMMENT_OR_STRING = re.compile(r'/\*.*?\*/|//[^\n]*|"(?:\\.|[^"\\])*"', re.S)
 
 
@@ -341,11 +345,23 @@ def tasks_of(machine):
     return re.findall(r"\bCRE_TSK\s*\(\s*(\w+)", COMMENT_OR_STRING.sub(" ", machine))
 
 
-def declared(processors, tasks):
+def numbers_of(machine):
+    """The objects of a configuration that have a number, with what that is called and what it is at boot, in the order of their kinds."""
+    text = COMMENT_OR_STRING.sub(" ", machine)
+    defined = dict(re.findall(r"^[ \t]*#[ \t]*define[ \t]+(\w+)[ \t]+(\w+)[ \t]*$", text, re.M))
+    for statement, letter, word, place in OF_OBJECTS:
+        for n, (name, fields) in enumerate(re.findall(statement + r"\s*\(\s*(\w+)\s*,\s*\{([^}]*)\}", text), 1):
+            number = "0" if place is None else fields.split(",")[place].strip()
+            yield letter, n, name, word, int(defined.get(number, number), 0)
+
+
+def declared(processors, machine):
     """The variables of a waveform."""
     for p in range(1, processors + 1):
-        yield from (Variable(f"P{p}", kind, width, f"{letter}{p}", name) for kind, width, letter, name in OF_PROCESSOR)
-    yield from (Variable("tasks", "string", 1, f"s{n}", task) for n, task in enumerate(tasks, 1))
+        yield from (Variable(f"P{p}", kind, width, f"{letter}{p}", f"P{p}_{word}") for kind, width, letter, word in OF_PROCESSOR)
+    for n, task in enumerate(tasks_of(machine), 1):
+        yield from (Variable("tasks", "string", 1, f"{word[0]}{n}", f"{task}_{word}") for word in ("state", "wait"))
+    yield from (Variable("objects", "integer", 32, f"{letter}{n}", f"{name}_{word}") for letter, n, name, word, _ in numbers_of(machine))
 
 
 def states_of(told):
@@ -360,26 +376,32 @@ def states_of(told):
     return states
 
 
-def values_of(state, tasks):
-    """What each variable has to say in a state, by its scope and name."""
-    values = {("tasks", task): "dormant" for task in tasks}
+def values_of(state, machine):
+    """What each variable but the calls has to say in a state, by its name."""
+    tasks, numbers = tasks_of(machine), {(name, word): number for _, _, name, word, number in numbers_of(machine)}
+    values = {f"{task}_state": "dormant" for task in tasks} | {f"{task}_wait": "-" for task in tasks}
     for words in state:
         parts = dict(part.split("=", 1) for part in words[1:] if "=" in part)
         if "run" in parts:
-            running, scope = parts["run"], words[0]
-            values[scope, "running"] = "idle" if running == "-" else running
-            values[scope, "number"] = f"{tasks.index(running) + 1 if running != '-' else 0:07b}"
-            values[scope, "due"] = parts.get("due", "-").split(",")[0]
+            running, processor = parts["run"], words[0]
+            values[f"{processor}_running"] = "idle" if running == "-" else running
+            values[f"{processor}_due"] = parts.get("due", "-").split(",")[0]
             for flag in ("locked", "disabled", "latch"):
-                values[scope, flag] = "1" if flag in words[1:] else "0"
+                values[f"{processor}_{flag}"] = "1" if flag in words[1:] else "0"
             for task in parts.get("ready", "").split(","):
-                values["tasks", task] = "ready"
-            values["tasks", running] = "running"
+                values[f"{task}_state"] = "ready"
+            values[f"{running}_state"] = "running"
+        for word, part in parts.items():
+            if (words[0], word) in numbers:
+                numbers[words[0], word] = len(part.split(",")) if word == "values" else int(part)
     for task, *words in state:
         if words[0] in ("suspended", "waits"):
             told = ["waiting"] * ("waits" in words[:2]) + ["suspended"] * (words[0] == "suspended")
-            values["tasks", task] = "-".join(told)
-    return values
+            values[f"{task}_state"] = "-".join(told)
+        if task in tasks and "waits" in words[:2]:
+            kind, *name = words[words.index("waits") + 1:][:2]
+            values[f"{task}_wait"] = kind if kind in ("slp", "dly") else f"{kind}:{name[0]}"
+    return values | {f"{name}_{word}": f"{number:b}" for (name, word), number in numbers.items()}
 
 
 def ticking(line):
@@ -388,14 +410,22 @@ def ticking(line):
     return words[1] if words[3] == "tick" else None
 
 
+def called(line):
+    """The processor of a line of a trace, and its event with the answer."""
+    processor, event, answer = re.match(r"\d+ (P\d) \S+ (\w+\(.*?\)|\w+) (\S+)", line).groups()
+    return processor, "".join(event.split()) + "=" + answer
+
+
 def replay(machine, trace, told, wave):
     """A waveform says what the trace and the states say: that at boot, and those behind its events."""
-    dump, tasks, states = Dump(wave), tasks_of(machine), states_of(told)
+    dump, states = Dump(wave), states_of(told)
     processors = sum(words[1].startswith("run=") for words in states[0])
-    holds(dump.variables == list(declared(processors, tasks)), "other variables are declared")
+    holds(dump.variables == list(declared(processors, machine)), "other variables are declared")
+    names = [variable.name for variable in dump.variables]
+    holds(len(names) == len(set(names)), "two variables have one name")
     lines = [None, *trace.splitlines()]
     holds(dump.times == list(range(len(lines))) and len(states) == len(lines), "the times are not those of the lines")
-    now = {}
+    now, calls = {}, {f"P{p}_call": "-" for p in range(1, processors + 1)}
     for time, (line, state) in enumerate(zip(lines, states)):
         changed = [(dump.variables[change.place], change.value) for change in dump.changes if change.time == time]
         ticks = [(variable.scope, value) for variable, value in changed if variable.kind == "event"]
@@ -403,15 +433,42 @@ def replay(machine, trace, told, wave):
         holds(ticks == ([(processor, "1")] if processor else []), f"#{time} has the ticks {ticks}")
         told_once = [variable for variable, _ in changed]
         holds(len(told_once) == len(set(told_once)), f"#{time} tells a variable twice")
+        if line:
+            processor, call = called(line)
+            calls[f"{processor}_call"] = call
+            told_calls = [(variable.name, value) for variable, value in changed if variable.name in calls]
+            holds(told_calls == [(f"{processor}_call", call)], f"#{time} tells the calls {told_calls}")
+        places = [dump.variables.index(variable) for variable, _ in changed if line is None or variable.name not in calls and variable.kind != "event"]
+        holds(places == sorted(places), f"#{time} tells the variables in another order than they are declared")
         for variable, value in changed:
             if variable.kind != "event":
-                holds(now.get(variable) != value, f"#{time} tells the old value of {variable.identifier}")
+                holds(variable.name in calls or now.get(variable) != value, f"#{time} tells the old value of {variable.identifier}")
                 now[variable] = value
-        wanted = values_of(state, tasks)
+        wanted = values_of(state, machine) | calls
         for variable in dump.variables:
             if variable.kind != "event":
-                found, right = now.get(variable), wanted[variable.scope, variable.name]
-                holds(found == right, f"#{time} says {found} of {variable.scope} {variable.name}, which is {right}")
+                found, right = now.get(variable), wanted[variable.name]
+                holds(found == right, f"#{time} says {found} of {variable.name}, which is {right}")
+
+
+# How GTKWave shows a value: bits and strings as they are, a number in decimal, a pattern in hexadecimal.
+FORMATS = {"count": "@24", "pattern": "@22", "values": "@24", "free": "@24"}
+
+
+def saves(save, wave):
+    """A save file has each variable of a waveform once, in their order, under a comment for each scope, and shows it as its kind wants."""
+    lines = save.splitlines()
+    window = list(itertools.takewhile(lambda line: line[0] in "[*", lines))
+    holds({line.split()[0] for line in window} == {"[timestart]", "[size]", "[pos]", "*-1.000000", "[signals_width]", "[sst_expanded]"}, "another window")
+    wanted = []
+    variables = Dump(wave).variables
+    scopes = {variable.scope for variable in variables}
+    for name in [*sorted(scopes - {"tasks", "objects"}), "tasks", "objects"]:
+        wanted += ["@200", f"-{name}"]
+        for variable in variables:
+            if variable.scope == name:
+                wanted += [FORMATS.get(variable.name.split("_")[-1], "@28"), f"{name}.{variable.name}"]
+    holds(lines[len(window):] == wanted, "other traces")
 
 
 def events_of(trace):
@@ -438,7 +495,9 @@ class Player:
         """The trace, the states and the waveform of events."""
         trace = self.well(["calls", "machine", "events"], machine=machine, events=events)
         told = self.well(["calls", "--state", "machine", "events"], machine=machine, events=events)
-        return trace, told, self.well(["wave", "machine", "trace"], machine=machine, trace=trace)
+        wave = self.well(["wave", "machine", "trace"], machine=machine, trace=trace)
+        saves(self.well(["wave", "machine", "--gtkw"], machine=machine), wave)
+        return trace, told, wave
 
     def well(self, words, **texts):
         status, told = self.run(words, **texts)
@@ -507,12 +566,24 @@ end
 """
 
 
-def cases(names):
-    """The cases that end well and have events, by those names, as tests/play reads them."""
+def loaded_play():
+    """tests/play, as a module."""
     sys.dont_write_bytecode = True
     loader = importlib.machinery.SourceFileLoader("play", str(TOP / "tests/play"))
     play = importlib.util.module_from_spec(importlib.util.spec_from_loader("play", loader))
     loader.exec_module(play)
+    return play
+
+
+def worked_out(name):
+    """The configuration, the trace and the waveform of a case that has them, worked out by hand."""
+    _, parts = next(loaded_play().cases_of(TOP / "tests/cases/waves" / name))
+    return [parts[part].decode("latin-1") for part in ("machine.cfg", "trace", "wave")]
+
+
+def cases(names):
+    """The cases that end well and have events, by those names, as tests/play reads them."""
+    play = loaded_play()
     try:
         files = play.files_of(names)
     except play.Wrong as wrong:
@@ -540,6 +611,7 @@ def all_of(player):
     late = TOP / "examples/late-interrupt"
     whole = [(late / name).read_text() for name in ("machine.cfg", "trace.txt", "trace.vcd")]
     yield "replay: each line left out", lambda: player.misses_no_line(*whole)
+    yield "replay: each line left out, of objects", lambda: player.misses_no_line(*worked_out("objects.test"))
     for folder in sorted((TOP / "examples").iterdir()):
         if folder.is_dir():
             texts = [(folder / name).read_text() for name in ("machine.cfg", "trace.txt")]

@@ -1,4 +1,5 @@
-# The waveform of a trace, which has the line of each event's time. Of a trace that is not the machine's there is none.
+# The waveform of a trace, which has the line of each event's time. Of a trace that is not the machine's there is none. And the save file of
+# a configuration, which a viewer wants beside it.
 
 waves() {
     local folder timed=yes drawn=no
@@ -18,6 +19,11 @@ waves() {
     unread wave missing "$late/trace.txt"
     unread wave "$late/machine.cfg" missing
     unwritten wave "$late/machine.cfg" "$late/trace.txt"
+    run 0 "$late/trace.gtkw" /dev/null wave "$late/machine.cfg" --gtkw
+    run 1 /dev/null <(echo fmpsim: cut.txt: line 1: F1 syntax) wave cut.txt --gtkw
+    unread wave missing --gtkw
+    run 3 /dev/null <(printf '%s\n' 'fmpsim: read failed' '  missing: No such file or directory (os error 2)') wave --context --gtkw missing
+    unwritten wave "$late/machine.cfg" --gtkw
     # against a reader of waveforms that knows nothing of the program
     python3 "$top/tests/program/waves.py" "$program" > output 2>&1 && drawn=yes
     [ "$drawn" = yes ] || cat output

@@ -151,6 +151,7 @@ pub struct CallForm {
 }
 
 impl CallForm {
+    /// The form of a call with this name and arguments of these kinds, written with parentheses.
     fn new(text: &'static [u8], kinds: &'static [ArgumentKind]) -> Self
         ensures text { result.text.now ≡ text.now }
         ensures bare { result.bare ≡ false }

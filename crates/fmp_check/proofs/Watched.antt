@@ -28,7 +28,7 @@ module _ {S : Type 0} (watch : Watches S) (names : NameLists) where
 
   -- the first line that tells an event
   pub watched_behind : (w : State) (n : ℕ) (text line rest : List ℕ) (e : Event) (s : S) → (cut_at 10 text).0 ≡ line → (cut_at 10 text).1 ≡ Some rest → event_of names line ≡ Some e
-      → watched_from watch names w n (pieces_of 10 text) s ≡ watched_from watch names (step numbered w e).0 (n + 1) (pieces_of 10 rest) (watch s names n e (step numbered w e).0)
+      → watched_from watch names w n (pieces_of 10 text) s ≡ watched_from watch names (step numbered w e).0 (n + 1) (pieces_of 10 rest) (watch s names n (step numbered w e).1 (step numbered w e).0)
   watched_behind w n text line rest e s is_line cut told =
       ap (λ (lines : List (List ℕ)). watched_from watch names w n lines s) (first_piece text line rest is_line cut)
       ∙ watched_from-line w n line rest s
@@ -42,7 +42,7 @@ module _ {S : Type 0} (watch : Watches S) (names : NameLists) where
   unfolding watched_from watched_by pieces_of
   watched_none w n s = refl
 
-  watched_by-cons : (w : State) (n : ℕ) (e : Event) (es : List Event) (s : S) → watched_by watch names w n (e ∷ es) s ≡ watched_by watch names (step numbered w e).0 (n + 1) es (watch s names n e (step numbered w e).0)
+  watched_by-cons : (w : State) (n : ℕ) (e : Event) (es : List Event) (s : S) → watched_by watch names w n (e ∷ es) s ≡ watched_by watch names (step numbered w e).0 (n + 1) es (watch s names n (step numbered w e).1 (step numbered w e).0)
   unfolding watched_by
   watched_by-cons w n e es s = refl
 
@@ -56,7 +56,7 @@ module _ {S : Type 0} (watch : Watches S) (names : NameLists) where
       ap (λ (lines : List (List ℕ)). watched_from watch names w n lines s) (lines_pieces names n r rs valid)
       ∙ watched_from-line w n (core_text names n r) (lines_from names (n + 1) rs) s
       ∙ ap (λ (t : Option Event). watched_from watch names (behind w t) (n + 1) (pieces_of 10 (lines_from names (n + 1) rs)) (watched_one watch names w n t s)) told
-      ∙ watched_lines valid after (n + 1) rs (watch s names n r.event after) fit.1 (omega (arith, few))
+      ∙ watched_lines valid after (n + 1) rs (watch s names n (step numbered w r.event).1 after) fit.1 (omega (arith, few))
       ∙ sym (watched_by-cons w n r.event (map (λ x. x.event) rs) s)
 
 -- of a text that prints records

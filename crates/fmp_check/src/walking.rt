@@ -3,6 +3,7 @@ ghost use Rattle.std.specs.Prelude.{◌≡◌, ◌≤◌, ◌<◌, ◌+◌, [], 
 ghost use Rattle.fmp_bytes.specs.Bytes.{pieces_of};
 ghost use Rattle.fmp_machine.specs.Arrivals.{numbered};
 ghost use Rattle.fmp_machine.specs.Boot.{booted};
+ghost use Rattle.fmp_machine.specs.Step.{step};
 ghost use Rattle.fmp_safety.specs.Safe.{Safe};
 ghost use Rattle.fmp_text.specs.Limits.{most_bytes};
 ghost use Rattle.fmp_check.specs.Walking as spec;
@@ -48,6 +49,7 @@ impl Player {
         ensures same { IfOk result (λ same. same ≡ spec.prints_answer names.now self.old.plain.state n line.now (event_told names.now line.now)) }
         ensures own { OnOk result (self.new.own.items ≡ spec.own_core names.now self.old.plain.state n (event_told names.now line.now)) }
         ensures told { IfOk result (λ same. same ≡ true → event_told names.now line.now ≡ Some self.new.told.event) }
+        ensures answer { IfOk result (λ same. same ≡ true → self.new.told ≡ (step numbered self.old.plain.state self.new.told.event).1) }
         ensures state { self.new.plain.state ≡ spec.behind self.old.plain.state (event_told names.now line.now) }
         ensures steps { self.new.plain.steps ≤ self.old.plain.steps + 1 }
     {
@@ -102,7 +104,7 @@ fn walk_within<'a, W: Watcher>(
                 rest: after,
             }));
         }
-        watcher.watch(names, number, player.told.event, player.plain.machine())?;
+        watcher.watch(names, number, &player.told, player.plain.machine())?;
         number += 1;
         rest = after;
     }

@@ -69,6 +69,7 @@ fn new_name<'a>(parts: &Parts, room: bool, line: u32, name: &Word<'a>) -> Result
     }
 }
 
+/// Whether a semaphore's initial count, the first number, is at most its greatest count, the second. Other kinds always fit.
 fn counts_fit(kind: ObjectKind, numbers: Numbers) -> bool
     ensures { result ≡ objects.counts_fit kind numbers }
 {
@@ -78,6 +79,7 @@ fn counts_fit(kind: ObjectKind, numbers: Numbers) -> bool
     }
 }
 
+/// Refuses a semaphore that begins above its greatest count, with `OutOfRange` at the word of its first number.
 #[tactic(auto, unfolding(crate::specs::Objects::fitting_counts))]
 fn fitting_counts<'a>(kind: ObjectKind, numbers: Numbers, first: &Word<'a>) -> Result<(), Fault<'a>>
     ensures value { result ≡ objects.fitting_counts kind numbers first.now }
@@ -112,6 +114,7 @@ fn same(a: &[bool], b: &[bool]) -> bool
     }
 }
 
+/// Whether ticks count on each processor of a class: always where each counts its own, else where the class has the one processor alone.
 fn is_served(timer: Timer, class: &Class) -> bool
     ensures { result ≡ objects.is_served timer class.now }
 {
@@ -121,6 +124,7 @@ fn is_served(timer: Timer, class: &Class) -> bool
     }
 }
 
+/// Whether an object of this kind may be in the class: a cyclic or alarm handler only where the class is served, another always.
 fn is_handled(timer: Timer, class: &Class, kind: ObjectKind) -> bool
     ensures { result ≡ objects.is_handled timer class.now kind }
 {
@@ -148,6 +152,7 @@ fn served<'a>(
     }
 }
 
+/// How tasks wait on an object: by priority where its attributes say so, else first come first.
 fn order_of(attributes: Attributes) -> Order
     ensures { result ≡ objects.order_of attributes }
 {
@@ -335,6 +340,7 @@ impl Draft {
         }
     }
 
+    /// Adds the object of a statement to a class. The error is its first fault, or want of memory.
     #[tactic(auto, unfolding(crate::specs::Objects::create_in))]
     fn create_in<'a>(
         &mut self,
@@ -353,6 +359,7 @@ impl Draft {
         Ok(())
     }
 
+    /// Adds the object of a statement to the open class. Where none is open, the fault is `OutsideClass` in the statement's line.
     #[tactic(auto, unfolding(crate::specs::Objects::create))]
     fn create<'a>(&mut self, kind: ObjectKind, form: &Form<'a>) -> Result<(), ReadError<'a>>
         requires sound { IsSound (draft_of self.old) }
@@ -366,6 +373,7 @@ impl Draft {
         }
     }
 
+    /// Sets the number of processors, with which the start is over. The error is the fault of the number.
     #[tactic(auto, unfolding(crate::specs::Judging::count_processors))]
     fn count_processors<'a>(&mut self, form: &Form<'a>) -> Result<(), ReadError<'a>>
         ensures { Leads result (draft_of self.new) (spec.count_processors (draft_of self.old) form.now) }
@@ -376,6 +384,7 @@ impl Draft {
         Ok(())
     }
 
+    /// Sets the processors whose ticks count, and marks that the statement stood. The error is the fault of its word.
     #[tactic(auto, unfolding(crate::specs::Judging::choose_timer))]
     fn choose_timer<'a>(&mut self, form: &Form<'a>) -> Result<(), ReadError<'a>>
         ensures { Leads result (draft_of self.new) (spec.choose_timer (draft_of self.old) form.now) }
@@ -386,6 +395,7 @@ impl Draft {
         Ok(())
     }
 
+    /// Sets the greatest number of queued wakeups and the greatest priority, and marks that the statement stood. The error is the first fault.
     #[tactic(auto, unfolding(crate::specs::Judging::set_limits))]
     fn set_limits<'a>(&mut self, form: &Form<'a>) -> Result<(), ReadError<'a>>
         ensures { Leads result (draft_of self.new) (spec.set_limits (draft_of self.old) form.now) }
@@ -399,6 +409,7 @@ impl Draft {
         Ok(())
     }
 
+    /// Adds a class under a name that is to be new, where there is room for it. The error is the first fault, or want of memory.
     #[tactic(auto, unfolding(crate::specs::Judging::define_class))]
     fn define_class<'a>(&mut self, form: &Form<'a>) -> Result<(), ReadError<'a>>
         ensures { Leads result (draft_of self.new) (spec.define_class (draft_of self.old) form.now) }
@@ -411,6 +422,7 @@ impl Draft {
         Ok(())
     }
 
+    /// Opens the class that is named, so that the body has begun. Where no class has the name, the fault is `UnknownClass` at its word.
     #[tactic(auto, unfolding(crate::specs::Judging::begin_class))]
     fn begin_class<'a>(&mut self, form: &Form<'a>) -> Result<(), ReadError<'a>>
         ensures { Leads result (draft_of self.new) (spec.begin_class (draft_of self.old) form.now) }

@@ -152,6 +152,7 @@ fn members_in<'a>(parts: &Parts, line: u32, words: &[Word<'a>]) -> Result<[bool;
     Ok(members)
 }
 
+/// The class, where it has its initial processor and none beyond how many there are, else `BadClass` in the line of the statement.
 #[tactic(auto, unfolding(crate::specs::Numbers::sound_class))]
 fn sound_class<'a>(
     processors: u8,

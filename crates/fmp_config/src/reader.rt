@@ -50,6 +50,7 @@ fn placed<'a>(
     }
 }
 
+/// Whether the token is a `}` while a class is open.
 #[tactic(auto, unfolding(crate::specs::Reading::ends_class))]
 fn ends_class(draft: &Draft, token: &Token<'_>) -> bool
     ensures { result ≡ spec.ends_class (draft_of draft.now) token.now }

@@ -13,7 +13,7 @@ use Rattle.fmp_calls.specs.Table.{is_bare, kinds_of, named}
 use Rattle.fmp_codes.specs.declared.calls.Call.{Call}
 use Rattle.fmp_context.specs.declared.wanted.Wanted.{Wanted}
 use Rattle.fmp_context.specs.declared.wanted.Wanted.TheVariants as wants
-use Rattle.fmp_context.specs.Places.{Walk, IsEnd, going, stuck, further, marked, mark, fits, filled, argument, separated, next_argument, arguments, ended, ending, enclosed, behind_name, happening, on_processor, line_place, event_place}
+use Rattle.fmp_context.specs.Places.{Walk, IsEnd, going, stuck, further, marked, mark, fits, filled, argument, separated, next_argument, arguments, ended, ending, enclosed, behind_name, happening, on_processor, barred, line_place, event_place}
 use Rattle.fmp_names.specs.Names.{NameLists}
 use Rattle.fmp_text.specs.Lines.{is_skipped, processor_in, without_return}
 
@@ -115,8 +115,9 @@ on_within names text =
     (chained _ rest text (happening_within names rest) (chained rest (after Word text) text (skipped Blank (after Word text)) (skipped Word text)))
 
 line_within : (names : NameLists) (line : List ℕ) → IsEnd (line_place names line).rest line
+unfolding barred
 line_within names line =
-    chosen (list_all (is_of Line) line) (on_processor names (after Blank line)) (stuck (after Line line) wants.LineByte) line
+    chosen (list_all (is_of Line) line) (on_processor names (after Blank line)) (barred (after Line line)) line
     (chained _ (after Blank line) line (on_within names (after Blank line)) (skipped Blank line)) (skipped Line line)
 
 pub event_within : (names : NameLists) (line : List ℕ) → IsEnd (event_place names line).rest (without_return line)

@@ -1,10 +1,10 @@
 -- The first byte at fault of a line, and what is wanted there.
-use Rattle.std.specs.Prelude.{◌≡◌, ◌++◌, ℕ, zero, suc, ◌+◌, Bool, true, false, not, ◌&&◌, ◌||◌, List, [], ◌∷◌, Option, Some, None, is_ok, is_err, if◌then◌else◌, codes}
+use Rattle.std.specs.Prelude.{◌≡◌, ◌++◌, ℕ, zero, suc, ◌+◌, Bool, true, false, not, ◌&&◌, ◌||◌, List, [], ◌∷◌, Option, Some, None, is_ok, is_err, ◌==◌, if◌then◌else◌, codes}
 use Rattle.std.specs.List.{list_all}
 use Rattle.std.specs.Option.{option_map_or}
 use Rattle.std.specs.Str.{bytes_eq}
 use Rattle.fmp_bytes.specs.declared.classes.Class.TheVariants.{Blank, Word, Argument, Line}
-use Rattle.fmp_bytes.specs.Bytes.{is_of, prefix, after, behind, close_parenthesis, comma, open_parenthesis}
+use Rattle.fmp_bytes.specs.Bytes.{is_of, prefix, after, behind, close_parenthesis, comma, number_sign, open_parenthesis, slash}
 use Rattle.fmp_calls.specs.declared.kinds.ArgumentKind.{ArgumentKind}
 use Rattle.fmp_calls.specs.Table.{is_bare, kinds_of, named}
 use Rattle.fmp_codes.specs.declared.calls.Call.{Call}
@@ -13,6 +13,9 @@ use Rattle.fmp_context.specs.declared.wanted.Wanted.TheVariants as wants
 use Rattle.fmp_names.specs.Names.{NameLists}
 use Rattle.fmp_text.specs.Argument.{is_argument, value_at}
 use Rattle.fmp_text.specs.Lines.{is_skipped, processor_in, without_return}
+
+abbrev pub semicolon : ℕ
+semicolon = 59
 
 -- where reading stands: the rest of the line, and what is wanted at its beginning where it does not go on so
 pub record Walk : Type 0 where
@@ -97,9 +100,19 @@ on_processor names text =
     if is_err (processor_in names (prefix Word text)) then stuck text wants.Processor
     else happening names (after Blank (after Word text))
 
+-- what is wanted in place of a byte that may not stand in a line, which begins this text: no `;`, no comment, or another byte
+abbrev pub byte_wanted : List ℕ → Wanted
+byte_wanted [] = wants.LineByte
+byte_wanted (b ∷ bytes) =
+    if b == semicolon then wants.NoStop else (if b == number_sign || b == slash then wants.NoComment else wants.LineByte)
+
+-- from a byte on that may not stand in a line
+unfoldable pub barred : List ℕ → Walk
+barred text = stuck text (byte_wanted text)
+
 -- a line that is not to be skipped
 abbrev pub line_place : NameLists → List ℕ → Walk
-line_place names line = if list_all (is_of Line) line then on_processor names (after Blank line) else stuck (after Line line) wants.LineByte
+line_place names line = if list_all (is_of Line) line then on_processor names (after Blank line) else barred (after Line line)
 
 -- a whole line. A carriage return at its end is no part of it
 unfoldable pub event_place : NameLists → List ℕ → Walk

@@ -2,6 +2,8 @@
 use Rattle.std.specs.Prelude.{ℕ, List, ◌++◌, length, min, codes}
 use Rattle.fmp_question.specs.declared.fault.QuestionFault.{QuestionFault}
 use Rattle.fmp_question.specs.declared.fault.QuestionFault.TheVariants as question
+use Rattle.fmp_text.specs.declared.fault.TextKind.{TextKind}
+use Rattle.fmp_text.specs.declared.fault.TextKind.TheVariants as kinds
 use Rattle.fmp_context.specs.Excerpts.{excerpt}
 use Rattle.fmp_context.specs.Wanted.{label}
 
@@ -13,6 +15,13 @@ words question.BadForm =
 words question.UnknownName =
     codes "a name of the configuration, a processor, a call, a code, a word of a trace or of a state, or a `*` in the word\n"
 words question.TooLong = codes "at most 255 steps, and at most 1024 bytes in a pattern\n"
+
+-- as which fault of a text one of a question is told
+abbrev pub kind_of : QuestionFault → TextKind
+kind_of question.BadWord = kinds.BadByte
+kind_of question.BadForm = kinds.BadWord
+kind_of question.UnknownName = kinds.UnknownName
+kind_of question.TooLong = kinds.TooMany
 
 -- the question, a caret under the byte at which the fault begins, and what is wanted there
 unfoldable pub question_context : List ℕ → QuestionFault → ℕ → List ℕ

@@ -5,6 +5,7 @@ ghost use Rattle.fmp_context.specs.Contexts as contexts;
 ghost use Rattle.fmp_context.specs.Places as spec;
 
 use crate::excerpt::put_excerpt;
+use crate::hints::put_hint;
 use crate::walk::{Walk, behind_name, ending};
 use crate::wanted::{Wanted, put_wanted};
 use fmp_bytes::{Class, all_of, skip, split_prefix};
@@ -39,6 +40,25 @@ fn on_processor<'a>(names: &Names, text: &'a [u8]) -> Walk<'a>
     happening(names, skip(Class::Blank, rest))
 }
 
+/// What is wanted in place of a byte that may not stand in a line, which begins the text.
+fn byte_wanted(text: &[u8]) -> Wanted
+    ensures { result ≡ spec.byte_wanted text.now }
+{
+    match text {
+        [b';', ..] => Wanted::NoStop,
+        [b'#' | b'/', ..] => Wanted::NoComment,
+        _ => Wanted::LineByte,
+    }
+}
+
+/// Reading ends before a byte that may not stand in a line.
+#[tactic(auto, unfolding(crate::specs::Places::barred))]
+pub(crate) fn barred<'a>(text: &'a [u8]) -> Walk<'a>
+    ensures { result ≡ spec.barred text.now }
+{
+    Walk::stuck(text, byte_wanted(text))
+}
+
 /// How far a line of an event text fits, without its line feed: where it does not, its rest begins with the first byte at fault.
 /// A carriage return at its end is no part of it.
 #[tactic(auto, unfolding(crate::specs::Places::event_place))]
@@ -52,7 +72,7 @@ pub fn event_place<'a>(names: &Names, line: &'a [u8]) -> Walk<'a>
     if all_of(Class::Line, line) {
         on_processor(names, skip(Class::Blank, line))
     } else {
-        Walk::stuck(skip(Class::Line, line), Wanted::LineByte)
+        barred(skip(Class::Line, line))
     }
 }
 
@@ -66,22 +86,24 @@ fn has_fault(names: &Names, line: &[u8], kind: TextKind) -> bool
     }
 }
 
-/// What stands beside a line: the line, a caret under the place, and what is wanted there, if anything is.
+/// What stands beside a line: the line, a caret under the place, and what is wanted there, if anything is, with what is told of the word
+/// that stands there.
 #[tactic(auto, unfolding(crate::specs::Contexts::context_at))]
 pub(crate) fn context_at(
     alloc: Global,
-    processors: u8,
+    names: &Names,
     line: &[u8],
     walk: &Walk<'_>,
 ) -> Result<Option<Vec<u8>>, AllocError>
-    ensures { IfOk result (λ found. option_map (λ text. text.items) found ≡ contexts.context_at processors line.now walk.now) }
+    ensures { IfOk result (λ found. option_map (λ text. text.items) found ≡ contexts.context_at names.now line.now walk.now) }
 {
     let Some(wanted) = walk.wanted() else {
         return Ok(None);
     };
     let mut out = Vec::new(alloc);
     put_excerpt(&mut out, line, line.len().saturating_sub(walk.rest().len()))?;
-    put_wanted(&mut out, processors, wanted)?;
+    put_wanted(&mut out, names, wanted)?;
+    put_hint(alloc, &mut out, names, wanted, walk.rest())?;
     Ok(Some(out))
 }
 
@@ -102,7 +124,7 @@ pub fn event_context(
     }
     context_at(
         alloc,
-        names.processors(),
+        names,
         without_return(line),
         &event_place(names, line),
     )

@@ -91,7 +91,7 @@ fn end_of(length: usize, start: usize) -> usize
 
 /// Adds a line as it is shown from its byte `start` on: at most 200 bytes, with `..` where some are cut off.
 #[tactic(auto, unfolding(crate::specs::Excerpts::line_shown))]
-pub(crate) fn put_line(out: &mut Vec<u8>, line: &[u8], start: usize) -> Result<(), AllocError>
+pub fn put_line(out: &mut Vec<u8>, line: &[u8], start: usize) -> Result<(), AllocError>
     requires { start ≤ length line.now }
     ensures { OnOk result (out.new.items ≡ out.old.items ++ spec.line_shown line.now start) }
 {
@@ -113,7 +113,7 @@ fn put_caret(out: &mut Vec<u8>, count: usize) -> Result<(), AllocError>
 
 /// Adds a line as it is shown, and a caret under the byte of this column, which counts from 0.
 #[tactic(auto, unfolding(crate::specs::Excerpts::excerpt))]
-pub(crate) fn put_excerpt(out: &mut Vec<u8>, line: &[u8], column: usize) -> Result<(), AllocError>
+pub fn put_excerpt(out: &mut Vec<u8>, line: &[u8], column: usize) -> Result<(), AllocError>
     requires { column ≤ length line.now }
     ensures { OnOk result (out.new.items ≡ out.old.items ++ spec.excerpt line.now column) }
 {

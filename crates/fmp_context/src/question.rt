@@ -5,6 +5,7 @@ ghost use Rattle.fmp_context.specs.Questions as spec;
 use crate::excerpt::put_excerpt;
 use crate::wanted::label;
 use fmp_question::QuestionFault;
+use fmp_text::TextKind;
 use std::alloc::{AllocError, Global};
 
 /// What is wanted where a question has such a fault.
@@ -20,6 +21,18 @@ fn wanted_at(fault: QuestionFault) -> &'static [u8]
             b"a name of the configuration, a processor, a call, a code, a word of a trace or of a state, or a `*` in the word\n"
         }
         QuestionFault::TooLong => b"at most 255 steps, and at most 1024 bytes in a pattern\n",
+    }
+}
+
+/// The kind of fault of a text as which a fault of a question is told.
+pub fn question_kind(fault: QuestionFault) -> TextKind
+    ensures { result ≡ spec.kind_of fault }
+{
+    match fault {
+        QuestionFault::BadWord => TextKind::BadByte,
+        QuestionFault::BadForm => TextKind::BadWord,
+        QuestionFault::UnknownName => TextKind::UnknownName,
+        QuestionFault::TooLong => TextKind::TooMany,
     }
 }
 

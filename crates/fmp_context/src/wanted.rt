@@ -3,8 +3,10 @@ ghost use Rattle.std.specs.Prelude.{◌≡◌, ◌++◌, OnOk, decimal};
 ghost use Rattle.fmp_context.specs.Wanted as spec;
 
 use fmp_calls::ArgumentKind;
-use fmp_codes::Call;
+use fmp_codes::{Call, Event, Proc};
 use fmp_help::{put_argument, put_call};
+use fmp_text::Names;
+use fmp_trace::put_event;
 use itoa::Buffer;
 use std::alloc::AllocError;
 
@@ -29,11 +31,31 @@ pub enum Wanted {
     Step,
     /// A function that has no script.
     Function,
+    /// The end of the line in place of a `;`.
+    NoStop,
+    /// A line of its own for a comment.
+    NoComment,
+    /// This number of a trace's line.
+    LineNumber(u32),
+    /// Who runs.
+    Runner,
+    /// This call as it is printed.
+    Printed(Call),
+    /// The answer to an event.
+    Answer,
+    /// What may follow the answer.
+    Tail,
+    /// Printed ASCII.
+    PrintedByte,
+    /// A line feed without a carriage return before it.
+    NoReturn,
+    /// A line of a trace that may leave out parts.
+    PartialLine,
 }
 
 /// What stands before what is wanted.
 #[tactic(auto, unfolding(crate::specs::Wanted::label))]
-pub(crate) fn label() -> &'static [u8]
+pub fn label() -> &'static [u8]
     ensures { result.now ≡ spec.label }
 {
     b"  wanted: "
@@ -51,7 +73,27 @@ fn words(wanted: Wanted) -> &'static [u8]
             b"`script` and a function, or in a script `end` or a call that `fmpsim list` has, but not `ret_hdr`\n"
         }
         Wanted::Function => b"a function of the configuration that has no script yet\n",
-        Wanted::Processor | Wanted::Mark(..) | Wanted::Argument(..) | Wanted::CallEnd(_) => b"",
+        Wanted::NoStop => b"the end of the line, without a `;`\n",
+        Wanted::NoComment =>
+            b"the end of the line: a comment has a line of its own, which begins with `#`\n",
+        Wanted::Runner => b"who runs there: the name of a task or a handler, or `-`\n",
+        Wanted::Answer => {
+            b"a blank and the answer: a code, as `E_OK`, and a value behind `:` where it has one; or `wait`, `spin`, `gone`, `idle`, `held`, `taken` or `none`\n"
+        }
+        Wanted::Tail => {
+            b"the end of the line, or in this order ` rel=<task>:<code>[:<value>]`.., ` lost=<value>`, ` run=<task>` or ` run=idle`, ` ipi=<p>[,<p>]..`\n"
+        }
+        Wanted::PrintedByte => b"printed ASCII, from the blank to `~`\n",
+        Wanted::NoReturn => b"a line feed without a carriage return before it\n",
+        Wanted::PartialLine => {
+            b"`[<n> ]P<p> [<runner> ]<event> <answer>` and fields behind it, each as a trace has it, and the line's own number\n"
+        }
+        Wanted::Processor
+        | Wanted::Mark(..)
+        | Wanted::Argument(..)
+        | Wanted::CallEnd(_)
+        | Wanted::LineNumber(_)
+        | Wanted::Printed(_) => b"",
     }
 }
 
@@ -66,9 +108,29 @@ fn put_processors(out: &mut Vec<u8>, processors: u8) -> Result<(), AllocError>
     out.extend_from_slice(b"\n")
 }
 
+/// Adds that this number of the line is wanted.
+#[tactic(auto, unfolding(crate::specs::Wanted::number_line))]
+fn put_line_number(out: &mut Vec<u8>, number: u32) -> Result<(), AllocError>
+    ensures { OnOk result (out.new.items ≡ out.old.items ++ spec.number_line number) }
+{
+    let mut buffer = Buffer::new();
+    out.extend_from_slice(b"the line's number, ")?;
+    out.extend_from_slice(buffer.format(number).as_bytes())?;
+    out.extend_from_slice(b"\n")
+}
+
+/// Adds that this call is wanted as it is printed.
+#[tactic(auto, unfolding(crate::specs::Wanted::printed_line))]
+fn put_printed(out: &mut Vec<u8>, names: &Names, call: Call) -> Result<(), AllocError>
+    ensures { OnOk result (out.new.items ≡ out.old.items ++ spec.printed_line names.now call) }
+{
+    put_event(out, names, Event::Call(Proc::new(1), call))?;
+    out.extend_from_slice(b"\n")
+}
+
 /// Adds that this byte is wanted at the place.
 #[tactic(auto, unfolding(crate::specs::Wanted::mark_line))]
-fn put_mark(out: &mut Vec<u8>, byte: u8) -> Result<(), AllocError>
+pub fn put_mark(out: &mut Vec<u8>, byte: u8) -> Result<(), AllocError>
     ensures { OnOk result (out.new.items ≡ out.old.items ++ spec.mark_line byte) }
 {
     out.extend_from_slice(b"  here: `")?;
@@ -86,11 +148,13 @@ fn put_end(out: &mut Vec<u8>) -> Result<(), AllocError>
 
 /// Adds what is wanted, behind its label.
 #[tactic(auto, unfolding(crate::specs::Wanted::told))]
-fn put_told(out: &mut Vec<u8>, processors: u8, wanted: Wanted) -> Result<(), AllocError>
-    ensures { OnOk result (out.new.items ≡ out.old.items ++ spec.told processors wanted) }
+fn put_told(out: &mut Vec<u8>, names: &Names, wanted: Wanted) -> Result<(), AllocError>
+    ensures { OnOk result (out.new.items ≡ out.old.items ++ spec.told names.now wanted) }
 {
     match wanted {
-        Wanted::Processor => put_processors(out, processors),
+        Wanted::Processor => put_processors(out, names.processors()),
+        Wanted::LineNumber(number) => put_line_number(out, number),
+        Wanted::Printed(call) => put_printed(out, names, call),
         Wanted::Mark(call, byte) => {
             put_call(out, call)?;
             put_mark(out, byte)
@@ -107,11 +171,11 @@ fn put_told(out: &mut Vec<u8>, processors: u8, wanted: Wanted) -> Result<(), All
     }
 }
 
-/// Adds what is wanted, on a machine of so many processors.
+/// Adds what is wanted, on the machine of these names.
 #[tactic(auto, unfolding(crate::specs::Wanted::wanted_text))]
-pub fn put_wanted(out: &mut Vec<u8>, processors: u8, wanted: Wanted) -> Result<(), AllocError>
-    ensures { OnOk result (out.new.items ≡ out.old.items ++ spec.wanted_text processors wanted) }
+pub fn put_wanted(out: &mut Vec<u8>, names: &Names, wanted: Wanted) -> Result<(), AllocError>
+    ensures { OnOk result (out.new.items ≡ out.old.items ++ spec.wanted_text names.now wanted) }
 {
     out.extend_from_slice(label())?;
-    put_told(out, processors, wanted)
+    put_told(out, names, wanted)
 }

@@ -1,5 +1,5 @@
 -- Positions and ticks taken grow by one a step at most.
-use Rattle.std.proofs.Common.{◌≡◌, ℕ, zero, suc, ◌+◌, ◌-◌, ◌<◌, ◌≤◌, ◌==◌, ◌≢◌, ◌∙◌, ◌^◌, Bool, true, false, ◌&&◌, not, cond, List, [], ◌∷◌, length, Option, Some, None, refl, ap, sym, subst, arith, slice_index, slice_set}
+use Rattle.std.proofs.Common.{◌≡◌, ℕ, zero, suc, ◌+◌, ◌-◌, ◌<◌, ◌≤◌, ◌==◌, ◌≢◌, ◌∙◌, ◌^◌, Bool, true, false, ◌&&◌, cond, List, length, Option, Some, None, refl, arith, slice_index, slice_set}
 use Rattle.std.specs.Prelude.{replicate}
 use Rattle.std.proofs.lemmas.Bool.{eqb-true, eqb-false}
 use Rattle.std.proofs.lemmas.List.{get_or-set_same, get_or-set_other, length-set}
@@ -10,7 +10,7 @@ use Rattle.fmp_codes.specs.declared.records.Event.{Event}
 use Rattle.fmp_codes.specs.declared.records.Event.TheVariants as event
 use Rattle.fmp_codes.specs.declared.records.Runner.{Runner}
 use Rattle.fmp_codes.specs.declared.records.Runner.TheVariants as runner
-use Rattle.fmp_histories.specs.Positions.{is_gone, is_spin, is_call, is_taken, is_handler, is_return, past, terminated}
+use Rattle.fmp_histories.specs.Positions.{is_gone, is_taken, is_return, past, terminated}
 use Rattle.fmp_histories.specs.Places.{called_tasks, renewed, moved_tasks, handler_moved, moved_handlers}
 use Rattle.fmp_orders.specs.declared.rules.Rules.{Rules}
 use Rattle.fmp_orders.specs.Orders.{counts_ticks}
@@ -104,7 +104,7 @@ taken_near rules ns (event.Tick p) a long = go (counts_ticks rules && is_taken a
         set_near ns (p.number - 1) _ (omega (arith, least, most, long)) (omega arith)
     go false = same_near ns
 
-taken_long : (rules : Rules) (ns : List ℕ) (e : Event) (a : Answer) → length (moved_taken rules ns e a) ≡ length ns
+pub taken_long : (rules : Rules) (ns : List ℕ) (e : Event) (a : Answer) → length (moved_taken rules ns e a) ≡ length ns
 taken_long rules ns (event.Call p c) a = refl
 taken_long rules ns (event.Ipi p) a = refl
 taken_long rules ns (event.Tick p) a = go (counts_ticks rules && is_taken a)
@@ -137,7 +137,7 @@ module _ (rules : Rules) (tasks handlers taken : List ℕ) (seen left : ℕ) (o 
     taken_sized = taken_long rules taken e a ∙ r.taken_sized;
   }
 
-zeros : (n i : ℕ) → slice_index (replicate n 0) i ≡ 0
+pub zeros : (n i : ℕ) → slice_index (replicate n 0) i ≡ 0
 zeros zero i = refl
 zeros (suc n) zero = refl
 zeros (suc n) (suc i) = zeros n i

@@ -1,10 +1,13 @@
 //! One who goes through the orders of a configuration by its scripts.
 #![tactic(auto)]
 
+mod begun;
 mod sights;
 mod space;
 mod ticks;
 mod walker;
 
+pub use begun::choice_of;
 pub use sights::{has_to_look, is_over, look, put_sight};
+pub use ticks::advance_taken;
 pub use walker::Walker;

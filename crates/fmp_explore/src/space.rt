@@ -3,7 +3,7 @@ ghost use Rattle.fmp_orders.specs.Laws.{is_seen};
 ghost use Rattle.fmp_orders.specs.Places as places;
 ghost use Rattle.fmp_explore.specs.Walked.{origin_of};
 
-use crate::walker::{MOST, Walker, is_marked};
+use crate::walker::{MOST, Walker, are_equal, is_marked};
 use fmp_parts::Digest;
 use fmp_search::Space;
 use std::alloc::AllocError;
@@ -33,6 +33,11 @@ impl<'a> Space for Walker<'a> {
         self.seen = 0;
         self.left = MOST;
         Ok(())
+    }
+
+    #[tactic(auto, unfolding(fmp_orders::specs::Places::after))]
+    fn may_go(&self, step: u8) -> bool {
+        self.event_of(step).is_some()
     }
 
     /// The error is want of memory for the lines of an event.
@@ -75,7 +80,7 @@ impl<'a> Space for Walker<'a> {
 
     fn is_same(&self, other: &Self) -> bool {
         self.seen == other.seen
-            && self.tasks == other.tasks
+            && are_equal(&self.tasks, &other.tasks)
             && self.handlers == other.handlers
             && self.taken == other.taken
             && self.kernel.is_same(&other.kernel)

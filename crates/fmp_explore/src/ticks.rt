@@ -73,7 +73,7 @@ pub(crate) fn may_tick(config: &Config, rules: Rules, taken: &[u32; 8], p: Proc)
 }
 
 /// Counts the tick of a record, if it was taken and ticks are counted.
-pub(crate) fn advance_taken(rules: Rules, taken: &mut [u32; 8], made: &Record)
+pub fn advance_taken(rules: Rules, taken: &mut [u32; 8], made: &Record)
     requires { (i : ℕ) → i < 8 → slice_index taken.old i + 1 < 2 ^ 32 }
     ensures { taken.new ≡ places.moved_taken rules taken.old made.now.event made.now.answer }
 {

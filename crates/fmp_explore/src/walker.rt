@@ -1,5 +1,5 @@
 //! One who stands at a place of all orders, and makes steps.
-ghost use Rattle.std.specs.Prelude.{◌≡◌, ◌≤◌, ◌<◌, ◌+◌, ◌^◌, [], ◌∷◌, true, Some, is_some, IfOk, IfSome, if◌then◌else◌};
+ghost use Rattle.std.specs.Prelude.{◌≡◌, ◌≤◌, ◌<◌, ◌+◌, ◌^◌, [], ◌∷◌, true, false, Some, is_some, IfOk, IfSome, IfNone, IsTrue, if◌then◌else◌};
 ghost use Rattle.fmp_codes.specs.Records.{processor_of};
 ghost use Rattle.fmp_machine.specs.Step as machine;
 ghost use Rattle.fmp_listed.specs.Queues.{listed};
@@ -68,6 +68,18 @@ fn counted(seen: u32, marked: bool) -> u32
     if marked { seen + 1 } else { seen }
 }
 
+/// Whether two lists of positions are the same. All are looked at: a loop that does not stop at the first difference is compiled to one over
+/// many at a time.
+pub(crate) fn are_equal(one: &[u32; 64], other: &[u32; 64]) -> bool
+    ensures { IsTrue result → one.now ≡ other.now }
+{
+    let mut same = true;
+    for at in 0..64usize {
+        same &= one[at] == other[at];
+    }
+    same
+}
+
 /// Whether a step marks its event as a moment of the question.
 pub(crate) fn is_marked(step: u8) -> bool
     ensures { result ≡ places.is_marked step }
@@ -76,6 +88,7 @@ pub(crate) fn is_marked(step: u8) -> bool
 }
 
 impl<'a> Walker<'a> {
+    /// Where the script of a task, or of the handlers on a processor, has come to.
     fn position(&self, p: Proc, runner: Runner) -> u32
         ensures { result ≡ places.position_at self.now.place p runner }
     {
@@ -86,12 +99,14 @@ impl<'a> Walker<'a> {
         }
     }
 
+    /// Whether a request to a processor is pending and nothing holds it back.
     fn is_asked(&self, p: Proc) -> bool
         ensures { result ≡ places.is_asked_at self.now.place p }
     {
         self.kernel.pending(p) && !self.kernel.held(p)
     }
 
+    /// The call that comes next in the script of a runner. None without one, and where the rules want a pending request to be taken first.
     fn call_of(&self, p: Proc, runner: Option<Runner>) -> Option<Event>
         ensures is { result ≡ places.call_of self.now.place p runner }
         ensures on { IfSome result (λ e. processor_of e ≡ p) }
@@ -104,6 +119,7 @@ impl<'a> Walker<'a> {
         Some(Event::Call(p, asked_at(self.config, self.scripts, runner, position)))
     }
 
+    /// The interrupt by which a processor takes a request. None where no request is pending, or where it is held back.
     fn ipi_of(&self, p: Proc) -> Option<Event>
         ensures is { result ≡ places.ipi_of self.now.place p }
         ensures on { IfSome result (λ e. processor_of e ≡ p) }
@@ -115,6 +131,7 @@ impl<'a> Walker<'a> {
         }
     }
 
+    /// A tick of a processor. None where its ticks do not count, or where the rules allow it no more.
     fn tick_of(&self, p: Proc) -> Option<Event>
         ensures is { result ≡ places.tick_of self.now.place p }
         ensures on { IfSome result (λ e. processor_of e ≡ p) }
@@ -126,7 +143,7 @@ impl<'a> Walker<'a> {
         }
     }
 
-    // What one of the three events of a processor is.
+    /// The next call of who runs on a processor for 0, the interrupt of a request for 1 and a tick for 2. None where it cannot happen here.
     fn event_at(&self, p: Proc, kind: u8) -> Option<Event>
         requires { kind < 3 }
         ensures is { result ≡ places.event_at self.now.place p kind }
@@ -139,7 +156,8 @@ impl<'a> Walker<'a> {
         }
     }
 
-    // The event of a step, if it can be made here.
+    /// The event of a step. Each processor has six in a row: its three events without a mark, then the same with one. None where there is no
+    /// such processor or its event cannot happen here.
     pub(crate) fn event_of(&self, step: u8) -> Option<Event>
         ensures is { result ≡ places.event_of self.now.place step }
         ensures on { IfSome result (λ e. (processor_of e).number ≤ self.now.place.config.processors) }
@@ -179,7 +197,8 @@ impl<'a> Walker<'a> {
         })
     }
 
-    // Plays an event on a processor of the machine, which is marked or not.
+    /// Goes on by an event: the machine, the positions, the ticks and the steps seen change, and `made` tells what was done. It takes the room
+    /// of one step.
     pub(crate) fn play(&mut self, event: Event, marked: bool)
         requires on { (processor_of event).number ≤ self.old.place.config.processors }
         requires room { 0 < self.old.left }
@@ -210,6 +229,21 @@ impl<'a> Walker<'a> {
         }
     }
 
+    /// Makes the event of a step happen, without a mark and without a look at the question, and gives it. None where the step has none here, and
+    /// then the place stays.
+    pub fn follow(&mut self, step: u8) -> Option<Event>
+        requires room { 0 < self.old.left }
+        ensures event { result ≡ places.event_of self.old.place step }
+        ensures went { IfSome result (λ event. self.new.place ≡ places.went self.old.place false (machine.step listed self.old.place.machine event)) }
+        ensures made { IfSome result (λ event. self.new.made ≡ (machine.step listed self.old.place.machine event).1) }
+        ensures same { IfNone result (self.new ≡ self.old) }
+        ensures room { self.old.left ≤ self.new.left + 1 }
+    {
+        let event = self.event_of(step)?;
+        self.play(event, false);
+        Some(event)
+    }
+
     /// What the last event was told to have done.
     pub fn made(&self) -> &Record
         ensures { result.now ≡ self.now.made }
@@ -217,7 +251,8 @@ impl<'a> Walker<'a> {
         &self.made
     }
 
-    // Whether the event that led here may be marked so, where so many steps of the question were seen before it.
+    /// Whether the last event may be marked so, for a question of which so many steps were seen before it. The place stays as it is, and the
+    /// error is want of memory for the lines of the event.
     pub(crate) fn is_allowed(&mut self, seen: u32, marked: bool) -> Result<bool, AllocError>
         ensures allowed { IfOk result (λ r. r ≡ allows self.old.place.question seen marked (places.sight_at self.old.place self.old.made)) }
         ensures same { self.new ≡ self.old }

@@ -1,10 +1,11 @@
 -- The command line of a search through all orders, and what it gives.
-use Rattle.std.specs.Prelude.{◌≡◌, ◌⊎◌, ◌≤◌, ◌<◌, ◌^◌, ℕ, Bool, true, List, [], Option, Some, None, codes, unwrap_or}
+use Rattle.std.specs.Prelude.{◌≡◌, ◌≤◌, ℕ, true, List, [], Option, Some, None, codes, option_map, unwrap_or}
 use Rattle.std.specs.Option.{SomeIff}
 use Rattle.std.specs.Str.Parse.{IsNumeral, without_leading_plus}
 use Rattle.clap.specs.Words.{App, Row, Rule, Text, first_of, matches_of, new_app, new_rule, one_of, with_rule}
 use Rattle.clap.specs.declared.builder.action.ArgAction.TheVariants.{Set, SetTrue}
-use Rattle.fmp_smp_command.specs.Smp.{IsFlag, number_of, path_rule}
+use Rattle.fmp_smp_command.specs.Numbers.{number_of}
+use Rattle.fmp_smp_command.specs.Smp.{IsFlag, path_rule}
 use Rattle.fmp_explore_command.specs.declared.ExploreRequest.{ExploreRequest}
 
 -- what a parse reads of an option with a value that has to be given
@@ -36,9 +37,11 @@ abbrev pub explore_line : App
 explore_line = with_rule
     (with_rule
     (with_rule
+    (with_rule
     (with_rule wanted_line (flag_rule (codes "prompt")))
     (value_rule (codes "drift")))
     (value_rule (codes "places")))
+    (value_rule (codes "from")))
     (flag_rule (codes "context"))
 
 -- what clap finds in the words of that command line, by the ids of the arguments
@@ -79,4 +82,5 @@ pub record Asks (rows : List Row) (r : ExploreRequest) : Type 0 where
   pub drift : IsDrift (first_of (codes "drift") rows) r.drift
   pub turns : IsNumberWithin 1 1000000 (text_of (codes "turns") rows) (Some r.bounds.turns)
   pub places : IsPlaces (first_of (codes "places") rows) r.bounds.places
+  pub from : option_map (λ t. t.now) r.from ≡ first_of (codes "from") rows
   pub context : IsFlag (one_of (codes "context") rows) r.context

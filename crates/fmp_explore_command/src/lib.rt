@@ -45,12 +45,16 @@ be there at one event.
 With `--ticks any` there is no limit and no count, so that there are fewer places: try it first.
 Where it says `never`, no order of any length shows it.
 
+With `--from TRACE` only the orders are gone through that go on from those lines of a trace, which
+have to be lines of an order of these scripts. Lines count from 1 with those of TRACE, also for
+--turns, and the trace that is written begins with them.
+
 On standard output is the trace of a shortest order that shows it, `never`, or `not within N`: no
 order of at most N lines does.
 
 Exit status:
   0  never
-  1  a fault in a text or in the question, told on standard error with its place
+  1  a fault in a text, in the question or in TRACE, told on standard error with its place
   2  the command line is wrong
   3  a file could not be read, or the output not be written
   4  want of memory
@@ -75,6 +79,8 @@ pub struct ExploreRequest<'a> {
     /// How many ticks more than another a processor may have taken. Without it any number.
     pub drift: Option<u32>,
     pub bounds: Bounds,
+    /// The path of the trace where the orders begin. Without it they begin at boot.
+    pub from: Option<&'a str>,
     /// Whether what stands beside a fault is to be shown.
     pub context: bool,
 }
@@ -93,13 +99,13 @@ pub fn wanted<'a>(alloc: Global, id: &'a str, value: &'a str, about: &'a str) ->
 }
 
 /// An option with a value that may be left out.
-fn value<'a>(alloc: Global, id: &'a str, about: &'a str) -> Arg<'a>
+fn value<'a>(alloc: Global, id: &'a str, value: &'a str, about: &'a str) -> Arg<'a>
     ensures kind { IsOptional result id.entry.now }
     ensures rule { rule_of result ≡ value_rule id.entry.now }
 {
     Arg::new(alloc, id)
         .long(id)
-        .value_name("N")
+        .value_name(value)
         .action(ArgAction::Set)
         .help(about)
 }
@@ -167,12 +173,20 @@ pub fn explore_command<'a>(alloc: Global) -> Result<Command<'a>, AllocError>
     let drift = value(
         alloc,
         "drift",
+        "N",
         "How many ticks more than another a processor may have taken, 1 to 1000000",
     );
     let places = value(
         alloc,
         "places",
+        "N",
         "For how many places there is room, 1 to 100000000, or else for 1000000",
+    );
+    let from = value(
+        alloc,
+        "from",
+        "TRACE",
+        "Begins where this trace ends, and not at boot",
     );
     let context = flag(
         alloc,
@@ -183,8 +197,9 @@ pub fn explore_command<'a>(alloc: Global) -> Result<Command<'a>, AllocError>
     let one = start.arg(prompt)?;
     let two = one.arg(drift)?;
     let three = two.arg(places)?;
-    let four = three.arg(context)?;
-    Ok(four)
+    let four = three.arg(from)?;
+    let five = four.arg(context)?;
+    Ok(five)
 }
 
 /// The value of an option, or nothing.
@@ -215,6 +230,7 @@ fn request_of<'a>(matches: &ArgMatches<'a>) -> Option<ExploreRequest<'a>>
     let prompt = matches.get_flag("prompt");
     let drift = drift_in(matches.get_str("drift"))?;
     let bounds = bounds_of(matches)?;
+    let from = matches.get_str("from");
     let context = matches.get_flag("context");
     Some(ExploreRequest {
         config,
@@ -224,6 +240,7 @@ fn request_of<'a>(matches: &ArgMatches<'a>) -> Option<ExploreRequest<'a>>
         prompt,
         drift,
         bounds,
+        from,
         context,
     })
 }

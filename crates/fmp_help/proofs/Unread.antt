@@ -31,6 +31,7 @@ use Rattle.fmp_help.specs.Faults as faults
 use Rattle.fmp_help.specs.LeftOut.{is_left_out}
 use Rattle.fmp_help.specs.Listing.{about, of_fault_or_left_out, left_out_line}
 use Rattle.fmp_help.specs.Statements as told_statements
+use Rattle.fmp_help.specs.Words as words
 
 -- nothing that is read is left out; a lemma goes through all cases, where its first clauses name one of each family
 pub call_is_read : (call : Call) → is_left_out (table.text_of call) ≡ false
@@ -77,14 +78,14 @@ none_found text list word read left_out (Some k) is =
     absurd (differs (text k) word same (read k) left_out)
 
 -- what is told where nothing is found
-told_of : (call : Option Call) (name : Option StatementName) (kind : Option ConfigKind) (fault : Option TextKind) (left_out : Bool) (line : List ℕ)
+told_of : (call : Option Call) (name : Option StatementName) (kind : Option ConfigKind) (fault : Option TextKind) (left_out : Bool) (line : List ℕ) (other : Option (List ℕ))
     → call ≡ None → name ≡ None → kind ≡ None → fault ≡ None → left_out ≡ true
     → option_or (option_map told_calls.about call) (
     option_or (option_map told_statements.about name) (
     option_or (option_map faults.about_config kind) (
     option_or (option_map faults.about_text fault) (
-    if left_out then Some line else None)))) ≡ Some line
-told_of call name kind fault left_out line ec en ek ef el = rw (ec, en, ek, ef, el) refl
+    if left_out then Some line else other)))) ≡ Some line
+told_of call name kind fault left_out line other ec en ek ef el = rw (ec, en, ek, ef, el) refl
 
 pub left_out_is_told : (word : List ℕ) → is_left_out word ≡ true → about word ≡ Some (left_out_line word)
 unfolding about of_fault_or_left_out statements.statement_of
@@ -92,7 +93,7 @@ left_out_is_told word left_out =
     told_of (table.named word) (statements.statement_of word)
     (find (λ kind. bytes_eq (configs.code_of kind) word) faults.config_kinds)
     (find (λ kind. bytes_eq (texts.code_of kind) word) faults.text_kinds)
-    (is_left_out word) (left_out_line word)
+    (is_left_out word) (left_out_line word) (words.about word)
     (no_call word left_out _ refl)
     (none_found statements.text_of STATEMENT_NAMES word statement_is_read left_out _ refl)
     (none_found configs.code_of faults.config_kinds word config_fault_is_read left_out _ refl)

@@ -12,6 +12,7 @@ use Rattle.fmp_calls.specs.declared.table.time.TheConstants.{TIME_CALLS}
 use Rattle.fmp_calls.specs.declared.table.system.TheConstants.{SYSTEM_CALLS}
 use Rattle.fmp_calls.specs.declared.table.spin.TheConstants.{SPIN_CALLS}
 use Rattle.fmp_calls.specs.Table.{text_of, is_bare, kinds_of}
+use Rattle.fmp_help.specs.Deeds.{deed}
 
 -- what an argument of a kind is called
 abbrev pub word_of : ArgumentKind → List ℕ
@@ -72,9 +73,9 @@ abbrev pub arguments_of : List ArgumentKind → List ℕ
 arguments_of [] = []
 arguments_of (kind ∷ kinds) = argument_of kind ++ arguments_of kinds
 
--- a call, and for each of its arguments what may be written
+-- a call, for each of its arguments what may be written, and what it does and answers
 unfoldable pub about : Call → List ℕ
-about call = line_of call ++ arguments_of (kinds_of call)
+about call = line_of call ++ arguments_of (kinds_of call) ++ deed call
 
 -- the lines of the calls of a family
 unfoldable pub lines_of : {C : Type 0} → (C → Call) → List C → List ℕ

@@ -1,5 +1,5 @@
 -- The whole list, and what is told of one word.
-use Rattle.std.specs.Prelude.{ℕ, Bool, true, false, List, ◌++◌, Option, Some, None, option_map, find, codes, if◌then◌else◌, ◌≡◌}
+use Rattle.std.specs.Prelude.{ℕ, List, ◌++◌, Option, Some, option_map, find, codes, if◌then◌else◌}
 use Rattle.std.specs.Option.{option_or}
 use Rattle.std.specs.Str.{bytes_eq}
 use Rattle.fmp_calls.specs.Table.{named}
@@ -7,6 +7,7 @@ use Rattle.fmp_help.specs.Calls as calls
 use Rattle.fmp_help.specs.Faults as faults
 use Rattle.fmp_help.specs.LeftOut.{is_left_out}
 use Rattle.fmp_help.specs.Statements as statements
+use Rattle.fmp_help.specs.Words as words
 use Rattle.fmp_statements.specs.Faults as config
 use Rattle.fmp_statements.specs.Table.{statement_of}
 use Rattle.fmp_text.specs.Faults as text
@@ -22,21 +23,16 @@ everything =
 unfoldable pub left_out_line : List ℕ → List ℕ
 left_out_line word = word ++ codes " is left out\n"
 
--- what is told of a fault's number or of a name that is left out
+-- what is told of a fault's number, of a name that is left out, or of a word of the texts
 unfoldable pub of_fault_or_left_out : List ℕ → Option (List ℕ)
 of_fault_or_left_out word =
     option_or (option_map faults.about_config (find (λ kind. bytes_eq (config.code_of kind) word) faults.config_kinds)) (
     option_or (option_map faults.about_text (find (λ kind. bytes_eq (text.code_of kind) word) faults.text_kinds)) (
-    if is_left_out word then Some (left_out_line word) else None))
+    if is_left_out word then Some (left_out_line word) else words.about word))
 
--- what is told of a word: of a call, of a statement, of a fault, or of what is left out
+-- what is told of a word: of a call, of a statement, of a fault, of what is left out, or of a word of the texts
 unfoldable pub about : List ℕ → Option (List ℕ)
 about word =
     option_or (option_map calls.about (named word)) (
     option_or (option_map statements.about (statement_of word)) (
     of_fault_or_left_out word))
-
--- what is told was added to a text, if there is anything
-abbrev pub Adds : List ℕ → List ℕ → Bool → Option (List ℕ) → Type 0
-Adds old new true told = Some new ≡ option_map (λ t. old ++ t) told
-Adds old new false told = (told ≡ None) × (new ≡ old)

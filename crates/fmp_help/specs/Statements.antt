@@ -1,9 +1,8 @@
 -- How the statements are listed.
-use Rattle.std.specs.Prelude.{ℕ, ◌^◌, ◌-◌, List, [], ◌∷◌, ◌++◌, Option, Some, None, ◌==◌, nat_lt, codes, decimal, if◌then◌else◌}
-use Rattle.fmp_calls.specs.declared.kinds.ObjectKind.{ObjectKind}
+use Rattle.std.specs.Prelude.{ℕ, ◌+◌, ◌^◌, ◌-◌, List, [], ◌∷◌, ◌++◌, Option, Some, None, ◌==◌, nat_lt, codes, decimal, if◌then◌else◌}
+use Rattle.fmp_calls.specs.declared.kinds.ObjectKind.TheVariants.{Task, Semaphore}
+use Rattle.fmp_help.specs.Fields.{attribute_word, first_word, free_field, second_word, word_of}
 use Rattle.fmp_statements.specs.declared.attributes.Attribute.{Attribute}
-use Rattle.fmp_statements.specs.declared.parts.Item.{Item}
-use Rattle.fmp_statements.specs.declared.parts.Item.TheVariants as items
 use Rattle.fmp_statements.specs.declared.parts.Part.{Part}
 use Rattle.fmp_statements.specs.declared.parts.Part.TheVariants as parts
 use Rattle.fmp_statements.specs.declared.table.Range.{Range}
@@ -13,69 +12,59 @@ use Rattle.fmp_statements.specs.declared.table.TheConstants as table
 use Rattle.fmp_statements.specs.Attributes as written
 use Rattle.fmp_statements.specs.Table as statements
 
--- a word of a statement
-abbrev pub word_of : Item → List ℕ
-word_of items.Name = codes "name"
-word_of items.Function = codes "function"
-word_of items.First = codes "number"
-word_of items.Second = codes "number"
-word_of items.Attribute = codes "attribute"
-word_of items.Member = codes "processor"
-word_of items.Text = codes "\"..\""
-
 -- a part of a statement: a comma has a blank behind it
-unfoldable pub part_of : Part → List ℕ
-part_of (parts.Mark byte) = if byte == 44 then codes ", " else (byte ∷ [])
-part_of (parts.One item) = word_of item
-part_of (parts.Series byte item) = word_of item ++ codes " " ++ byte ∷ codes " .."
-part_of parts.Free = codes "any"
-part_of parts.Method = codes "LOCAL or GLOBAL, processor"
+unfoldable pub part_of : StatementName → ℕ → Part → List ℕ
+part_of name i (parts.Mark byte) = if byte == 44 then codes ", " else (byte ∷ [])
+part_of name i (parts.One item) = word_of name item
+part_of name i (parts.Series byte item) = word_of name item ++ codes " " ++ byte ∷ codes " .."
+part_of name i parts.Free = free_field name i
+part_of name i parts.Method = codes "LOCAL or GLOBAL, " ++ first_word name
 
--- the parts of a statement
-abbrev pub parts_of : List Part → List ℕ
-parts_of [] = []
-parts_of (part ∷ parts) = part_of part ++ parts_of parts
+-- how many fields without effect a part is
+abbrev pub frees_of : Part → ℕ
+frees_of parts.Free = 1
+frees_of _ = 0
+
+-- the parts of a statement, behind so many fields without effect
+abbrev pub parts_from : StatementName → ℕ → List Part → List ℕ
+parts_from name i [] = []
+parts_from name i (part ∷ parts) = part_of name i part ++ parts_from name (i + frees_of part) parts
 
 -- a statement as it is written
 unfoldable pub line_of : StatementName → List ℕ
-line_of name = statements.text_of name ++ parts_of (statements.parts_of name) ++ codes "\n"
+line_of name = statements.text_of name ++ parts_from name 0 (statements.parts_of name) ++ codes "\n"
 
 unfoldable pub attributes_of : List Attribute → List ℕ
 attributes_of [] = []
 attributes_of (attribute ∷ attributes) = codes " " ++ written.text_of attribute ++ attributes_of attributes
 
--- what stands before attributes, and before the range of a number
-unfoldable pub attribute_label : List ℕ
-attribute_label = codes "  attribute:"
+-- the line of these attributes
+unfoldable pub attributes_line : StatementName → List Attribute → List ℕ
+attributes_line name attributes = codes "  " ++ attribute_word name ++ codes ":" ++ attributes_of attributes ++ codes "\n"
 
-unfoldable pub first_label : List ℕ
-first_label = codes "  first number: within "
-
-unfoldable pub second_label : List ℕ
-second_label = codes "  second number: within "
-
-unfoldable pub attributes_line : List Attribute → List ℕ
-attributes_line attributes = attribute_label ++ attributes_of attributes ++ codes "\n"
-
--- the attributes that a statement allows which creates such an object
-unfoldable pub allowed_to : ObjectKind → List ℕ
-allowed_to kind = attributes_line (statements.allowed_of kind)
-
+-- the attributes that a statement allows which creates an object
 unfoldable pub allowed_line : StatementName → List ℕ
-allowed_line (Create kind) = allowed_to kind
+allowed_line (Create kind) = attributes_line (Create kind) (statements.allowed_of kind)
 allowed_line _ = []
 
--- the range of a number that may not be any
+-- the range of a number of this name that may not be any
 unfoldable pub range_line : List ℕ → Option Range → List ℕ
-range_line label (Some r) =
-    if nat_lt r.most (2 ^ 64 - 1) then (label ++ decimal r.least ++ codes " to " ++ decimal r.most ++ codes "\n") else []
-range_line label None = []
+range_line word (Some r) =
+    if nat_lt r.most (2 ^ 64 - 1) then (codes "  " ++ word ++ codes ": within " ++ decimal r.least ++ codes " to " ++ decimal r.most ++ codes "\n") else []
+range_line word None = []
 
--- the ranges of a statement's numbers on a machine of 8 processors with 32 priorities
+-- what else is to be said of a statement's numbers
+abbrev pub note_of : StatementName → List ℕ
+note_of (Create Task) = codes "  itskpri: up to 32 where `LIMITS(wupcnt, pri);` says so before the first class\n"
+note_of (Create Semaphore) = codes "  isemcnt: within 0 to maxsem\n"
+note_of _ = []
+
+-- the ranges of a statement's numbers on a machine of 8 processors that says nothing of its limits
 unfoldable pub ranges_of : StatementName → List ℕ
 ranges_of name =
-    range_line first_label (statements.first_range name 8 32)
-    ++ range_line second_label (statements.second_range name)
+    range_line (first_word name) (statements.first_range name 8 16)
+    ++ range_line (second_word name) (statements.second_range name)
+    ++ note_of name
 
 -- a statement, the attributes that it allows, and the ranges of its numbers
 unfoldable pub about : StatementName → List ℕ

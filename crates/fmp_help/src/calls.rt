@@ -3,6 +3,7 @@ ghost use Rattle.std.specs.Prelude.{◌≡◌, ◌++◌, OnOk};
 ghost use Rattle.fmp_codes.specs.declared.calls.Call.TheVariants as families;
 ghost use Rattle.fmp_help.specs.Calls as spec;
 
+use crate::deeds::deed;
 use fmp_calls::{
     ArgumentKind, BUFFER_CALLS, ObjectKind, SPIN_CALLS, SYNC_CALLS, SYSTEM_CALLS, TASK_CALLS,
     TIME_CALLS, form,
@@ -113,7 +114,8 @@ pub(crate) fn put_about(out: &mut Vec<u8>, call: Call) -> Result<(), AllocError>
     ensures { OnOk result (out.new.items ≡ out.old.items ++ spec.about call) }
 {
     put_call(out, call)?;
-    put_arguments(out, form(call).kinds)
+    put_arguments(out, form(call).kinds)?;
+    out.extend_from_slice(deed(call))
 }
 
 /// Adds a line for each of these calls on tasks.

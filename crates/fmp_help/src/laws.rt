@@ -1,5 +1,12 @@
-//! Laws of what is told: no fault is forgotten or told twice, and nothing that is read is left out.
-ghost use Rattle.std.specs.Prelude.{◌≡◌, ℕ, ◌+◌, true, false, List, ◌++◌, Some, Contains, map, slice_get, codes, decimal};
+//! Laws of what is told: no fault is forgotten or told twice, nothing that is read is left out, and each answer and attribute is told.
+ghost use Rattle.std.specs.Prelude.{◌≡◌, ℕ, ◌+◌, true, false, List, ◌++◌, Some, Contains, is_some, map, slice_get, codes, decimal};
+ghost use Rattle.std.specs.Option.{option_map_or};
+ghost use Rattle.fmp_codes.specs.Codes.{name_of};
+ghost use Rattle.fmp_codes.specs.Records.{word_of};
+ghost use Rattle.fmp_codes.specs.declared.codes.Code.{Code};
+ghost use Rattle.fmp_codes.specs.declared.records.Answer.{Answer};
+ghost use Rattle.fmp_statements.specs.Attributes as attributes;
+ghost use Rattle.fmp_statements.specs.declared.attributes.Attribute.{Attribute};
 ghost use Rattle.fmp_codes.specs.declared.calls.Call.{Call};
 ghost use Rattle.fmp_calls.specs.Table as calls;
 ghost use Rattle.fmp_statements.specs.declared.fault.ConfigKind.{ConfigKind};
@@ -50,4 +57,11 @@ pub fn what_is_left_out_is_told()
     ensures told { (word : List ℕ) → is_left_out word ≡ true → about word ≡ Some (left_out_line word) }
     ensures calls { (call : Call) → is_left_out (calls.text_of call) ≡ false }
     ensures statements { (name : StatementName) → is_left_out (statements.text_of name) ≡ false }
+{}
+
+/// There is something to tell of each code, of each other answer and of each attribute.
+pub fn answers_and_attributes_are_told()
+    ensures codes { (code : Code) → is_some (about (name_of code)) ≡ true }
+    ensures answers { (answer : Answer) → option_map_or (λ word. is_some (about word)) (word_of answer) true ≡ true }
+    ensures attributes { (attribute : Attribute) → is_some (about (attributes.text_of attribute)) ≡ true }
 {}

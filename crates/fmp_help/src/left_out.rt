@@ -73,7 +73,7 @@ fn is_one(names: &[&[u8]], word: &[u8]) -> bool
 
 /// Whether the word is the name of a service call or a statement that is left out.
 #[tactic(auto, unfolding(crate::specs::LeftOut::is_left_out))]
-pub(crate) fn is_left_out(word: &[u8]) -> bool
+pub fn is_left_out(word: &[u8]) -> bool
     ensures { result ≡ spec.is_left_out word.now }
 {
     begins_with_one(&BEGINNINGS, word) || ends_with_one(&ENDINGS, word) || is_one(&NAMES, word)

@@ -1,5 +1,6 @@
 //! The whole list, and what is told of one word.
 ghost use Rattle.std.specs.Prelude.{◌≡◌, ◌++◌, OnOk, IfOk, option_map};
+ghost use Rattle.fmp_help.specs.Adding.{Adds};
 ghost use Rattle.fmp_help.specs.Listing as spec;
 
 use crate::calls::{put_about as put_about_call, put_calls};
@@ -9,6 +10,7 @@ use crate::faults::{
 };
 use crate::left_out::is_left_out;
 use crate::statements::{put_about as put_about_statement, put_statements};
+use crate::words::put_word;
 use fmp_calls::find_call;
 use fmp_statements::find_statement;
 use std::alloc::{AllocError, Global};
@@ -33,17 +35,17 @@ pub fn everything(alloc: Global) -> Result<Vec<u8>, AllocError>
 
 /// Adds that a service call or a statement is left out.
 #[tactic(auto, unfolding(crate::specs::Listing::left_out_line))]
-fn put_left_out(out: &mut Vec<u8>, word: &[u8]) -> Result<(), AllocError>
+pub fn put_left_out(out: &mut Vec<u8>, word: &[u8]) -> Result<(), AllocError>
     ensures { OnOk result (out.new.items ≡ out.old.items ++ spec.left_out_line word.now) }
 {
     out.extend_from_slice(word)?;
     out.extend_from_slice(b" is left out\n")
 }
 
-/// Adds what is told of a fault or of what is left out, and says whether the word is one of these.
+/// Adds what is told of a fault, of what is left out or of a word of the texts, and says whether the word is one of these.
 #[tactic(auto, unfolding(crate::specs::Listing::of_fault_or_left_out))]
 fn put_other(out: &mut Vec<u8>, word: &[u8]) -> Result<bool, AllocError>
-    ensures { IfOk result (λ found. spec.Adds out.old.items out.new.items found (spec.of_fault_or_left_out word.now)) }
+    ensures { IfOk result (λ found. Adds out.old.items out.new.items found (spec.of_fault_or_left_out word.now)) }
 {
     if let Some(kind) = find_config_kind(word) {
         put_about_config(out, kind)?;
@@ -57,13 +59,13 @@ fn put_other(out: &mut Vec<u8>, word: &[u8]) -> Result<bool, AllocError>
         put_left_out(out, word)?;
         return Ok(true);
     }
-    Ok(false)
+    put_word(out, word)
 }
 
 /// Adds what is told of a word, and says whether there is anything.
 #[tactic(auto, unfolding(crate::specs::Listing::about))]
 fn put_about(out: &mut Vec<u8>, word: &[u8]) -> Result<bool, AllocError>
-    ensures { IfOk result (λ found. spec.Adds out.old.items out.new.items found (spec.about word.now)) }
+    ensures { IfOk result (λ found. Adds out.old.items out.new.items found (spec.about word.now)) }
 {
     if let Some(call) = find_call(word) {
         put_about_call(out, call)?;
@@ -76,8 +78,8 @@ fn put_about(out: &mut Vec<u8>, word: &[u8]) -> Result<bool, AllocError>
     put_other(out, word)
 }
 
-/// What is told of a word: a call with its arguments, a statement with its fields, a fault with what to do about it, or that it
-/// is left out. There is nothing to tell of any other word.
+/// What is told of a word: a call with its arguments and what it does, a statement with its fields, a fault with what to do about
+/// it, that it is left out, or what a word of a trace or an attribute means. There is nothing to tell of any other word.
 pub fn about(alloc: Global, word: &[u8]) -> Result<Option<Vec<u8>>, AllocError>
     ensures { IfOk result (λ found. option_map (λ text. text.items) found ≡ spec.about word.now) }
 {

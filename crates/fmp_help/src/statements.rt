@@ -1,59 +1,66 @@
 //! The statements of a configuration, with their fields.
-ghost use Rattle.std.specs.Prelude.{◌≡◌, ◌++◌, OnOk, decimal};
+ghost use Rattle.std.specs.Prelude.{◌≡◌, ◌≤◌, ◌++◌, OnOk, decimal};
 ghost use Rattle.fmp_help.specs.Statements as spec;
 
+use crate::fields::{attribute_word, first_word, free_field, second_word, word_of};
 use fmp_calls::ObjectKind;
-use fmp_statements::{Attribute, Item, Part, Range, STATEMENT_NAMES, StatementName, allowed};
+use fmp_statements::{Attribute, Part, Range, STATEMENT_NAMES, StatementName, allowed};
 use itoa::Buffer;
 use std::alloc::AllocError;
 
 /// The most processors that a machine may have.
 const MOST_PROCESSORS: u8 = 8;
 
-/// The most priorities that a machine may have.
-const MOST_PRIORITIES: u8 = 32;
+/// The most priorities of a machine that says nothing of its limits.
+const USUAL_PRIORITIES: u8 = 16;
 
-/// The word for an item of a statement.
-fn word_of(item: Item) -> &'static [u8]
-    ensures { result.now ≡ spec.word_of item }
-{
-    match item {
-        Item::Name => b"name",
-        Item::Function => b"function",
-        Item::First => b"number",
-        Item::Second => b"number",
-        Item::Attribute => b"attribute",
-        Item::Member => b"processor",
-        Item::Text => b"\"..\"",
-    }
-}
-
-/// Adds a part of a statement as it is written.
+/// Adds a part of a statement as it is written, which has so many fields without effect before it.
 #[tactic(auto, unfolding(crate::specs::Statements::part_of))]
-fn put_part(out: &mut Vec<u8>, part: Part) -> Result<(), AllocError>
-    ensures { OnOk result (out.new.items ≡ out.old.items ++ spec.part_of part) }
+fn put_part(
+    out: &mut Vec<u8>,
+    name: StatementName,
+    index: usize,
+    part: Part,
+) -> Result<(), AllocError>
+    ensures { OnOk result (out.new.items ≡ out.old.items ++ spec.part_of name index part) }
 {
     match part {
         Part::Mark(b',') => out.extend_from_slice(b", "),
         Part::Mark(byte) => Ok(out.push(byte)?),
-        Part::One(item) => out.extend_from_slice(word_of(item)),
+        Part::One(item) => out.extend_from_slice(word_of(name, item)),
         Part::Series(byte, item) => {
-            out.extend_from_slice(word_of(item))?;
+            out.extend_from_slice(word_of(name, item))?;
             out.push(b' ')?;
             out.push(byte)?;
             out.extend_from_slice(b" ..")
         }
-        Part::Free => out.extend_from_slice(b"any"),
-        Part::Method => out.extend_from_slice(b"LOCAL or GLOBAL, processor"),
+        Part::Free => out.extend_from_slice(free_field(name, index)),
+        Part::Method => {
+            out.extend_from_slice(b"LOCAL or GLOBAL, ")?;
+            out.extend_from_slice(first_word(name))
+        }
+    }
+}
+
+/// How many fields without effect a part is.
+fn frees_of(part: Part) -> usize
+    ensures count { result ≡ spec.frees_of part }
+    ensures few { result ≤ 1 }
+{
+    match part {
+        Part::Free => 1,
+        _ => 0,
     }
 }
 
 /// Adds the parts of a statement, one behind the other.
-fn put_parts(out: &mut Vec<u8>, parts: &[Part]) -> Result<(), AllocError>
-    ensures { OnOk result (out.new.items ≡ out.old.items ++ spec.parts_of parts.now) }
+fn put_parts(out: &mut Vec<u8>, name: StatementName, parts: &[Part]) -> Result<(), AllocError>
+    ensures { OnOk result (out.new.items ≡ out.old.items ++ spec.parts_from name 0 parts.now) }
 {
+    let mut index = 0;
     for part in parts {
-        put_part(out, *part)?;
+        put_part(out, name, index, *part)?;
+        index += frees_of(*part);
     }
     Ok(())
 }
@@ -64,7 +71,7 @@ fn put_statement(out: &mut Vec<u8>, name: StatementName) -> Result<(), AllocErro
     ensures { OnOk result (out.new.items ≡ out.old.items ++ spec.line_of name) }
 {
     out.extend_from_slice(name.text())?;
-    put_parts(out, name.parts())?;
+    put_parts(out, name, name.parts())?;
     out.extend_from_slice(b"\n")
 }
 
@@ -80,46 +87,20 @@ fn put_attributes(out: &mut Vec<u8>, attributes: &[Attribute]) -> Result<(), All
     Ok(())
 }
 
-/// What stands before the attributes.
-#[tactic(auto, unfolding(crate::specs::Statements::attribute_label))]
-fn attribute_label() -> &'static [u8]
-    ensures { result.now ≡ spec.attribute_label }
-{
-    b"  attribute:"
-}
-
-/// What stands before the range of the first number.
-#[tactic(auto, unfolding(crate::specs::Statements::first_label))]
-fn first_label() -> &'static [u8]
-    ensures { result.now ≡ spec.first_label }
-{
-    b"  first number: within "
-}
-
-/// What stands before the range of the second number.
-#[tactic(auto, unfolding(crate::specs::Statements::second_label))]
-fn second_label() -> &'static [u8]
-    ensures { result.now ≡ spec.second_label }
-{
-    b"  second number: within "
-}
-
 /// Adds the line of these attributes.
 #[tactic(auto, unfolding(crate::specs::Statements::attributes_line))]
-fn put_attributes_line(out: &mut Vec<u8>, attributes: &[Attribute]) -> Result<(), AllocError>
-    ensures { OnOk result (out.new.items ≡ out.old.items ++ spec.attributes_line attributes.now) }
+fn put_attributes_line(
+    out: &mut Vec<u8>,
+    name: StatementName,
+    attributes: &[Attribute],
+) -> Result<(), AllocError>
+    ensures { OnOk result (out.new.items ≡ out.old.items ++ spec.attributes_line name attributes.now) }
 {
-    out.extend_from_slice(attribute_label())?;
+    out.extend_from_slice(b"  ")?;
+    out.extend_from_slice(attribute_word(name))?;
+    out.push(b':')?;
     put_attributes(out, attributes)?;
     out.extend_from_slice(b"\n")
-}
-
-/// Adds the line of the attributes that a kind of objects allows.
-#[tactic(auto, unfolding(crate::specs::Statements::allowed_to))]
-fn put_allowed(out: &mut Vec<u8>, kind: ObjectKind) -> Result<(), AllocError>
-    ensures { OnOk result (out.new.items ≡ out.old.items ++ spec.allowed_to kind) }
-{
-    put_attributes_line(out, allowed(kind))
 }
 
 /// Adds the attributes of a statement that creates an object.
@@ -128,7 +109,7 @@ fn put_allowed_line(out: &mut Vec<u8>, name: StatementName) -> Result<(), AllocE
     ensures { OnOk result (out.new.items ≡ out.old.items ++ spec.allowed_line name) }
 {
     match name {
-        StatementName::Create(kind) => put_allowed(out, kind),
+        StatementName::Create(kind) => put_attributes_line(out, name, allowed(kind)),
         _ => Ok(()),
     }
 }
@@ -141,14 +122,16 @@ fn put_number(out: &mut Vec<u8>, number: u64) -> Result<(), AllocError>
     out.extend_from_slice(buffer.format(number).as_bytes())
 }
 
-/// Adds the range of a number, unless it may be any.
+/// Adds the range of a number of this name, unless it may be any.
 #[tactic(auto, unfolding(crate::specs::Statements::range_line))]
-fn put_range(out: &mut Vec<u8>, label: &[u8], range: Option<Range>) -> Result<(), AllocError>
-    ensures { OnOk result (out.new.items ≡ out.old.items ++ spec.range_line label.now range) }
+fn put_range(out: &mut Vec<u8>, word: &[u8], range: Option<Range>) -> Result<(), AllocError>
+    ensures { OnOk result (out.new.items ≡ out.old.items ++ spec.range_line word.now range) }
 {
     match range {
         Some(Range { least, most }) if most < u64::MAX => {
-            out.extend_from_slice(label)?;
+            out.extend_from_slice(b"  ")?;
+            out.extend_from_slice(word)?;
+            out.extend_from_slice(b": within ")?;
             put_number(out, least)?;
             out.extend_from_slice(b" to ")?;
             put_number(out, most)?;
@@ -158,14 +141,28 @@ fn put_range(out: &mut Vec<u8>, label: &[u8], range: Option<Range>) -> Result<()
     }
 }
 
-/// Adds the ranges of a statement's numbers on the greatest machine.
+/// What else is to be said of a statement's numbers.
+fn note_of(name: StatementName) -> &'static [u8]
+    ensures { result.now ≡ spec.note_of name }
+{
+    match name {
+        StatementName::Create(ObjectKind::Task) => {
+            b"  itskpri: up to 32 where `LIMITS(wupcnt, pri);` says so before the first class\n"
+        }
+        StatementName::Create(ObjectKind::Semaphore) => b"  isemcnt: within 0 to maxsem\n",
+        _ => b"",
+    }
+}
+
+/// Adds the ranges of a statement's numbers on the greatest machine, where nothing is said of its limits.
 #[tactic(auto, unfolding(crate::specs::Statements::ranges_of))]
 fn put_ranges(out: &mut Vec<u8>, name: StatementName) -> Result<(), AllocError>
     ensures { OnOk result (out.new.items ≡ out.old.items ++ spec.ranges_of name) }
 {
-    let first = name.first_range(MOST_PROCESSORS, MOST_PRIORITIES);
-    put_range(out, first_label(), first)?;
-    put_range(out, second_label(), name.second_range())
+    let first = name.first_range(MOST_PROCESSORS, USUAL_PRIORITIES);
+    put_range(out, first_word(name), first)?;
+    put_range(out, second_word(name), name.second_range())?;
+    out.extend_from_slice(note_of(name))
 }
 
 /// Adds a statement, the attributes that it allows, and the ranges of its numbers on the greatest machine.

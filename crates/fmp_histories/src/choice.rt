@@ -6,7 +6,7 @@ use fmp_codes::{Call, Runner, TaskCall};
 use fmp_machine::Config;
 use fmp_scripts::Scripts;
 
-// The number of the function of a task or a handler.
+/// The number of the function that a task or a handler runs. None where the configuration has no such task or handler.
 fn function_of(config: &Config, runner: Runner) -> Option<u8>
     ensures { result ≡ scripted.function_of config.now runner }
 {
@@ -26,7 +26,7 @@ fn function_of(config: &Config, runner: Runner) -> Option<u8>
     }
 }
 
-// What a runner asks after the last step of its script: a task ends, and a handler returns.
+/// The call behind the end of a script: a task ends itself, and a handler returns.
 fn last_of(runner: Runner) -> Call
     ensures { result ≡ scripted.last_of runner }
 {

@@ -9,7 +9,7 @@ use Rattle.fmp_check.specs.declared.checking.Verdict.TheVariants.{Yes, No}
 use Rattle.fmp_judging.specs.declared.fault.RunFault.{RunFault}
 use Rattle.fmp_judging.specs.declared.fault.RunFault.TheVariants as run
 use Rattle.fmp_judging.specs.declared.status.Status.{Status}
-use Rattle.fmp_judging.specs.declared.status.Status.TheVariants.{Done, Faulty, Usage, Device, Memory, Different, Limit}
+use Rattle.fmp_judging.specs.declared.status.Status.TheVariants.{Done, Faulty, Usage, Device, Memory, Different, Limit, Waiting}
 
 -- the exit status
 abbrev pub code_of : Status → ℕ
@@ -20,6 +20,7 @@ code_of Device = 3
 code_of Memory = 4
 code_of Different = 5
 code_of Limit = 6
+code_of Waiting = 7
 
 abbrev pub status_of_config : ConfigKind → Status
 status_of_config config_kind.Memory = Memory

@@ -21,10 +21,12 @@ pub enum Status {
     Different = 5,
     /// A run of processors came to its limit of turns.
     Limit = 6,
+    /// A run of processors ended quiet while a task waits, and that was to be told.
+    Waiting = 7,
 }
 
 impl Status {
-    /// The exit status, from 0 to 6.
+    /// The exit status, from 0 to 7.
     pub const fn code(self) -> u8
         ensures { result ≡ spec.code_of self }
     {

@@ -2,6 +2,7 @@
 //! stands.
 ghost use Rattle.std.specs.Prelude.{◌≡◌, ◌≤◌, ◌&&◌, [], None, is_none, length, slice_get};
 ghost use Rattle.std.specs.List.{list_all};
+ghost use Rattle.fmp_links.specs.Lists.{first_of};
 ghost use Rattle.fmp_machine.specs.Due.{IsNextDue};
 ghost use Rattle.fmp_machine.specs.Objects.{cyclic, eventflag, holder, pool, semaphore, values};
 ghost use Rattle.fmp_machine.specs.World.{item, task, processor, handler, is_held, runner_of};
@@ -116,6 +117,14 @@ impl Kernel {
         ensures model { (m : State) → Stands self.now m → result.items ≡ numbered.ready m.order m.tasks p priority }
     {
         self.machine.ready(p, priority)
+    }
+
+    /// The first ready task of a priority on a processor.
+    pub fn first_ready(&self, p: Proc, priority: Pri) -> Option<Task>
+        ensures lists { result ≡ first_of (listed.ready self.now.order self.now.tasks p priority) }
+        ensures model { (m : State) → Stands self.now m → result ≡ first_of (numbered.ready m.order m.tasks p priority) }
+    {
+        self.machine.first_ready(p, priority)
     }
 
     /// The tasks that wait in a queue of an object, in their order.

@@ -2,6 +2,7 @@
 ghost use Rattle.std.specs.Prelude.{◌≡◌, ◌≤◌, ◌&&◌, true, [], None, is_none, length, slice_get, IfOk, IsTrue, ◌↔◌};
 ghost use Rattle.std.specs.List.{list_all};
 ghost use Rattle.fmp_codes.specs.declared.numbers.Task.{Task as AnyTask};
+ghost use Rattle.fmp_links.specs.Lists.{first_of};
 ghost use Rattle.fmp_links.specs.Tasks.{has_task};
 ghost use Rattle.fmp_machine.specs.Boot.{blank};
 ghost use Rattle.fmp_machine.specs.Due.{IsNextDue};
@@ -80,6 +81,14 @@ impl KernelMachine {
         ensures { result.items ≡ listed.ready self.now.order self.now.tasks p priority }
     {
         self.ready.list(p, priority)
+    }
+
+    /// The first ready task of a priority on a processor.
+    #[tactic(auto, unfolding(fmp_listed::specs::Queues::listed))]
+    pub fn first_ready(&self, p: Proc, priority: Pri) -> Option<Task>
+        ensures { result ≡ first_of (listed.ready self.now.order self.now.tasks p priority) }
+    {
+        self.ready.first(p, priority)
     }
 
     /// The ticks left of a task's wait, where it is timed.

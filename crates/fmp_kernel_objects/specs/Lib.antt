@@ -1,2 +1,2 @@
-pub mod Kinds  -- All objects of a kind with their waiters, in the order of their numbers.
+pub mod Kinds  -- What stands where there is no object of a kind, and the blocks of a pool.
 pub mod Objects  -- All objects for which tasks wait, with their wait queues.

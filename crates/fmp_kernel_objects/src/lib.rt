@@ -7,10 +7,8 @@
 //! `Resources::new` takes the memory for all of them. No other call allocates.
 #![tactic(auto)]
 
-mod data_queues;
-mod eventflags;
-mod pools;
+mod kinds;
+mod objects;
 mod resources;
-mod semaphores;
 
 pub use resources::Resources;

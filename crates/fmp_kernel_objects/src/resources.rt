@@ -8,59 +8,64 @@ ghost use Rattle.fmp_listed.specs.Queues.{queue, place_of, place_in, changed};
 ghost use Rattle.fmp_kernel_objects.specs.Kinds.{is_handed_in};
 ghost use Rattle.fmp_kernel_objects.specs.Objects.{blank_objects, order_for, AreAlike};
 
-use crate::data_queues::DataQueues;
-use crate::eventflags::Eventflags;
-use crate::pools::Pools;
-use crate::semaphores::Semaphores;
+use crate::kinds::{Receivers, Senders, Waiters};
+use crate::objects::Objects;
 use arrayvec::ArrayVec;
 use fmp_codes::{Object, Pri, Task};
+use fmp_dtq::Dtq;
+use fmp_flag::Flag;
 use fmp_machine::{Config, DataQueueSetup, Eventflag, Order, Pool, QueueKind, Semaphore, Wait};
+use fmp_mpf::Mpf;
 use fmp_parts::{Digest, Part};
+use fmp_sem::Sem;
 use std::alloc::AllocError;
 use std::marker::Model;
 
 /// All objects for which tasks wait, each with the tasks that do.
 #[derive(Drop)]
 pub struct Resources {
-    semaphores: Semaphores,
-    eventflags: Eventflags,
-    data_queues: DataQueues,
-    pools: Pools,
+    semaphores: Objects<Sem>,
+    eventflags: Objects<Flag>,
+    data_queues: Objects<Dtq>,
+    pools: Objects<Mpf>,
 }
 
 impl Model for Resources {
+    ghost use Rattle.std.specs.Prelude.{map};
     ghost use Rattle.fmp_kernel_objects.specs.Objects.{AllObjects};
 
     ghost Value = { AllObjects };
 
     ghost view = { λ a. record {
-      semaphores = a.semaphores.semaphores;
-      eventflags = a.eventflags.eventflags;
-      data_queues = a.data_queues.setups;
-      contents = a.data_queues.contents;
-      pools = a.pools.pools;
+      semaphores = map (λ s. s.semaphore) a.semaphores;
+      eventflags = map (λ f. f.eventflag) a.eventflags;
+      data_queues = map (λ q. q.setup) a.data_queues;
+      contents = map (λ q. q.values) a.data_queues;
+      pools = map (λ m. m.pool) a.pools;
       waits = record {
-        semaphores = a.semaphores.waiters;
-        eventflags = a.eventflags.waiters;
-        senders = a.data_queues.senders;
-        receivers = a.data_queues.receivers;
-        pools = a.pools.waiters;
+        semaphores = map (λ s. s.waiters) a.semaphores;
+        eventflags = map (λ f. f.waiters) a.eventflags;
+        senders = map (λ q. q.senders) a.data_queues;
+        receivers = map (λ q. q.receivers) a.data_queues;
+        pools = map (λ m. m.waiters) a.pools;
       };
     } };
 }
 
+#[tactic(auto, using(crate::proofs::Columns::columns))]
 impl Resources {
     /// The objects of a configuration as it says, for which nobody waits. Takes all the memory that they will ever need, or
     /// fails where there is not enough.
+    #[tactic(auto, using(crate::proofs::Columns::made))]
     pub fn new(config: &Config) -> Result<Resources, AllocError>
         ensures { IfOk result (λ r. r ≡ blank_objects config.now) }
     {
         let alloc = config.allocator();
         Ok(Resources {
-            semaphores: Semaphores::new(alloc, config.semaphores())?,
-            eventflags: Eventflags::new(alloc, config.eventflags())?,
-            data_queues: DataQueues::new(alloc, config.data_queues())?,
-            pools: Pools::new(alloc, config.pools())?,
+            semaphores: Objects::new(alloc, config.semaphores())?,
+            eventflags: Objects::new(alloc, config.eventflags())?,
+            data_queues: Objects::new(alloc, config.data_queues())?,
+            pools: Objects::new(alloc, config.pools())?,
         })
     }
 
@@ -82,11 +87,11 @@ impl Resources {
         ensures { result ≡ first (map task_of (queue self.now.waits kind o)) }
     {
         match kind {
-            QueueKind::Semaphore => self.semaphores.first(o),
-            QueueKind::Eventflag => self.eventflags.first(o),
-            QueueKind::Send => self.data_queues.first_sender(o),
-            QueueKind::Receive => self.data_queues.first_receiver(o),
-            QueueKind::Pool => self.pools.first(o),
+            QueueKind::Semaphore => self.semaphores.first::<Waiters>(o),
+            QueueKind::Eventflag => self.eventflags.first::<Waiters>(o),
+            QueueKind::Send => self.data_queues.first::<Senders>(o),
+            QueueKind::Receive => self.data_queues.first::<Receivers>(o),
+            QueueKind::Pool => self.pools.first::<Waiters>(o),
         }
     }
 
@@ -95,11 +100,11 @@ impl Resources {
         ensures { result.items ≡ map task_of (queue self.now.waits kind o) }
     {
         match kind {
-            QueueKind::Semaphore => self.semaphores.list(o),
-            QueueKind::Eventflag => self.eventflags.list(o),
-            QueueKind::Send => self.data_queues.senders(o),
-            QueueKind::Receive => self.data_queues.receivers(o),
-            QueueKind::Pool => self.pools.list(o),
+            QueueKind::Semaphore => self.semaphores.list::<Waiters>(o),
+            QueueKind::Eventflag => self.eventflags.list::<Waiters>(o),
+            QueueKind::Send => self.data_queues.list::<Senders>(o),
+            QueueKind::Receive => self.data_queues.list::<Receivers>(o),
+            QueueKind::Pool => self.pools.list::<Waiters>(o),
         }
     }
 
@@ -109,9 +114,9 @@ impl Resources {
     {
         match wait {
             Wait::Sleep | Wait::Delay | Wait::Receive(_) => Order::First,
-            Wait::Semaphore(s) => self.semaphores.semaphore(s).setup.order,
-            Wait::Eventflag(f, _, _) => self.eventflags.eventflag(f).setup.order,
-            Wait::Send(d, _) => self.data_queues.setup(d).order,
+            Wait::Semaphore(s) => self.semaphore(s).setup.order,
+            Wait::Eventflag(f, _, _) => self.eventflag(f).setup.order,
+            Wait::Send(d, _) => self.data_queue(d).order,
             Wait::Pool(m) => self.pools.order(m),
         }
     }
@@ -123,11 +128,11 @@ impl Resources {
     {
         match wait {
             Wait::Sleep | Wait::Delay => {}
-            Wait::Semaphore(s) => self.semaphores.place(s, task, priority),
-            Wait::Eventflag(f, _, _) => self.eventflags.place(f, task, priority),
-            Wait::Send(d, _) => self.data_queues.place_sender(d, task, priority),
-            Wait::Receive(d) => self.data_queues.place_receiver(d, task, priority),
-            Wait::Pool(m) => self.pools.place(m, task, priority),
+            Wait::Semaphore(s) => self.semaphores.place::<Waiters>(s, task, priority),
+            Wait::Eventflag(f, _, _) => self.eventflags.place::<Waiters>(f, task, priority),
+            Wait::Send(d, _) => self.data_queues.place::<Senders>(d, task, priority),
+            Wait::Receive(d) => self.data_queues.place::<Receivers>(d, task, priority),
+            Wait::Pool(m) => self.pools.place::<Waiters>(m, task, priority),
         }
     }
 
@@ -137,11 +142,11 @@ impl Resources {
     {
         match wait {
             None | Some(Wait::Sleep | Wait::Delay) => {}
-            Some(Wait::Semaphore(s)) => self.semaphores.leave(s, task),
-            Some(Wait::Eventflag(f, _, _)) => self.eventflags.leave(f, task),
-            Some(Wait::Send(d, _)) => self.data_queues.leave_senders(d, task),
-            Some(Wait::Receive(d)) => self.data_queues.leave_receivers(d, task),
-            Some(Wait::Pool(m)) => self.pools.leave(m, task),
+            Some(Wait::Semaphore(s)) => self.semaphores.leave::<Waiters>(s, task),
+            Some(Wait::Eventflag(f, _, _)) => self.eventflags.leave::<Waiters>(f, task),
+            Some(Wait::Send(d, _)) => self.data_queues.leave::<Senders>(d, task),
+            Some(Wait::Receive(d)) => self.data_queues.leave::<Receivers>(d, task),
+            Some(Wait::Pool(m)) => self.pools.leave::<Waiters>(m, task),
         }
     }
 
@@ -159,7 +164,10 @@ impl Resources {
     pub fn semaphore(&self, s: Object) -> Semaphore
         ensures { result ≡ item blank_semaphore self.now.semaphores s.number }
     {
-        self.semaphores.semaphore(s)
+        match self.semaphores.get(s) {
+            Some(semaphore) => semaphore.semaphore(),
+            None => Semaphore::default(),
+        }
     }
 
     /// Changes the count of a semaphore.
@@ -184,7 +192,10 @@ impl Resources {
     pub fn eventflag(&self, f: Object) -> Eventflag
         ensures { result ≡ item blank_eventflag self.now.eventflags f.number }
     {
-        self.eventflags.eventflag(f)
+        match self.eventflags.get(f) {
+            Some(eventflag) => eventflag.eventflag(),
+            None => Eventflag::default(),
+        }
     }
 
     /// Changes the pattern of an eventflag.
@@ -209,7 +220,10 @@ impl Resources {
     pub fn data_queue(&self, d: Object) -> DataQueueSetup
         ensures { result ≡ item no_data_queue self.now.data_queues d.number }
     {
-        self.data_queues.setup(d)
+        match self.data_queues.get(d) {
+            Some(queue) => queue.setup(),
+            None => DataQueueSetup::default(),
+        }
     }
 
     /// How many values there are in a data queue.
@@ -217,21 +231,24 @@ impl Resources {
         ensures value { result ≡ length (item [] self.now.contents d.number) }
         ensures within { result ≤ (item no_data_queue self.now.data_queues d.number).capacity }
     {
-        self.data_queues.value_count(d)
+        match self.data_queues.get(d) {
+            Some(queue) => queue.len(),
+            None => 0,
+        }
     }
 
     /// The oldest value of a data queue.
     pub fn first_value(&self, d: Object) -> Option<i64>
         ensures { result ≡ first (item [] self.now.contents d.number) }
     {
-        self.data_queues.first_value(d)
+        self.data_queues.get(d)?.first_value()
     }
 
     /// The value at a place behind the oldest one of a data queue, if there are so many.
     pub fn value(&self, d: Object, index: usize) -> Option<i64>
         ensures { result ≡ slice_get (item [] self.now.contents d.number) index }
     {
-        self.data_queues.value(d, index)
+        self.data_queues.get(d)?.value(index)
     }
 
     /// Takes the oldest value out of a data queue, if there is one.
@@ -265,7 +282,10 @@ impl Resources {
     pub fn pool(&self, m: Object) -> Pool
         ensures { result ≡ item blank_pool self.now.pools m.number }
     {
-        self.pools.pool(m)
+        match self.pools.get(m) {
+            Some(pool) => pool.pool(),
+            None => Pool::default(),
+        }
     }
 
     /// The least block of a pool that is not handed out.
@@ -273,7 +293,11 @@ impl Resources {
         ensures { let pool = item blank_pool self.now.pools m.number in
             result ≡ position not (take pool.setup.blocks pool.handed) }
     {
-        self.pools.free_block(m)
+        match self.pools.get(m) {
+            Some(pool) => pool.free_block(),
+            // A pool that is not there counts as one of one block.
+            None => Some(0),
+        }
     }
 
     /// Whether an argument is the number of a block of a pool that is handed out.
@@ -281,7 +305,10 @@ impl Resources {
         ensures value { result ≡ is_handed_in (item blank_pool self.now.pools m.number) block }
         ensures few { IsTrue result → block ≤ℤ pos 63 }
     {
-        self.pools.is_handed(m, block)
+        match self.pools.get(m) {
+            Some(pool) => pool.is_handed(block),
+            None => false,
+        }
     }
 
     /// Marks a block of a pool as handed out or as free.

@@ -1,5 +1,5 @@
 //! Links in arrays.
-ghost use Rattle.std.specs.Prelude.{◌≡◌, ℕ, ◌+◌, ◌-◌, ◌^◌, ◌<◌, ◌≤◌, false, true, nat_eq, slice_set, length, replicate, [], ◌∷◌, List, ◌++◌, Some, IfSome};
+ghost use Rattle.std.specs.Prelude.{◌≡◌, ℕ, ◌+◌, ◌-◌, ◌^◌, ◌<◌, ◌≤◌, false, true, nat_eq, slice_set, length, replicate, [], ◌∷◌, List, ◌++◌, Some, IfSome, IsTrue};
 ghost use Rattle.std.specs.Option.{option_eq};
 ghost use Rattle.fmp_links.specs.Lists.{has, list_at, first_of, push_last, insert_before, take_out, rotated, AreDisjoint};
 ghost use Rattle.fmp_links.specs.Rings.{item_at};
@@ -27,6 +27,18 @@ impl<const NODES: usize, const ITEMS: usize> Model for Links<NODES, ITEMS> {
     ghost view = { λ a. lists_along ITEMS a.next };
 
     ghost invariant = { λ a. (ITEMS ≤ NODES) × (NODES < 2 ^ 16) × IsSound ITEMS a.next a.prev a.place (lists_along ITEMS a.next) };
+}
+
+/// Whether the links of two arrays are the same. All of them are looked at: a loop that does not stop at the first difference is compiled to
+/// one over many links at a time.
+fn are_equal<const NODES: usize>(one: &[u16; NODES], other: &[u16; NODES]) -> bool
+    ensures { IsTrue result → one.now ≡ other.now }
+{
+    let mut same = true;
+    for at in 0..NODES {
+        same &= one[at] == other[at];
+    }
+    same
 }
 
 impl<const NODES: usize, const ITEMS: usize> Links<NODES, ITEMS> {
@@ -170,7 +182,7 @@ impl<const NODES: usize, const ITEMS: usize> Part for Links<NODES, ITEMS> {
     ghost fits = { λ a b. Unit {0} };
 
     fn is_same(&self, other: &Self) -> bool {
-        self.next == other.next
+        are_equal(&self.next, &other.next)
     }
 
     fn copy_from(&mut self, other: &Self) {

@@ -37,6 +37,7 @@ fn word_in(chunk: u64) -> u64 {
     chunk & (first >> 7).wrapping_sub(1)
 }
 
+/// The first bytes, up to eight, as a number in little-endian order, and zeros behind the last.
 fn padded(bytes: &[u8]) -> u64 {
     let mut chunk: [u8; 8] = [0; 8];
     for index in 0..bytes.len().min(8) {
@@ -106,6 +107,7 @@ impl Likely {
         (self.object_at(slot), self.object_at(slot ^ 1))
     }
 
+    /// The number of the object in this slot, and 0 where it is empty or no name was added yet. Slots count through all kinds.
     #[inline(always)]
     fn object_at(&self, slot: usize) -> u8 {
         self.objects.get(slot).copied().unwrap_or(0)

@@ -63,6 +63,7 @@ pub fn is_constant(word: &[u8]) -> bool
     constant_in(word).is_some()
 }
 
+/// Whether the word is `P` and then one or more decimal digits.
 #[tactic(auto, unfolding(crate::specs::Names::is_processor_word))]
 fn is_processor_word(word: &[u8]) -> bool
     ensures { result ≡ spec.is_processor_word word.now }
@@ -81,6 +82,7 @@ pub fn is_reserved(word: &[u8]) -> bool
     word == b"idle".as_slice() || is_processor_word(word) || is_constant(word)
 }
 
+/// Whether the set holds a name of exactly these bytes.
 #[tactic(auto, using(crate::proofs::Listed::list_any_map))]
 fn has_name(set: &IndexSet<Vec<u8>>, name: &[u8]) -> bool
     ensures { result ≡ spec.has_name (spec.texts set.now) name.now }
@@ -88,12 +90,14 @@ fn has_name(set: &IndexSet<Vec<u8>>, name: &[u8]) -> bool
     set.contains(name)
 }
 
+/// Whether the objects of at least one kind have this name among theirs.
 fn some_has_name(sets: &[IndexSet<Vec<u8>>; 8], name: &[u8]) -> bool
     ensures { result ≡ list_any (λ set. spec.has_name (spec.texts set) name.now) sets.now }
 {
     sets.iter().any(|set| has_name(set, name))
 }
 
+/// Adds a name behind all others of the set, which must not hold it yet. An `Err` changes nothing.
 fn insert_name(set: &mut IndexSet<Vec<u8>>, name: Vec<u8>) -> Result<(), AllocError>
     requires { spec.has_name (spec.texts set.old) name.items ≡ false }
     ensures ok { OnOk result (spec.texts set.new ≡ spec.texts set.old ++ name.items ∷ []) }
@@ -103,6 +107,7 @@ fn insert_name(set: &mut IndexSet<Vec<u8>>, name: Vec<u8>) -> Result<(), AllocEr
     Ok(())
 }
 
+/// Adds a name behind the others of the kind at this place, which must not have it yet. An `Err` changes nothing.
 fn insert_object(
     objects: &mut [IndexSet<Vec<u8>>; 8],
     place: usize,
@@ -127,6 +132,7 @@ fn remember(
     likely.add(place, name, objects[place].len().saturating_add(1))
 }
 
+/// Adds a name that is not defined yet with the number that it stands for, behind all others. An `Err` changes nothing.
 fn insert_definition(
     defined: &mut IndexMap<Vec<u8>, u32>,
     name: Vec<u8>,
@@ -140,12 +146,14 @@ fn insert_definition(
     Ok(())
 }
 
+/// Whether both hold the same names in the same order.
 fn is_same_set(one: &IndexSet<Vec<u8>>, other: &IndexSet<Vec<u8>>) -> bool
     ensures { IsTrue result ↔ (spec.texts one.now ≡ spec.texts other.now) }
 {
     one.as_slice() == other.as_slice()
 }
 
+/// Whether in each kind of objects both have the same names in the same order.
 fn are_same_sets(one: &[IndexSet<Vec<u8>>; 8], other: &[IndexSet<Vec<u8>>; 8]) -> bool
     ensures { IsTrue result ↔ (map spec.texts one.now ≡ map spec.texts other.now) }
 {
@@ -157,6 +165,7 @@ fn are_same_sets(one: &[IndexSet<Vec<u8>>; 8], other: &[IndexSet<Vec<u8>>; 8]) -
     true
 }
 
+/// Whether both define the same names in the same order, and for the same numbers.
 fn are_same_definitions(one: &IndexMap<Vec<u8>, u32>, other: &IndexMap<Vec<u8>, u32>) -> bool
     ensures { IsTrue result ↔ (spec.definitions one.now ≡ spec.definitions other.now) }
 {
@@ -349,6 +358,7 @@ impl Names {
         self.nth(kind, number - 1)
     }
 
+    /// The name of the kind at this index, which counts from 0, and `None` behind the last.
     fn nth(&self, kind: NameKind, index: usize) -> Option<&[u8]>
         ensures { option_copied result ≡ slice_get (spec.names_of self.now kind) index }
     {
@@ -356,6 +366,7 @@ impl Names {
         Some(name.as_slice())
     }
 
+    /// The names of the kind, in the order of their numbers.
     fn list(&self, kind: NameKind) -> &IndexSet<Vec<u8>>
         ensures names { spec.texts result.now ≡ spec.names_of self.now kind }
         ensures most { (k : ObjectKind) → kind ≡ NameKind.Object k → index_set_len result.now ≤ most_of k }

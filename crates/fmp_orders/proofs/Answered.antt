@@ -16,10 +16,10 @@ use Rattle.fmp_orders.proofs.Runs.{runs_orders}
 
 module _ (c : Setup) (scripts : List Steps) (rs : Rules) (question : List Step) (valid : IsValid c) where
   -- the place to which a history leads that shows the question
-  seen_there : (w : Place) (h : List Record) (marks : List Bool) → LeadsTo c scripts rs question w h marks → seen marks ≡ length question → is_seen w ≡ true
+  pub seen_there : (w : Place) (h : List Record) (marks : List Bool) → LeadsTo c scripts rs question w h marks → seen marks ≡ length question → is_seen w ≡ true
   seen_there w h marks leads all = eq-eqb w.seen (length w.question) (leads.seen_is ∙ all ∙ sym (ap length leads.question_is))
 
-  all_seen : (w : Place) (h : List Record) (marks : List Bool) → LeadsTo c scripts rs question w h marks → is_seen w ≡ true → seen marks ≡ length question
+  pub all_seen : (w : Place) (h : List Record) (marks : List Bool) → LeadsTo c scripts rs question w h marks → is_seen w ≡ true → seen marks ≡ length question
   all_seen w h marks leads there = sym leads.seen_is ∙ eqb-true w.seen (length w.question) there ∙ ap length leads.question_is
 
   none_within : (n : ℕ) → NoneWithin after is_seen (origin c scripts rs question) n → NoneShowsWithin c scripts rs question n

@@ -1,5 +1,5 @@
 -- The events of an order are within the bits of their kinds, where the scripts are.
-use Rattle.std.proofs.Common.{◌≡◌, ℕ, List, take, slice_get, Some, subst}
+use Rattle.std.proofs.Common.{List, take, subst}
 use Rattle.std.specs.Prelude.{All}
 use Rattle.fmp_codes.specs.declared.records.Event.{Event}
 use Rattle.fmp_codes.specs.declared.records.Event.TheVariants as event

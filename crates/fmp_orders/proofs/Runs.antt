@@ -1,9 +1,9 @@
 -- Runs over places and orders of events.
-use Rattle.std.proofs.Common.{◌≡◌, ℕ, zero, suc, ◌+◌, ◌-◌, ◌*◌, ◌/◌, ◌%◌, ◌<◌, ◌≤◌, ◌∙◌, Bool, true, false, ◌&&◌, not, cond, List, [], ◌∷◌, ◌++◌, length, take, Option, Some, None, ◌⊎◌, inl, inr, refl, ap, sym, subst, arith, rules, slice_index, slice_get, append_assoc, append-nil}
+use Rattle.std.proofs.Common.{◌≡◌, ℕ, zero, suc, ◌+◌, ◌-◌, ◌*◌, ◌/◌, ◌%◌, ◌<◌, ◌≤◌, ◌==◌, ◌∙◌, Bool, true, false, ◌&&◌, ◌||◌, not, cond, List, [], ◌∷◌, ◌++◌, length, take, Option, Some, None, ◌⊎◌, inl, inr, refl, ap, sym, subst, arith, rules, slice_index, slice_get, append_assoc, append-nil, map}
 use Rattle.std.specs.Prelude.{nat_lt, nat_le, replicate}
 use Rattle.std.specs.Option.{option_and_then, option_map_or}
 use Rattle.std.proofs.lemmas.Grind.{common_steps}
-use Rattle.std.proofs.lemmas.Bool.{cases_Bool}
+use Rattle.std.proofs.lemmas.Bool.{cases_Bool, eq-eqb, eqb-true}
 use Rattle.std.proofs.lemmas.List.Elements.{All-nil}
 use Rattle.std.proofs.lemmas.Nat.{div-mul-add}
 use Rattle.std.proofs.Math.Nat.{mul-add-mod_self_right}
@@ -28,14 +28,17 @@ use Rattle.fmp_histories.specs.Histories.{events_of, state_after}
 use Rattle.fmp_histories.proofs.Histories.{step_event, after_more}
 use Rattle.fmp_histories.specs.Positions.{task_position, handler_position}
 use Rattle.fmp_histories.specs.Scripted.{next_call, asked_at, position_of, is_asked}
+use Rattle.fmp_search.specs.declared.guided.Choice.{Choice}
 use Rattle.fmp_search.specs.Runs.{run}
+use Rattle.fmp_search.specs.Guides.{is_of, Follows}
 use Rattle.fmp_question.specs.declared.question.Step.{Step}
 use Rattle.fmp_question.specs.Questions.{allows, seen}
 use Rattle.fmp_orders.specs.declared.rules.Rules.{Rules}
-use Rattle.fmp_orders.specs.Orders.{counts_ticks, counted, may_tick, MayHappen, AreInOrder}
+use Rattle.fmp_orders.specs.Orders.{counts_ticks, counted, may_tick, MayHappen, AreInOrder, IsOrder}
 use Rattle.fmp_orders.specs.Shown.{last_sight, IsMarked}
 use Rattle.fmp_orders.specs.Places.{Place, origin, position_at, is_asked_at, call_of, count_at, event_at, event_of, is_marked, went, sight_at, allowed, next_place, after, told_of, told, records}
 use Rattle.fmp_orders.specs.Laws.{LeadsTo, RunsAreOrders}
+use Rattle.fmp_orders.specs.Begun.{choice_at, choice_of, choices_of}
 use Rattle.fmp_orders.proofs.Alike.{may_tick_same}
 use Rattle.fmp_orders.proofs.Longer.{counts_same, same_record, same_allowed, leads_more}
 
@@ -49,7 +52,7 @@ no_count true = refl
 no_count false = refl
 
 -- where all runs begin shows the empty history
-leads_origin : (c : Setup) (scripts : List Steps) (rs : Rules) (question : List Step) → IsValid c → LeadsTo c scripts rs question (origin c scripts rs question) [] []
+pub leads_origin : (c : Setup) (scripts : List Steps) (rs : Rules) (question : List Step) → IsValid c → LeadsTo c scripts rs question (origin c scripts rs question) [] []
 unfolding state_after task_position handler_position
 leads_origin c scripts rs question valid = record {
   config_is = refl;
@@ -68,6 +71,18 @@ leads_origin c scripts rs question valid = record {
   seen_is = refl;
   sized = (refl, refl, refl);
 }
+
+-- ---- one of two steps
+
+or_true : (b : Bool) → (b || true) ≡ true
+or_true true = refl
+or_true false = refl
+
+pub is_first : (c : Choice) (s : ℕ) → s ≡ c.step → is_of c s ≡ true
+is_first c s is = ap (λ b. b || (c.other == s)) (eq-eqb c.step s (sym is))
+
+is_other : (c : Choice) (s : ℕ) → s ≡ c.other → is_of c s ≡ true
+is_other c s is = ap (λ b. (c.step == s) || b) (eq-eqb c.other s (sym is)) ∙ or_true (c.step == s)
 
 -- ---- what may happen at a place is what may happen after a history that leads there
 
@@ -185,19 +200,48 @@ module _ (c : Setup) (scripts : List Steps) (rs : Rules) (question : List Step) 
   tick_there p may = ap (λ b. cond b (Some (event.Tick p)) None) (same_tick p ∙ may)
 
   step_of : (p : Proc) (j k : ℕ) (m : Bool) (e : Event) → j < 6 → j % 6 ≡ j → j % 3 ≡ k → nat_le 3 j ≡ m → p.number ≤ c.processors → event_at w p k ≡ Some e →
-      (s : ℕ) × (event_of w s ≡ Some e) × (is_marked s ≡ m)
+      (s : ℕ) × (event_of w s ≡ Some e) × (is_marked s ≡ m) × (s ≡ (p.number - 1) * 6 + j)
   step_of p j k m e small part kind mark here at =
       let there = at_step p j k m small part kind mark here in
-      ((p.number - 1) * 6 + j, there.0 ∙ at, there.1)
+      ((p.number - 1) * 6 + j, there.0 ∙ at, there.1, refl)
 
-  -- and each event that may happen is that of a step, with a mark or without
-  pub may_step : (e : Event) (m : Bool) → MayHappen c scripts rs h e → (s : ℕ) × (event_of w s ≡ Some e) × (is_marked s ≡ m)
-  may_step (event.Call p call) false may = step_of p 0 0 false _ (omega arith) refl refl refl may.0 (call_there p _ may.1.0 may.1.1)
-  may_step (event.Call p call) true may = step_of p 3 0 true _ (omega arith) refl refl refl may.0 (call_there p _ may.1.0 may.1.1)
-  may_step (event.Ipi p) false may = step_of p 1 1 false _ (omega arith) refl refl refl may.0 (ipi_there p may.1)
-  may_step (event.Ipi p) true may = step_of p 4 1 true _ (omega arith) refl refl refl may.0 (ipi_there p may.1)
-  may_step (event.Tick p) false may = step_of p 2 2 false _ (omega arith) refl refl refl may.0 (tick_there p may.1)
-  may_step (event.Tick p) true may = step_of p 5 2 true _ (omega arith) refl refl refl may.0 (tick_there p may.1)
+  -- a step of one of the two numbers
+  abbrev StepOf : Event → Bool → Type 0
+  StepOf e m = (s : ℕ) × (event_of w s ≡ Some e) × (is_marked s ≡ m) × (is_of (choice_of e) s ≡ true)
+
+  unmarked : (p : Proc) (k : ℕ) (e : Event) → choice_of e ≡ choice_at p k → (s : ℕ) × (event_of w s ≡ Some e) × (is_marked s ≡ false) × (s ≡ (p.number - 1) * 6 + k) → StepOf e false
+  unmarked p k e is got = (got.0, got.1, got.2, ap (λ c. is_of c got.0) is ∙ is_first (choice_at p k) got.0 got.3)
+
+  marked : (p : Proc) (k : ℕ) (e : Event) → choice_of e ≡ choice_at p k → (s : ℕ) × (event_of w s ≡ Some e) × (is_marked s ≡ true) × (s ≡ (p.number - 1) * 6 + (k + 3)) → StepOf e true
+  marked p k e is got = let at = got.3 in (got.0, got.1, got.2, ap (λ c. is_of c got.0) is ∙ is_other (choice_at p k) got.0 (omega (arith, at)))
+
+  -- and each event that may happen is that of a step of its choice, with a mark or without
+  pub may_step : (e : Event) (m : Bool) → MayHappen c scripts rs h e → StepOf e m
+  may_step (event.Call p call) false may = unmarked p 0 _ refl (step_of p 0 0 false _ (omega arith) refl refl refl may.0 (call_there p _ may.1.0 may.1.1))
+  may_step (event.Call p call) true may = marked p 0 _ refl (step_of p 3 0 true _ (omega arith) refl refl refl may.0 (call_there p _ may.1.0 may.1.1))
+  may_step (event.Ipi p) false may = unmarked p 1 _ refl (step_of p 1 1 false _ (omega arith) refl refl refl may.0 (ipi_there p may.1))
+  may_step (event.Ipi p) true may = marked p 1 _ refl (step_of p 4 1 true _ (omega arith) refl refl refl may.0 (ipi_there p may.1))
+  may_step (event.Tick p) false may = unmarked p 2 _ refl (step_of p 2 2 false _ (omega arith) refl refl refl may.0 (tick_there p may.1))
+  may_step (event.Tick p) true may = marked p 2 _ refl (step_of p 5 2 true _ (omega arith) refl refl refl may.0 (tick_there p may.1))
+
+  either_step : (p : Proc) (k s : ℕ) (o : Option Event) → event_of w ((p.number - 1) * 6 + k) ≡ o → event_of w ((p.number - 1) * 6 + (k + 3)) ≡ o →
+      is_of (choice_at p k) s ≡ true → event_of w s ≡ o
+  either_step p k s o first other is = go ((p.number - 1) * 6 + k == s) refl is
+    where
+      go : (b : Bool) → ((p.number - 1) * 6 + k == s) ≡ b → (b || ((p.number - 1) * 6 + k + 3 == s)) ≡ true → event_of w s ≡ o
+      go true e h = subst (λ n. event_of w n ≡ o) (eqb-true ((p.number - 1) * 6 + k) s e) first
+      go false e h =
+          let same = eqb-true ((p.number - 1) * 6 + k + 3) s h in
+          subst (λ n. event_of w n ≡ o) (omega (arith, same)) other
+
+  -- each step of the choice of an event that may happen has this event
+  pub choice_event : (e : Event) (s : ℕ) → MayHappen c scripts rs h e → is_of (choice_of e) s ≡ true → event_of w s ≡ Some e
+  choice_event (event.Call p call) s may is =
+      either_step p 0 s _ (at_step p 0 0 false (omega arith) refl refl refl may.0).0 (at_step p 3 0 true (omega arith) refl refl refl may.0).0 is ∙ call_there p _ may.1.0 may.1.1
+  choice_event (event.Ipi p) s may is =
+      either_step p 1 s _ (at_step p 1 1 false (omega arith) refl refl refl may.0).0 (at_step p 4 1 true (omega arith) refl refl refl may.0).0 is ∙ ipi_there p may.1
+  choice_event (event.Tick p) s may is =
+      either_step p 2 s _ (at_step p 2 2 false (omega arith) refl refl refl may.0).0 (at_step p 5 2 true (omega arith) refl refl refl may.0).0 is ∙ tick_there p may.1
 
 -- ---- runs
 
@@ -254,29 +298,29 @@ module _ (c : Setup) (scripts : List Steps) (rs : Rules) (question : List Step) 
       step_leads s steps w w' h marks leads (λ x g ms leads' on'. run_leads steps x w' g ms leads' on') (event_of w s) refl on
 
   -- what stands behind a part of a list
-  at_end : {A : Type 0} (g rest : List A) (r : A) → (slice_get (g ++ r ∷ rest) (length g) ≡ Some r) × (take (length g) (g ++ r ∷ rest) ≡ g) × (take (suc (length g)) (g ++ r ∷ rest) ≡ g ++ r ∷ [])
+  pub at_end : {A : Type 0} (g rest : List A) (r : A) → (slice_get (g ++ r ∷ rest) (length g) ≡ Some r) × (take (length g) (g ++ r ∷ rest) ≡ g) × (take (suc (length g)) (g ++ r ∷ rest) ≡ g ++ r ∷ [])
   at_end [] rest r = (refl, refl, refl)
   at_end (x ∷ g) rest r = let more = at_end g rest r in (more.0, ap (λ l. x ∷ l) more.1, ap (λ l. x ∷ l) more.2)
 
   -- the step of an event that is marked so
   one_step : (w : Place) (g : List Record) (marks : List Bool) (leads : Leads w g marks) (e : Event) (may : MayHappen c scripts rs g e) (m : Bool) →
       allows question (seen marks) m (last_sight c rs (g ++ (step listed w.machine e).1 ∷ []) (step listed w.machine e).1) ≡ true →
-      (s : ℕ) × (after w s ≡ Some (went w m (step listed w.machine e)))
+      (s : ℕ) × (after w s ≡ Some (went w m (step listed w.machine e))) × (is_of (choice_of e) s ≡ true)
   unfolding after
   one_step w g marks leads e may m allowed_there =
       let did = step listed w.machine e in
       let one = may_step c scripts rs question w g marks leads e m may in
       let here = same_allowed c scripts rs question valid w g marks leads e may m ∙ allowed_there in
-      (one.0, ap (next_place w (is_marked one.0)) one.1 ∙ ap (λ b. allowed w b did) one.2 ∙ ap (λ b. cond b (Some (went w m did)) None) here)
+      (one.0, ap (next_place w (is_marked one.0)) one.1 ∙ ap (λ b. allowed w b did) one.2 ∙ ap (λ b. cond b (Some (went w m did)) None) here, one.3)
 
   -- an order whose first part leads to a place is a run over places from there
   order_runs : (es : List Event) (ms : List Bool) (w : Place) (g : List Record) (gm : List Bool) (h : List Record) (hm : List Bool) → Leads w g gm →
       g ++ answers numbered (state_after c g) es ≡ h → gm ++ ms ≡ hm → length ms ≡ length es → AreInOrder c scripts rs h → IsMarked c rs question h hm →
-      (steps : List ℕ) × (w' : Place) × (length steps ≡ length es) × (run after w steps ≡ Some w') × Leads w' h hm
+      (steps : List ℕ) × (w' : Place) × (length steps ≡ length es) × (run after w steps ≡ Some w') × Leads w' h hm × Follows (map choice_of es) steps
   order_runs [] [] w g gm h hm leads is marks_are many in_order marked =
       let same : g ≡ h = sym (append-nil g) ∙ is in
       let same_marks : gm ≡ hm = sym (append-nil gm) ∙ marks_are in
-      ([], w, refl, refl, subst (λ x. Leads w h x) same_marks (subst (λ x. Leads w x gm) same leads))
+      ([], w, refl, refl, subst (λ x. Leads w h x) same_marks (subst (λ x. Leads w x gm) same leads), tt)
   order_runs [] (m ∷ ms) w g gm h hm leads is marks_are many in_order marked = absurd (grind (arith, common_steps, many))
   order_runs (e ∷ es) [] w g gm h hm leads is marks_are many in_order marked = absurd (grind (arith, common_steps, many))
   order_runs (e ∷ es) (m ∷ ms) w g gm h hm leads is marks_are many in_order marked =
@@ -307,20 +351,25 @@ module _ (c : Setup) (scripts : List Steps) (rs : Rules) (question : List Step) 
       let marks_longer : (gm ++ m ∷ []) ++ ms ≡ hm = append_assoc gm (m ∷ []) ms ∙ marks_are in
       let last = order_runs es ms (went w m did) (g ++ r ∷ []) (gm ++ m ∷ []) h hm more longer marks_longer (grind (arith, common_steps, many)) in_order marked in
       let leads_on : run after w (one.0 ∷ last.0) ≡ Some last.1 = rw one.1 last.3 in
-      (one.0 ∷ last.0, last.1, ap suc last.2, leads_on, last.4)
+      (one.0 ∷ last.0, last.1, ap suc last.2, leads_on, last.4, (one.2, last.5))
 
   events_long : (h : List Record) → length (events_of h) ≡ length h
   events_long h = grind (arith, common_steps)
 
-  pub runs_orders : RunsAreOrders c scripts rs question
+  -- an order with these marks is a run over places, along the steps of its events
+  pub order_steps : (h : List Record) (marks : List Bool) → IsOrder c scripts rs h → IsMarked c rs question h marks →
+      (steps : List ℕ) × (w : Place) × (length steps ≡ length h) × (run after (origin c scripts rs question) steps ≡ Some w) × Leads w h marks × Follows (choices_of h) steps
   unfolding state_after
+  order_steps h marks order marked =
+      let many = marked.as_many in
+      let got = order_runs (events_of h) marks (origin c scripts rs question) [] [] h marks (leads_origin c scripts rs question valid) (sym order.run.answers) refl (many ∙ sym (events_long h)) order.in_order marked in
+      (got.0, got.1, got.2 ∙ events_long h, got.3, got.4, got.5)
+
+  pub runs_orders : RunsAreOrders c scripts rs question
   runs_orders = record {
     order = λ steps w on.
         let got = run_leads steps (origin c scripts rs question) w [] [] (leads_origin c scripts rs question valid) on in
         let long = got.2 in
         (got.0, got.1, omega (arith, long), got.3, got.4);
-    steps = λ h marks order marked.
-        let many = marked.as_many in
-        let got = order_runs (events_of h) marks (origin c scripts rs question) [] [] h marks (leads_origin c scripts rs question valid) (sym order.run.answers) refl (many ∙ sym (events_long h)) order.in_order marked in
-        (got.0, got.1, got.2 ∙ events_long h, got.3, got.4);
+    steps = λ h marks order marked. let got = order_steps h marks order marked in (got.0, got.1, got.2, got.3, got.4);
   }

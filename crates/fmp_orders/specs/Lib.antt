@@ -3,3 +3,4 @@ pub mod Sights  -- The lines of an event: what patterns are looked for in.
 pub mod Shown  -- When an order shows what a question asks.
 pub mod Places  -- What a run is going on from: the places of all orders, which forget how they were come to.
 pub mod Laws  -- Runs over places are these histories.
+pub mod Begun  -- Orders that go on from a history, the steps of the runs that do, and what an answer over these runs says.

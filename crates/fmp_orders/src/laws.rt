@@ -1,11 +1,14 @@
 //! Laws of all orders.
 ghost use Rattle.std.specs.Prelude.{List};
+ghost use Rattle.fmp_codes.specs.declared.records.Record.{Record};
 ghost use Rattle.fmp_orders.specs.declared.rules.Rules.{Rules};
 ghost use Rattle.fmp_scripts.specs.Scripts.{Steps};
 ghost use Rattle.fmp_setup.specs.Setup.{Setup};
 ghost use Rattle.fmp_setup.specs.Valid.{IsValid};
 ghost use Rattle.fmp_question.specs.declared.question.Step.{Step};
+ghost use Rattle.fmp_orders.specs.Begun.{BegunAnswer};
 ghost use Rattle.fmp_orders.specs.Laws.{RunsAreOrders, PlacesAnswer};
+ghost use Rattle.fmp_orders.specs.Orders.{IsOrder};
 
 /// What is told along a run over places is one of all orders, with marks at its moments, and each of these is a run over places, of as
 /// many steps.
@@ -19,4 +22,11 @@ pub fn runs_are_orders()
 #[tactic(auto, using(crate::proofs::Answered::places_answer))]
 pub fn places_answer()
     ensures { (c : Setup) (scripts : List Steps) (rules : Rules) (question : List Step) → IsValid c → PlacesAnswer c scripts rules question }
+{}
+
+/// The same of the runs whose first steps are those of an order's events: what they answer is so of all orders that go on from that one.
+#[tactic(auto, using(crate::proofs::Begun::begun_answer))]
+pub fn begun_answer()
+    ensures { (c : Setup) (scripts : List Steps) (rules : Rules) (question : List Step) (begun : List Record) → IsValid c → IsOrder c scripts rules begun
+        → BegunAnswer c scripts rules question begun }
 {}

@@ -5,9 +5,17 @@ pub const CONTROLS: &[u8] = b"// ---- the lines beside it
 
 let rows = [];
 const shown = () => view.only && view.hits ? view.hits : null;
-const rowCount = () => shown() ? shown().length : N;
-const rowLine = i => shown() ? shown()[i] : i + 1;
-const rowOf = n => shown() ? Math.max(0, last(shown(), n)) : n - 1;
+// Where the lines that differ stand among those of the list: below each of them is a row more, for the line that was given.
+let split = [], below = [];
+function layRows() {
+  const s = shown();
+  split = s ? s.map((n, i) => given.has(n) ? i : -1).filter(i => i >= 0) : differs.map(n => n - 1);
+  below = split.map((i, j) => i + j + 1);
+}
+const rowCount = () => (shown() ? shown().length : N) + split.length;
+const isGiven = i => below[Math.max(0, last(below, i))] === i;
+function rowLine(i) { const k = i - 1 - last(below, i); return shown() ? shown()[k] : k + 1; }
+function rowOf(n) { const k = shown() ? Math.max(0, last(shown(), n)) : n - 1; return k + last(split, k - 1) + 1; }
 const tallest = 8000000, listHeight = () => Math.min(tallest, rowCount() * ROW);
 // Where row i stands while the list is scrolled so: exact, but in lists that no browser can make as high as they are.
 function firstRow() {
@@ -17,7 +25,7 @@ function firstRow() {
 function fill() {
   const list = $('list'), begin = firstRow(), count = Math.ceil(list.clientHeight / ROW) + 2, start = Math.max(0, Math.floor(begin));
   const nodes = [], width = String(N).length;
-  for (let i = start; i < Math.min(rowCount(), start + count); i++) nodes.push(rowNode(rowLine(i), list.scrollTop + (i - begin) * ROW, width));
+  for (let i = start; i < Math.min(rowCount(), start + count); i++) nodes.push((isGiven(i) ? givenNode : rowNode)(rowLine(i), list.scrollTop + (i - begin) * ROW, width));
   const whole = el('div');
   whole.style.height = listHeight() + 'px';
   list.replaceChildren(whole, ...nodes);
@@ -26,13 +34,28 @@ function fill() {
 }
 function rowNode(n, top, width) {
   const e = el('div', 'row'), [, , p, who, event, answer, rest] = parts(n);
-  e.style.top = top + 'px'; e.dataset.n = n; e.id = 'row' + n; e.setAttribute('role', 'option');
-  const number = el('span', 'n', n), add = (name, s) => e.append(name ? el('span', name, s) : s);
+  e.style.top = top + 'px'; e.dataset.n = n; e.id = 'row' + n; e.setAttribute('role', 'option'); e.classList.toggle('differs', given.has(n));
+  const number = el('span', 'n', n), theirs = given.has(n) ? given.get(n).split(' ') : null;
+  const add = (name, s) => { const part = el('span', name, s); e.append(part); if (theirs && s && !theirs.includes(s)) part.classList.add('not'); };
   number.style.width = width + 'ch';
-  e.append(number); add('p', 'P' + p); add('', ' ' + who + ' '); add(lineKind[n] ? 'mute' : '', event); add('', ' ');
-  add(['', 'bad', 'wait', 'mute'][lineClass[n]], answer);
-  for (const word of (rest || '').split(' ').slice(1)) add(word.startsWith('rel=') ? (word.includes(':E_OK') ? 'rel' : 'bad') : word.startsWith('ipi=') ? 'req' : word.startsWith('run=') ? 'run' : 'bad', ' ' + word);
+  e.append(number); add('p', 'P' + p); e.append(' '); add('', who); e.append(' ', el('span', lineKind(n) ? 'mute' : '', event), ' ');
+  add(['', 'bad', 'wait', 'mute'][lineClass(n)], answer);
+  for (const word of (rest || '').split(' ').slice(1)) { e.append(' '); add(word.startsWith('rel=') ? (word.includes(':E_OK') ? 'rel' : 'bad') : word.startsWith('ipi=') ? 'req' : word.startsWith('run=') ? 'run' : 'bad', word); }
   return e;
+}
+// The line that was given in place of line n, with the words in it that line n has not.
+const NOT = String.fromCharCode(8800);
+function givenWords(e, n) {
+  const own = line(n).split(' ');
+  given.get(n).split(' ').slice(1).forEach((word, i) => { if (i) e.append(' '); e.append(own.includes(word) ? word : el('b', '', word)); });
+  return e;
+}
+function givenNode(n, top, width) {
+  const e = el('div', 'row given'), sign = el('span', 'n', NOT);
+  e.style.top = top + 'px'; e.dataset.n = n; e.title = 'Given as line ' + n; e.setAttribute('role', 'option'); e.setAttribute('aria-label', 'Given: ' + given.get(n));
+  sign.style.width = width + 'ch';
+  e.append(sign);
+  return givenWords(e, n);
 }
 function marks() {
   for (const e of rows) {
@@ -55,6 +78,7 @@ function select(n, move = true) {
   view.sel = Math.max(0, Math.min(N, n));
   if (move && (X(view.sel) < 0 || X(view.sel + 1) > view.width)) { view.a = view.sel - span() / 2; clamp(); }
   if (view.sel) showRow(view.sel);
+  countDiffers();
   view.fresh = true; draw();
   try { history.replaceState(null, '', '#' + view.sel); } catch (e) { /* a page that may not change its address */ }
 }
@@ -67,6 +91,7 @@ function detail() {
   else {
     const [, , p, who, event, answer] = parts(n), code = answer.split(':')[0];
     nodes.push(el('h2', '', line(n)));
+    if (given.has(n)) { const e = el('p', 'off', NOT + ' given: '); nodes.push(givenWords(e, n)); say.push('Differs. Given: ' + given.get(n)); }
     para((who === '-' ? 'On P' + p + ' nobody runs' : 'On P' + p + ' by ' + who) + '; ' + answer + (MEANS[code] ? ': ' + MEANS[code] : ''), 'mute');
     say.push('Line ' + n + ', P' + p + ', ' + event + ', ' + answer);
     const changed = [];
@@ -117,10 +142,10 @@ function search() {
       return [new RegExp('(?<![A-Za-z0-9_])' + s + '(?![A-Za-z0-9_])', 'i'), !not];
     });
     const hits = [];
-    for (let n = 1; n <= N; n++) { const s = line(n); if (tests.every(([r, wanted]) => r.test(s) === wanted)) hits.push(n); }
+    for (let n = 1; n <= N; n++) { const s = given.has(n) ? line(n) + ' ' + given.get(n) : line(n); if (tests.every(([r, wanted]) => r.test(s) === wanted)) hits.push(n); }
     view.hits = hits;
   }
-  $('list').scrollTop = 0;
+  layRows(); $('list').scrollTop = 0;
   count(); if (view.sel && (!shown() || shown().length)) showRow(view.sel); else fill();
   draw();
 }
@@ -128,14 +153,20 @@ function count() {
   const i = view.hits ? last(view.hits, view.sel) : -1;
   $('count').textContent = !view.hits ? '' : (i >= 0 && view.hits[i] === view.sel ? i + 1 + ' of ' : '') + view.hits.length + (view.hits.length === 1 ? ' line' : ' lines');
 }
-function nextHit(by) {
-  if (!view.hits || !view.hits.length) return;
-  const i = last(view.hits, by > 0 ? view.sel : view.sel - 1), j = by > 0 ? i + 1 : i;
-  select(view.hits[(j + view.hits.length) % view.hits.length]); count();
+function countDiffers() {
+  const i = last(differs, view.sel), many = differs.length;
+  $('differing').hidden = !many;
+  $('differ').textContent = NOT + ' ' + many + (many === 1 ? ' line differs' : ' lines differ' + (i >= 0 && differs[i] === view.sel ? ': ' + (i + 1) + ' of ' + many : ''));
+}
+// The previous or next of some lines, round and round.
+function nextOf(list, by) {
+  if (!list || !list.length) return;
+  const i = last(list, by > 0 ? view.sel : view.sel - 1), j = by > 0 ? i + 1 : i;
+  select(list[(j + list.length) % list.length]); count();
 }
 // The previous or next change of the selected lane.
 function nextChange(by) {
-  const s = signals.get(view.lane || 'r' + (lineP[view.sel] || 1)), i = last(s.n, by > 0 ? view.sel : view.sel - 1) + (by > 0 ? 1 : 0);
+  const s = signals.get(view.lane || 'r' + (lineP(view.sel) || 1)), i = last(s.n, by > 0 ? view.sel : view.sel - 1) + (by > 0 ? 1 : 0);
   if (i >= 0 && i < s.n.length) select(s.n[i]);
 }
 
@@ -146,7 +177,7 @@ function tip(e, n) {
   const y = e.clientY - $('scroll').getBoundingClientRect().top + $('scroll').scrollTop, lane = lanes.find(l => y >= l.y && y < l.y + l.h), box = $('tip');
   box.hidden = !lane || lane.type === 'group' || n < 0;
   if (box.hidden) return;
-  box.textContent = lane.name + ' after line ' + n + ': ' + laneWords(lane, n) + (lane.type === 'proc' && lineP[n] === lane.p ? ' | ' + line(n) : '');
+  box.textContent = lane.name + ' after line ' + n + ': ' + laneWords(lane, n) + (lane.type === 'proc' && lineP(n) === lane.p ? ' | ' + line(n) : '');
   box.style.left = Math.min(e.clientX + 14, innerWidth - box.offsetWidth - 6) + 'px'; box.style.top = Math.min(e.clientY + 16, innerHeight - 40) + 'px';
 }
 function listen() {
@@ -177,7 +208,7 @@ function listen() {
   $('split').onpointermove = e => { if (e.buttons) { document.querySelector('aside').style.width = Math.max(200, Math.min(innerWidth - 400, innerWidth - e.clientX)) + 'px'; resize(); } };
   let timer = 0;
   $('query').oninput = () => { clearTimeout(timer); timer = setTimeout(search, N > 20000 ? 150 : 0); };
-  $('query').onkeydown = e => { if (e.key === 'Enter') { clearTimeout(timer); search(); nextHit(e.shiftKey ? -1 : 1); } if (e.key === 'Escape') { $('query').value = ''; search(); $('list').focus(); } };
+  $('query').onkeydown = e => { if (e.key === 'Enter') { clearTimeout(timer); search(); nextOf(view.hits, e.shiftKey ? -1 : 1); } if (e.key === 'Escape') { $('query').value = ''; search(); $('list').focus(); } };
   $('only').onchange = () => { view.only = $('only').checked; search(); };
   for (const [id, f] of Object.entries(ACTIONS)) $(id).onclick = f;
   document.addEventListener('keydown', keys);
@@ -186,7 +217,7 @@ function listen() {
   addEventListener('beforeprint', () => printing(true)); addEventListener('afterprint', () => printing(false));
 }
 const ACTIONS = {
-  prev: () => nextHit(-1), next: () => nextHit(1), in: () => zoom(1.6, sight()), out: () => zoom(1 / 1.6, sight()), fit,
+  prev: () => nextOf(view.hits, -1), next: () => nextOf(view.hits, 1), before: () => nextOf(differs, -1), after: () => nextOf(differs, 1), in: () => zoom(1.6, sight()), out: () => zoom(1 / 1.6, sight()), fit,
   arrows: () => { view.arrows = !view.arrows; $('arrows').setAttribute('aria-pressed', view.arrows); draw(); },
   theme: () => theme(document.documentElement.dataset.theme === 'dark' ? 'light' : 'dark'),
   save: () => { const a = el('a'); a.href = URL.createObjectURL(new Blob([text], { type: 'text/plain' })); a.download = 'trace.txt'; a.click(); URL.revokeObjectURL(a.href); },
@@ -197,7 +228,7 @@ function keys(e) {
   if (e.target.id === 'query' || e.ctrlKey || e.metaKey || e.altKey || $('legend').open && e.key !== '?') return;
   const by = e.shiftKey ? 10 : 1, page = Math.max(1, Math.floor($('list').clientHeight / ROW) - 1), step = d => { const s = shown(); select(s && s.length ? s[Math.max(0, Math.min(s.length - 1, last(s, view.sel) + d))] : view.sel + d); count(); };
   const act = { ArrowRight: () => step(by), ArrowDown: () => step(by), ArrowLeft: () => step(-by), ArrowUp: () => step(-by), PageDown: () => step(page), PageUp: () => step(-page),
-    Home: () => select(0), End: () => select(N), '+': ACTIONS.in, '=': ACTIONS.in, '-': ACTIONS.out, 0: fit, n: ACTIONS.next, N: ACTIONS.prev, '/': () => { $('query').focus(); $('query').select(); },
+    Home: () => select(0), End: () => select(N), '+': ACTIONS.in, '=': ACTIONS.in, '-': ACTIONS.out, 0: fit, n: ACTIONS.next, N: ACTIONS.prev, x: ACTIONS.after, X: ACTIONS.before, '/': () => { $('query').focus(); $('query').select(); },
     w: () => zoom(1.3, sight()), s: () => zoom(1 / 1.3, sight()), a: ACTIONS.arrows, d: () => pan(view.width / 4), q: () => pan(-view.width / 4), t: ACTIONS.theme, '?': ACTIONS.help, '[': () => nextChange(-1), ']': () => nextChange(1) }[e.key];
   if (act && !(e.target.tagName === 'BUTTON' && e.key === ' ')) { e.preventDefault(); act(); }
 }
@@ -210,8 +241,8 @@ function printing(on) {
   view.top = on ? top : 0;
   readColors();
   const a = Math.max(1, Math.floor(view.a)), b = Math.min(N, Math.ceil(view.a + span()) - 1), most = 300, out = [];
-  if (on) { for (let n = a; n <= Math.min(b, a + most - 1); n++) out.push(line(n)); if (b >= a + most) out.push('.. up to line ' + b); }
-  $('printed').textContent = out.join(LF);
+  if (on) { for (let n = a; n <= Math.min(b, a + most - 1); n++) { out.push(line(n) + LF); if (given.has(n)) out.push(givenWords(el('span', 'off', NOT + ' given: '), n), LF); } if (b >= a + most) out.push('.. up to line ' + b); }
+  $('printed').replaceChildren(...out);
   const seen = span(); layLanes(); resize(on ? 1040 : 0); view.k = view.width / seen; clamp(); $('scroll').scrollTop = on ? 0 : top; cancelAnimationFrame(frame); paint();
   // Paper shows a box that scrolls from its top, with all that it has: so the labels are those in view, and stand there.
   if (on) for (const lane of lanes) { if (lane.y < top || lane.y + lane.h > top + view.height) lane.e.remove(); else lane.e.style.top = lane.y - top + 'px'; }
@@ -221,7 +252,7 @@ function printing(on) {
 // ---- the legend
 
 function legend() {
-  const d = $('legend'), keysOf = [['Left Right Up Down', 'the line before, the next line; with Shift ten lines'], ['Home End PageUp PageDown', 'through the trace'], ['/ Enter n N', 'search, next and previous line found'], ['[ ]', 'previous and next change of the lane that is clicked'], ['+ - 0', 'zoom in, zoom out, the whole trace (also Ctrl and the wheel)'], ['q d', 'to the left, to the right (also by dragging, or Shift and the wheel)'], ['a t ?', 'arrows, light or dark, this page'], ['Ctrl P', 'prints what is in view, with its lines']];
+  const d = $('legend'), keysOf = [['Left Right Up Down', 'the line before, the next line; with Shift ten lines'], ['Home End PageUp PageDown', 'through the trace'], ['/ Enter n N', 'search, next and previous line found'], ['x X', 'next and previous line that differs from the one that was given'], ['[ ]', 'previous and next change of the lane that is clicked'], ['+ - 0', 'zoom in, zoom out, the whole trace (also Ctrl and the wheel)'], ['q d', 'to the left, to the right (also by dragging, or Shift and the wheel)'], ['a t ?', 'arrows, light or dark, this page'], ['Ctrl P', 'prints what is in view, with its lines']];
   const marks = [['running on a processor', 's', 'r'], ['ready', 's', 'y'], ['waiting, and for what, with the ticks left', 's', 'w'], ['suspended', 's', 's'], ['waiting and suspended', 's', 'x'], ['dormant', 's', '-']];
   const close = el('button', '', 'Close'); close.onclick = () => d.close(); close.style.float = 'right';
   const table = el('table'), row = (...cells) => { const r = el('tr'); for (const x of cells) { const t = el('td'); t.append(x); r.append(t); } return r; };
@@ -234,6 +265,7 @@ function legend() {
   table.append(row(picture(c => { c.fillStyle = colors.req; c.fillRect(6, 9, 100, 3); c.beginPath(); c.arc(6, 10.5, 3, 0, 7); c.fill(); head(c, 112, 10.5, 1, 0, colors.req); }), 'a request to the processor is pending, from the line that makes it to the line that takes it'));
   table.append(row(picture(c => { c.fillStyle = colors.fg; c.beginPath(); c.arc(10, 11, 3, 0, 7); c.fill(); c.beginPath(); c.moveTo(32, 7); c.lineTo(39, 7); c.lineTo(35.5, 15); c.fill(); c.beginPath(); c.moveTo(62, 6); c.lineTo(66, 11); c.lineTo(62, 16); c.lineTo(58, 11); c.fill(); c.beginPath(); c.moveTo(92, 7); c.lineTo(86, 11); c.lineTo(92, 15); c.fill(); }), 'call, tick, inter-processor interrupt, return of a handler; hollow where it did nothing, red where it was refused'));
   table.append(row(picture(c => { c.lineWidth = 1.6; [[colors.rel, 4, []], [colors.bad, 44, [4, 3]], [colors.req, 84, []]].forEach(([k, x, dash]) => { c.strokeStyle = k; c.setLineDash(dash); c.beginPath(); c.moveTo(x, 11); c.lineTo(x + 22, 11); c.stroke(); c.setLineDash([]); head(c, x + 29, 11, 1, 0, k); }); }), 'releases or activates a task; releases it with an error; requests a processor'));
+  if (differs.length) table.append(row(picture(c => { c.fillStyle = colors.off; c.fillRect(4, 2, 6, 6); c.globalAlpha = .45; c.fillRect(6, 2, 2, 20); c.globalAlpha = 1; words(c, NOT + ' given', 14, 100, 15, colors.off); }), 'a line that differs from the one that was given, which stands below it'));
   const keysTable = el('table');
   for (const [k, s] of keysOf) { const t = el('span'); k.split(' ').forEach(x => t.append(el('kbd', '', x), ' ')); keysTable.append(row(t, s)); }
   d.replaceChildren(close, el('h2', '', 'Legend'), table, el('h2', '', 'Keys'), keysTable, el('p', 'mute', 'A column is what holds after its line. Far out, where a line is narrower than two points, each lane shows the shares of its states. The address ends with the selected line, so it can be sent along.'));
@@ -242,7 +274,7 @@ function legend() {
 
 function start() {
   const begin = performance.now();
-  readSetup(); readTrace(); readChanges(); countWaiters();
+  readSetup(); readTrace(); readGiven(); readChanges();
   if (location.hash === '#states') return document.body.replaceChildren(el('pre', '', statesText()));
   let wanted = null;
   try { wanted = localStorage.getItem('fmpsim-theme'); } catch (e) { /* no storage here */ }
@@ -255,12 +287,14 @@ function start() {
   $('title').textContent = decodeURIComponent(location.pathname.split('/').pop()) || 'Timeline';
   document.title = $('title').textContent;
   $('sum').textContent = [[model.processors, 'processor'], [model.tasks.length, 'task'], [model.objects.length, 'object'], [N, 'line']].filter(x => x[0]).map(([n, s]) => grouped(n) + ' ' + s + (n === 1 ? '' : 's')).join(', ') + (model.master ? ', global timer of P' + model.master : '');
-  layLanes(); listen(); resize(); fit();
+  layLanes(); layRows(); listen(); resize(); fit();
   if (N > 4000) { view.k = Math.max(view.k, view.width / 2000); clamp(); }
   select(+location.hash.slice(1) || 0);
   $('list').focus();
-  document.documentElement.dataset.shown = N;
+  document.documentElement.dataset.shown = N; document.documentElement.dataset.differs = differs.length;
   view.load = performance.now() - begin;
+  // what the first drawing does not ask for is made behind it
+  setTimeout(() => { eventsOf(1); countWaiters(); }, 500);
 }
 try { start(); } catch (e) { $('sum').textContent = 'This page cannot be shown: ' + e.message; console.error(e); }
 </script>

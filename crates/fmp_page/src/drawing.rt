@@ -3,7 +3,7 @@
 /// The first half of the script: what it reads of the data, what came of what, and the lanes.
 pub const DRAWING: &[u8] = b"<script>
 'use strict';
-// A trace of fmpsim as a timeline. The three texts before this script are what the program wrote; all else is drawing.
+// A trace of fmpsim as a timeline. The four texts before this script are what the program wrote; all else is drawing.
 // This text has no quotation mark, no backslash and no byte beyond ASCII, so that it stands in the program as it is.
 const $ = id => document.getElementById(id), LF = String.fromCharCode(10), LABEL = 200, ROW = 20;
 const PAPER = 560, GROUP = 22, HEIGHTS = { proc: 56, task: 24, obj: 26 };
@@ -17,7 +17,10 @@ const MEANS = { E_OK: 'done', E_TMOUT: 'the time ran out', E_CTX: 'not allowed i
 // ---- the data
 
 const model = { processors: 0, master: 0, tasks: [], objects: [] }, signals = new Map();
-let text = '', starts, N = 0, lineP, lineKind, lineClass, taken = [], eventsOf = [];
+let text = '', lines = [], N = 0, gists, events = null, taken = [];
+// The lines that were given where the trace has others, by their numbers, and these numbers in order.
+const given = new Map();
+let differs = [];
 
 function readSetup() {
   for (const line of $('setup').textContent.split(LF)) {
@@ -34,69 +37,141 @@ function readSetup() {
 
 const PARTS = /^([0-9]+) P([0-9]+) ([^ ]+) (tick|ipi|ret_hdr|[a-z_]+[(][^)]*[)]) ([^ ]+)(.*)$/;
 
+// Of the lines only where ticks were taken is found at once.
 function readTrace() {
   text = $('trace').textContent;
-  const at = [0];
-  for (let i = text.indexOf(LF); i >= 0; i = text.indexOf(LF, i + 1)) at.push(i + 1);
-  N = at.length - 1;
-  starts = Int32Array.from(at);
-  lineP = new Uint8Array(N + 2); lineKind = new Uint8Array(N + 2); lineClass = new Uint8Array(N + 2);
-  for (let p = 0; p <= model.processors; p++) { taken.push([]); eventsOf.push([]); }
-  for (let n = 1; n <= N; n++) {
-    const begin = text.indexOf(' P', starts[n - 1]) + 2, end = text.indexOf(' ', begin), p = +text.slice(begin, end);
-    const event = text.indexOf(' ', end + 1) + 1, c = text.charCodeAt(event);
-    const isTick = c === 116 && text.startsWith('tick ', event), isIpi = c === 105 && text.startsWith('ipi ', event);
-    const close = text.indexOf(isTick || isIpi || text.startsWith('ret_hdr ', event) ? ' ' : ') ', event), answer = text.charAt(close) === ')' ? close + 2 : close + 1;
-    lineP[n] = p;
-    lineKind[n] = isTick ? 1 : isIpi ? 2 : text.startsWith('ret_hdr ', event) ? 3 : 0;
-    const a = text.charAt(answer);
-    lineClass[n] = text.startsWith('E_', answer) ? (text.startsWith('E_OK', answer) ? 0 : 1) : a === 'w' ? 2 : a === 'i' || a === 'h' || a === 'n' ? 3 : 0;
-    eventsOf[p].push(n);
-    if (isTick && a === 't') taken[p].push(n);
+  lines = text.split(LF);
+  N = lines.length - 1;
+  gists = new Uint8Array(N + 1);
+  for (let p = 0; p <= model.processors; p++) taken.push([]);
+  for (let i = text.indexOf(' tick taken'); i >= 0; i = text.indexOf(' tick taken', i + 1)) {
+    const [n, p] = text.slice(text.lastIndexOf(LF, i) + 1, i).split(' ');
+    taken[+p.slice(1)].push(+n);
   }
 }
+const line = n => lines[n - 1], parts = n => PARTS.exec(line(n)) || [];
 
-function readChanges() {
-  const all = $('changes').textContent, pool = new Map();
-  let n = 0, begin = 0;
-  for (let end = all.indexOf(LF); end >= 0; begin = end + 1, end = all.indexOf(LF, begin)) {
-    if (all.charCodeAt(begin) === 35) { n = +all.slice(begin + 1, end); continue; }
-    const blank = all.indexOf(' ', begin), id = all.slice(begin, blank), value = all.slice(blank + 1, end);
-    let signal = signals.get(id);
-    if (!signal) signals.set(id, signal = { n: [], v: [] });
-    if (!pool.has(value)) pool.set(value, value);
-    signal.n.push(n); signal.v.push(pool.get(value));
+// A line in short, made where it is first asked for: its processor; what its event is, 0 a call, 1 a tick, 2 an interrupt, 3 the return of a handler;
+// and what its answer says, 0 done, 1 refused, 2 that the caller waits, 3 that nothing was done.
+function gist(n) {
+  if (n && !gists[n]) {
+    const [, , p, , event, answer] = parts(n), said = answer.startsWith('E_') ? +!answer.startsWith('E_OK') : answer[0] === 'w' ? 2 : 'ihn'.includes(answer[0]) ? 3 : 0;
+    gists[n] = p << 4 | Math.max(0, ['', 'tick', 'ipi', 'ret_hdr'].indexOf(event)) << 2 | said;
   }
+  return gists[n];
+}
+const lineP = n => gist(n) >> 4, lineKind = n => gist(n) >> 2 & 3, lineClass = n => gist(n) & 3;
+// The lines of a processor.
+function eventsOf(p) {
+  if (!events) {
+    events = taken.map(() => []);
+    for (let n = 1; n <= N; n++) events[lineP(n)].push(n);
+  }
+  return events[p];
+}
+
+function readGiven() {
+  for (const s of $('given').textContent.split(LF)) if (s) { const blank = s.indexOf(' '); given.set(+s.slice(0, blank), s.slice(blank + 1)); }
+  differs = [...given.keys()];
+  if (differs.some((n, i) => !(n > (differs[i - 1] || 0) && n <= N))) throw new Error('Lines were given that the trace does not have.');
+}
+
+// Texts of values that were read, by sums of their bytes: most values are told again and again.
+const pool = new Map(), NUMBERS = Array.from({ length: 256 }, (_, i) => String(i));
+function pooled(all, bytes, begin, end, sum) {
+  const old = pool.get(sum);
+  let i = old === undefined || old.length !== end - begin ? -1 : begin;
+  while (i >= 0 && i < end) i = old.charCodeAt(i - begin) === bytes[i] ? i + 1 : -1;
+  if (i >= 0) return old;
+  const made = all.slice(begin, end);
+  pool.set(sum, made);
+  return made;
+}
+
+// The numbers of the lines at which each value changed, and its texts: of numbers that rarely come again the numbers.
+function readChanges() {
+  const all = $('changes').textContent, bytes = new TextEncoder().encode(all), found = [];
+  let n = -1;
+  for (let i = 0, width = 2; i < bytes.length; i++) {
+    const letter = bytes[i];
+    if (letter === 35) {
+      // each line has its number, one more than that before
+      if (++n === 10 ** (width - 1)) width++;
+      i += width;
+      continue;
+    }
+    let number = 0, sum = 0, value = 0, digits = true;
+    for (i++; bytes[i] > 32; i++) number = 10 * number + bytes[i] - 48;
+    const begin = ++i, place = 128 * number + letter;
+    for (; bytes[i] !== 10; i++) {
+      const byte = bytes[i];
+      if (byte < 48 || byte > 57) digits = false;
+      value = 10 * value + byte - 48; sum = (31 * sum + byte) & 0x3fffffff;
+    }
+    const signal = found[place] || (found[place] = { n: [], v: [] });
+    signal.n.push(n);
+    signal.v.push(!digits ? pooled(all, bytes, begin, i, sum) : value < 256 ? NUMBERS[value] : letter === 110 ? value : String(value));
+  }
+  found.forEach((signal, place) => signals.set(String.fromCharCode(place % 128) + (place >> 7), signal));
   if (n !== N) throw new Error('The states of ' + n + ' lines stand beside ' + N + ' lines.');
 }
 
-// How many tasks wait for each object, from the states of the tasks.
+// What was put into each data queue, at which line, and at which lines a value was taken out of it: from the lines, where it is first asked for.
+let queues = null;
+function readQueues() {
+  const sending = new Map();
+  queues = new Map(model.objects.filter(o => o.kind === 'dtq').map(o => [o.name, { values: [], put: [], taken: [] }]));
+  for (let n = 1; n <= N; n++) {
+    if (!line(n).includes('_dtq(')) continue;
+    const [, , , who, event, answer, rest] = parts(n), [, way, name, sent] = /(snd|rcv)_dtq[(]([^,)]*),? ?([^,)]*)/.exec(event), queue = queues.get(name);
+    const put = v => { queue.values.push(v); queue.put.push(n); };
+    if (answer === 'wait' && way === 'snd') sending.set(who, sent);
+    if (!answer.startsWith('E_OK')) continue;
+    // What is sent goes to a task that waits for it, or else into the queue, out of which the oldest value may be lost.
+    if (way === 'snd' && !rest.includes(' rel=')) put(sent);
+    // What is received makes room for what a task sends that waits for that.
+    const released = way === 'rcv' && / rel=([^: ]+):E_OK/.exec(rest);
+    if (released) put(sending.get(released[1]));
+    if (way === 'rcv' || rest.includes(' lost=')) queue.taken.push(n);
+  }
+}
+
+// How many tasks wait for each object, from the states of the tasks, where it is first asked for.
+let counted = false;
 function countWaiters() {
-  const steps = new Map();
+  if (counted) return;
+  counted = true;
+  const steps = new Map(), objects = new Map();
+  // the object for which a task in a state waits
+  const objectIn = state => {
+    if (!objects.has(state)) { const [, kind, number] = state.split(' '); objects.set(state, OF[kind] && number ? OF[kind] + number : null); }
+    return objects.get(state);
+  };
   for (const task of model.tasks) {
     let old = null;
-    const signal = signals.get(task.id);
-    signal.n.forEach((n, i) => {
-      const [letter, kind, number] = signal.v[i].split(' '), now = OF[kind] && number ? OF[kind] + number : null;
-      if (now === old) return;
-      for (const [id, by] of [[old, -1], [now, 1]]) if (id) { if (!steps.has(id)) steps.set(id, []); steps.get(id).push([n, by]); }
+    const { n, v } = signals.get(task.id);
+    // twice the number of the line, and one more where a wait begins
+    const step = (id, at) => { if (id) { if (!steps.has(id)) steps.set(id, []); steps.get(id).push(at); } };
+    for (let i = 0; i < n.length; i++) {
+      const now = objectIn(v[i]);
+      if (now === old) continue;
+      step(old, 2 * n[i]); step(now, 2 * n[i] + 1);
       old = now;
-    });
+    }
   }
   for (const [id, list] of steps) {
     const signal = { n: [0], v: ['0'] };
     let sum = 0;
-    list.sort((a, b) => a[0] - b[0]).forEach(([n, by], i) => {
-      sum += by;
-      if (i + 1 === list.length || list[i + 1][0] !== n) { signal.n.push(n); signal.v.push(String(sum)); }
+    Float64Array.from(list).sort().forEach((at, i, all) => {
+      sum += at % 2 ? 1 : -1;
+      if (i + 1 < all.length && all[i + 1] >> 1 === at >> 1) return;
+      signal.n.push(at >> 1); signal.v.push(String(sum));
     });
     signals.set('w' + id, signal);
   }
 }
 
 const grouped = n => n.toLocaleString('en').replaceAll(',', ' ');
-const line = n => text.slice(starts[n - 1], starts[n] - 1);
-const parts = n => PARTS.exec(line(n)) || [];
 
 // The index of the last element that is at most x, or -1.
 function last(list, x) {
@@ -110,6 +185,19 @@ const ticksOf = (p, n) => last(taken[model.master || p], n) + 1;
 const taskName = t => t > 0 ? model.tasks[t - 1].name : 'idle';
 const objectName = id => { const o = model.objects.find(x => x.id === id); return o ? o.name : id; };
 const running = (p, n) => +value('r' + p, n);
+// The values in a data queue, the oldest first.
+function valuesOf(o, n) {
+  if (value(o.id, n) === '0') return [];
+  if (!queues) readQueues();
+  const { values, put, taken } = queues.get(o.name);
+  return values.slice(last(taken, n) + 1, last(put, n) + 1);
+}
+// The ticks that a time event handler has left, or -1 where it is stopped.
+function leftOf(o, n) {
+  const [p, end] = value(o.id, n).split(' @');
+  return end ? end - ticksOf(+p, n) : -1;
+}
+const ticksLeft = left => left + (left === 1 ? ' tick left' : ' ticks left');
 
 // The state of a task: its letter, and what it waits for, with the ticks left where the wait is timed.
 function wait(t, n) {
@@ -119,7 +207,7 @@ function wait(t, n) {
 function waitWords(t, n, names) {
   const { kind, object, left } = wait(t, n);
   if (!kind) return '';
-  return names[kind] + (object ? ' ' + object : '') + (left < 0 ? '' : names === SHORT ? ' ' + left : ', ' + left + (left === 1 ? ' tick left' : ' ticks left'));
+  return names[kind] + (object ? ' ' + object : '') + (left < 0 ? '' : names === SHORT ? ' ' + left : ', ' + ticksLeft(left));
 }
 function taskWords(t, n) {
   const letter = value('s' + t, n)[0], words = waitWords(t, n, WAITS);
@@ -136,11 +224,12 @@ function procWords(p, n, flagWords = { i: ', request pending', l: ', CPU locked'
 }
 function objectWords(o, n) {
   if (!signals.has(o.id)) return '';
-  const v = value(o.id, n), w = +value('w' + o.id, n) || 0, more = w ? ', ' + w + ' waiting' : '';
+  if (n) countWaiters();
+  const v = value(o.id, n), w = n && +value('w' + o.id, n) || 0, more = w ? ', ' + w + ' waiting' : '';
   if (o.kind === 'flg') return '0x' + (+v).toString(16) + more;
-  if (o.kind === 'cyc' || o.kind === 'alm') return +v ? 'started on P' + v : 'stopped';
+  if (o.kind === 'cyc' || o.kind === 'alm') { const left = leftOf(o, n); return left < 0 ? 'stopped' : 'started on P' + parseInt(v) + ', ' + ticksLeft(left); }
   if (o.kind === 'spn') return +v ? 'held by P' + v : 'free';
-  return v + ' of ' + o.limit + (o.kind === 'mpf' ? ' free' : '') + more;
+  return v + ' of ' + o.limit + (o.kind === 'mpf' ? ' free' : o.kind === 'dtq' && +v ? ': ' + valuesOf(o, n).join(', ') : '') + more;
 }
 
 // The tasks that could run on a processor, in their precedence: by priority, and then by when they became ready or were put last.
@@ -150,8 +239,16 @@ function orderOf(p, n) {
 }
 const readyOf = (p, n) => orderOf(p, n).filter(t => t !== running(p, n));
 
-// The trace with its states, as `fmpsim calls --state` writes it but for the values in data queues and the ticks that handlers have left: what the
-// page shows where its address ends with #states.
+// What of an object is not as it was at boot.
+const TOLD = { sem: 'count=', flg: 'pattern=', mpf: 'free=', spn: 'held=P' };
+function changedWords(o, n) {
+  if (o.kind === 'dtq') { const values = valuesOf(o, n); return values.length ? 'values=' + values.join(',') : ''; }
+  if (TOLD[o.kind]) return value(o.id, n) === value(o.id, 0) ? '' : TOLD[o.kind] + value(o.id, n);
+  const left = leftOf(o, n);
+  return left === leftOf(o, 0) ? '' : left < 0 ? 'stopped' : 'left=' + left;
+}
+
+// The trace with its states, as `fmpsim calls --state` writes it: what the page shows where its address ends with #states.
 function statesText() {
   const out = [], told = (word, number) => number ? ' ' + word + '=' + number : '';
   for (let n = 0; n <= N; n++) {
@@ -166,9 +263,7 @@ function statesText() {
       const numbers = letter === '-' ? '' : told('pri', priority === task.priority ? 0 : priority) + told('act', activations) + told('wup', wakeups);
       if ('wsx'.includes(letter) || numbers) out.push('  ' + task.name + ('sx'.includes(letter) ? ' suspended' : '') + (kind ? ' waits ' + kind + (object ? ' ' + object : '') : '') + (left >= 0 ? ' left=' + left : '') + numbers);
     });
-    for (const [kind, word] of [['sem', ' count='], ['flg', ' pattern='], ['mpf', ' free='], ['spn', ' held=P']]) {
-      for (const o of model.objects) if (o.kind === kind && value(o.id, n) !== value(o.id, 0)) out.push('  ' + o.name + word + value(o.id, n));
-    }
+    for (const o of model.objects) { const words = changedWords(o, n); if (words) out.push('  ' + o.name + ' ' + words); }
     out.push('  end');
   }
   return out.join(LF) + LF;
@@ -188,7 +283,7 @@ function effects(n) {
   const t = model.tasks.findIndex(x => x.name === to) + 1;
   if (t && changedAt('s' + t, n) >= 0) found.tasks.push({ t, code: 'E_OK' });
   const ipi = / ipi=([0-9,]+)/.exec(rest);
-  if (ipi) found.procs = ipi[1].split(',').map(Number).filter(p => p !== lineP[n]);
+  if (ipi) found.procs = ipi[1].split(',').map(Number).filter(p => p !== lineP(n));
   return found;
 }
 // The line at which the request was made that is taken at line n on p, if one is.
@@ -210,12 +305,12 @@ function runsAt(t, n) {
 }
 // What led to line n: [line, words, processor].
 function causes(n) {
-  const p = lineP[n], found = [], t = running(p, n);
+  const p = lineP(n), found = [], t = running(p, n);
   const asked = requestOf(p, n);
-  if (asked) found.push([asked, 'sent the request to P' + p, lineP[asked]]);
+  if (asked) found.push([asked, 'sent the request to P' + p, lineP(asked)]);
   if (t && t !== running(p, n - 1)) {
     const s = signals.get('s' + t), i = last(s.n, n - 1), since = s.n[i];
-    if (since > 0 && s.v[i] === 'y') found.push([since, s.v[i - 1] === 'r' ? taskName(t) + ' gave way, and is ready since' : 'made ' + taskName(t) + ' ready', lineP[since]]);
+    if (since > 0 && s.v[i] === 'y') found.push([since, s.v[i - 1] === 'r' ? taskName(t) + ' gave way, and is ready since' : 'made ' + taskName(t) + ' ready', lineP(since)]);
   }
   return found;
 }
@@ -223,7 +318,7 @@ function causes(n) {
 function results(n) {
   const e = effects(n), found = [];
   for (const p of e.procs) { const m = takenAt(p, n); if (m) found.push([m, 'P' + p + ' takes the request', p]); }
-  for (const x of e.tasks) { const m = runsAt(x.t, n); if (m) found.push([m, taskName(x.t) + ' runs', lineP[m]]); }
+  for (const x of e.tasks) { const m = runsAt(x.t, n); if (m) found.push([m, taskName(x.t) + ' runs', lineP(m)]); }
   return found;
 }
 
@@ -278,7 +373,7 @@ const span = () => view.width / view.k;
 function el(tag, name, words) { const e = document.createElement(tag); if (name) e.className = name; if (words !== undefined) e.textContent = words; return e; }
 function readColors() {
   const s = getComputedStyle(document.documentElement);
-  for (const c of ['bg', 'panel', 'fg', 'mute', 'line', 'grid', 'run', 'ready', 'wait', 'susp', 'req', 'rel', 'bad', 'hit', 'sel', 'hover', 'handler', 'light']) colors[c] = s.getPropertyValue('--' + c).trim();
+  for (const c of ['bg', 'panel', 'fg', 'mute', 'line', 'grid', 'run', 'ready', 'wait', 'susp', 'req', 'rel', 'bad', 'hit', 'sel', 'hover', 'handler', 'light', 'off']) colors[c] = s.getPropertyValue('--' + c).trim();
   hues = Array.from({ length: model.tasks.length + 1 }, (_, t) => t ? makeHue(t) : colors.susp);
 }
 function sized(canvas, width, height) {
@@ -329,7 +424,8 @@ function paintLanes(top, first, final) {
   const c = sized(kept, view.full, view.height);
   c.save(); c.beginPath(); c.rect(LABEL, 0, view.width, view.height); c.clip(); c.translate(LABEL, -top);
   if (view.k >= 8) { c.fillStyle = colors.grid; for (let n = first; n <= final; n++) c.fillRect(X(n), top, 1, view.height); }
-  if (view.hits) paintHits(c, top, final);
+  if (view.hits) paintMarks(c, view.hits, colors.hit, top, final);
+  paintMarks(c, differs, colors.off, top, final);
   for (const lane of lanes) {
     if (lane.y + lane.h < top || lane.y > top + view.height) continue;
     c.fillStyle = lane.type === 'group' ? colors.panel : colors.grid;
@@ -342,12 +438,12 @@ function paintLanes(top, first, final) {
   if (view.arrows && view.k >= 9) for (let n = Math.max(1, first); n <= final; n++) arrowsOf(c, n);
   c.restore();
 }
-// The lines found, where there are few enough in view to be told apart; the whole trace above has them all.
-function paintHits(c, top, final) {
-  const i = last(view.hits, view.a) + 1, end = last(view.hits, final) + 1;
+// Some lines, such as those found, where there are few enough in view to be told apart; the whole trace above has them all.
+function paintMarks(c, list, color, top, final) {
+  const i = last(list, view.a - 1) + 1, end = last(list, final) + 1;
   if (end - i > view.width / 12) return;
-  c.fillStyle = colors.hit; c.globalAlpha = .45;
-  for (const n of view.hits.slice(i, end)) c.fillRect(X(n), top, 2, view.height);
+  c.fillStyle = color; c.globalAlpha = .45;
+  for (const n of list.slice(i, end)) c.fillRect(X(n), top, 2, view.height);
   c.globalAlpha = 1;
 }
 // Calls back for each piece of a signal that is in view: its value, and where it begins and ends.
@@ -450,26 +546,26 @@ function paintProc(c, lane, first, final) {
 }
 // A mark for each event of a processor, with its text where there is room.
 function paintEvents(c, p, y, first, final) {
-  const list = eventsOf[p];
+  const list = eventsOf(p);
   c.font = '10.5' + FONT;
   for (let i = Math.max(0, last(list, first)); i < list.length && list[i] <= final; i++) {
     const n = list[i], x = X(n), room = (i + 1 < list.length ? X(list[i + 1]) : X(N + 1)) - x;
-    const color = [colors.fg, colors.bad, colors.wait, colors.mute][lineClass[n]];
+    const color = [colors.fg, colors.bad, colors.wait, colors.mute][lineClass(n)];
     c.fillStyle = c.strokeStyle = color; c.beginPath();
-    if (lineKind[n] === 1) { c.moveTo(x - 3.5, y + 7); c.lineTo(x + 3.5, y + 7); c.lineTo(x, y + 15); }
-    else if (lineKind[n] === 2) { c.moveTo(x, y + 6); c.lineTo(x + 4, y + 11); c.lineTo(x, y + 16); c.lineTo(x - 4, y + 11); }
-    else if (lineKind[n] === 3) { c.moveTo(x + 3, y + 7); c.lineTo(x - 3.5, y + 11); c.lineTo(x + 3, y + 15); }
+    if (lineKind(n) === 1) { c.moveTo(x - 3.5, y + 7); c.lineTo(x + 3.5, y + 7); c.lineTo(x, y + 15); }
+    else if (lineKind(n) === 2) { c.moveTo(x, y + 6); c.lineTo(x + 4, y + 11); c.lineTo(x, y + 16); c.lineTo(x - 4, y + 11); }
+    else if (lineKind(n) === 3) { c.moveTo(x + 3, y + 7); c.lineTo(x - 3.5, y + 11); c.lineTo(x + 3, y + 15); }
     else c.arc(x, y + 11, Math.min(3, view.k / 2 + .6), 0, 7);
     c.closePath();
-    if (lineClass[n] === 3) { c.lineWidth = 1; c.stroke(); } else c.fill();
-    if (room > 34 && view.k > 12) { const [, , , , event, answer] = parts(n); words(c, event.replace('()', '') + (lineClass[n] === 1 || lineClass[n] === 3 ? ' ' + answer : ''), x + 3, room - 3, y + 15, color); }
+    if (lineClass(n) === 3) { c.lineWidth = 1; c.stroke(); } else c.fill();
+    if (room > 34 && view.k > 12) { const [, , , , event, answer] = parts(n); words(c, event.replace('()', '') + (lineClass(n) === 1 || lineClass(n) === 3 ? ' ' + answer : ''), x + 3, room - 3, y + 15, color); }
   }
 }
 // The colour of who runs on a processor at the end of [a, b), or else at its beginning.
 const runner = p => (b, a) => hues[running(p, Math.ceil(b) - 1) || running(p, Math.floor(a))];
 // The processor that runs a task.
 function runsOn(t, n) { for (let p = 1; p <= model.processors; p++) if (running(p, n) === t) return p; return ''; }
-const taskClass = v => ({ r: 0, y: 1, w: 2, x: 2, s: 3 })[v[0]];
+const CLASSES = { r: 0, y: 1, w: 2, x: 2, s: 3 }, taskClass = v => CLASSES[v[0]];
 
 function paintTask(c, lane, first, final) {
   const y = lane.y + 4, h = lane.h - 9;
@@ -487,9 +583,10 @@ function paintTask(c, lane, first, final) {
 }
 function paintObject(c, lane, first, final) {
   const o = lane.o, y = lane.y + 3, h = lane.h - 7;
+  countWaiters();
   c.font = '10.5' + FONT;
-  const tall = v => Math.max(0, o.kind === 'flg' ? (+v ? h : 0) : o.limit && 'SDM'.includes(o.id[0]) ? h * Math.min(1, v / o.limit) : +v ? h * .6 : 0);
-  const told = v => o.kind === 'flg' ? '0x' + (+v).toString(16) : 'CAX'.includes(o.id[0]) ? (+v ? 'P' + v : '') : v;
+  const tall = v => Math.max(0, o.kind === 'flg' ? (+v ? h : 0) : o.limit && 'SDM'.includes(o.id[0]) ? h * Math.min(1, v / o.limit) : parseInt(v) ? h * .6 : 0);
+  const told = v => o.kind === 'flg' ? '0x' + (+v).toString(16) : 'CAX'.includes(o.id[0]) ? (parseInt(v) ? 'P' + parseInt(v) : '') : v;
   let old = -9;
   pieces(o.id, first, final, (v, x, w) => {
     if (dense() && x + w - old < 1) return;
@@ -515,7 +612,7 @@ function arrow(c, n, from, to, color, dashed, shift) {
   c.stroke(); c.setLineDash([]); head(c, x, end, 0, down ? 1 : -1, color);
 }
 function arrowsOf(c, n) {
-  const e = effects(n), source = laneOf('r' + lineP[n]);
+  const e = effects(n), source = laneOf('r' + lineP(n));
   if (!source) return;
   e.procs.forEach((p, i) => { const to = laneOf('r' + p); if (to) arrow(c, n, source.y + 11, to.y + (to.y > source.y ? 47 : 53), colors.req, false, 2 * i); });
   e.tasks.forEach((x, i) => { const to = laneOf('s' + x.t); if (to && x.t) arrow(c, n, source.y + 11, to.y + 4, x.code === 'E_OK' ? colors.rel : colors.bad, x.code !== 'E_OK', 3 + 2 * i); });
@@ -530,8 +627,8 @@ function paintLinks(c) {
     const x = X(n) + 4, z = X(m) - 5, y = from.y + (p === q ? 5 : 11), w = to.y + (p === q ? 5 : 11), pull = Math.max(8, Math.min(90, (z - x) / 2));
     c.strokeStyle = color; c.lineWidth = 2; c.beginPath(); c.moveTo(x, y); c.bezierCurveTo(x + pull, y, z - pull, w, z - 5, w); c.stroke(); head(c, z, w, 1, 0, color);
   };
-  for (const [n, , p] of causes(view.sel)) link(n, view.sel, p, lineP[view.sel], colors.run);
-  for (const [m, , q] of results(view.sel)) link(view.sel, m, lineP[view.sel], q, colors.run);
+  for (const [n, , p] of causes(view.sel)) link(n, view.sel, p, lineP(view.sel), colors.run);
+  for (const [m, , q] of results(view.sel)) link(view.sel, m, lineP(view.sel), q, colors.run);
 }
 function paintRuler(first, final) {
   const c = sized($('ruler'), view.full, 34);
@@ -554,6 +651,9 @@ function paintRuler(first, final) {
     if (view.k >= 14) c.fillText((model.master || model.processors === 1 ? '' : 'P' + p + ':') + (last(taken[p], n) + 1), x + 5, 28);
   }
   if (crowded) c.fillText(grouped(many) + ' in view', 6, 28);
+  c.fillStyle = colors.off;
+  const i = last(differs, first - 1) + 1, end = last(differs, final) + 1;
+  if (end - i <= view.width / 12) for (const n of differs.slice(i, end)) c.fillRect(X(n) - 2, 0, 6, 6);
   c.fillStyle = colors.run; c.fillRect(X(view.sel), 0, 2, 34);
   c.restore();
 }
@@ -572,17 +672,20 @@ function drawOver() {
   }
   c.fillStyle = colors.mute; c.font = '11' + FONT; c.fillText('whole trace', 8, 17); c.fillText(grouped(N) + (N === 1 ? ' line' : ' lines'), 8, 32);
   c.drawImage(overKept, LABEL, 0, wide, 42);
-  if (view.hits) {
-    const found = new Float32Array(wide + 1);
-    for (const n of view.hits) found[Math.floor(n * k)]++;
-    const most = Math.max(...found);
-    c.fillStyle = colors.hit;
-    found.forEach((many, x) => { if (many) c.fillRect(LABEL + x, 40 - 3 * many / most, 1.5, 2 + 3 * many / most); });
-  }
+  if (view.hits) drawMarks(c, view.hits, colors.hit, wide, k, 42, -1);
   const x = LABEL + view.a * k, w = Math.max(3, span() * k);
   c.fillStyle = colors.bg + 'aa'; c.fillRect(LABEL, 0, x - LABEL, 37); c.fillRect(x + w, 0, LABEL + wide - x - w, 37);
   c.strokeStyle = colors.run; c.lineWidth = 1.5; c.strokeRect(x + .5, 1, Math.min(w, LABEL + wide - x) - 1.5, 36);
   c.fillStyle = colors.run; c.fillRect(LABEL + view.sel * k, 0, 2, 38);
+  drawMarks(c, differs, colors.off, wide, k, 0, 1);
+}
+// Where some lines are in the whole trace, as marks from an edge of it: the higher the more there are.
+function drawMarks(c, list, color, wide, k, edge, way) {
+  const found = new Float32Array(wide + 1);
+  for (const n of list) found[Math.floor(n * k)]++;
+  const most = found.reduce((x, y) => Math.max(x, y), 0);
+  c.fillStyle = color;
+  found.forEach((many, x) => { const h = 2 + 3 * many / most; if (many) c.fillRect(LABEL + x, way > 0 ? edge : edge - h, 2, h); });
 }
 
 ";

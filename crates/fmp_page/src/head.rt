@@ -11,10 +11,10 @@ pub const HEAD: &[u8] = b"<!doctype html>
 <style>
 :root { color-scheme: light; --bg: #ffffff; --panel: #f4f6f8; --fg: #1a2027; --mute: #566170; --line: #d5dbe2; --grid: #eaedf1;
   --run: #0b62b4; --ready: #d97f00; --wait: #7650b5; --susp: #66707c; --req: #c0146a; --rel: #0a7a4c; --bad: #bf360c; --hit: #f2b600;
-  --sel: rgba(11, 98, 180, .13); --hover: rgba(90, 100, 115, .12); --handler: #2b333d; --light: 36%; }
+  --sel: rgba(11, 98, 180, .13); --hover: rgba(90, 100, 115, .12); --handler: #2b333d; --light: 36%; --off: #c62828; --offs: rgba(198, 40, 40, .10); }
 :root[data-theme=dark] { color-scheme: dark; --bg: #12161b; --panel: #1a2028; --fg: #e6ebf1; --mute: #9da9b6; --line: #323b47; --grid: #222932;
   --run: #4d9ff0; --ready: #f5a93a; --wait: #b394f2; --susp: #98a2ae; --req: #ff70ad; --rel: #4acb95; --bad: #ff8a5f; --hit: #ffd54a;
-  --sel: rgba(90, 165, 245, .20); --hover: rgba(160, 175, 190, .14); --handler: #d4dbe4; --light: 40%; }
+  --sel: rgba(90, 165, 245, .20); --hover: rgba(160, 175, 190, .14); --handler: #d4dbe4; --light: 40%; --off: #ff6e6e; --offs: rgba(255, 110, 110, .14); }
 * { box-sizing: border-box; }
 html, body { height: 100%; margin: 0; }
 body { display: flex; flex-direction: column; background: var(--bg); color: var(--fg); font: 13px/1.4 system-ui, 'DejaVu Sans', sans-serif; }
@@ -23,6 +23,7 @@ button { cursor: pointer; } button:hover { background: var(--panel); }
 :focus-visible { outline: 2px solid var(--run); outline-offset: 1px; } #list:focus-visible, #lanes:focus-visible { outline: 1px solid var(--run); outline-offset: -1px; }
 header { display: flex; gap: 5px; align-items: center; padding: 6px 10px; background: var(--panel); border-bottom: 1px solid var(--line); flex-wrap: wrap; }
 header b { font-size: 14px; } header .sum { color: var(--mute); margin-right: auto; padding-left: 4px; }
+#differing { display: flex; gap: 5px; align-items: center; } #differing[hidden] { display: none; } #differing .off { font-weight: 600; font-variant-numeric: tabular-nums; }
 #query { width: 175px; } #count { color: var(--mute); font-variant-numeric: tabular-nums; } header label { color: var(--mute); }
 #over { display: block; width: 100%; height: 42px; border-bottom: 1px solid var(--line); cursor: pointer; touch-action: none; }
 main { flex: 1; display: flex; min-height: 0; }
@@ -41,6 +42,7 @@ aside { flex: none; width: 440px; display: flex; flex-direction: column; min-wid
 #list { flex: 1.2; overflow: auto; position: relative; font: 12px/20px ui-monospace, 'DejaVu Sans Mono', monospace; }
 .row { position: absolute; left: 0; right: 0; height: 20px; padding: 0 8px; white-space: pre; cursor: pointer; overflow: hidden; text-overflow: ellipsis; }
 .row.hit { box-shadow: inset 3px 0 var(--hit); } .row.hover { background: var(--hover); } .row.sel { background: var(--sel); box-shadow: inset 3px 0 var(--run); }
+.off { color: var(--off); } .off b, .given b, .not { text-decoration: underline; } .row.given { background: var(--offs); color: var(--off); } .row.given .n, .row.differs .n { color: var(--off); font-weight: 700; }
 .n { color: var(--mute); display: inline-block; text-align: right; margin-right: 8px; } .p { font-weight: 700; } .bad { color: var(--bad); } .wait { color: var(--wait); } .rel { color: var(--rel); } .req { color: var(--req); } .run { color: var(--run); } .mute { color: var(--mute); }
 #detail { flex: 1; overflow: auto; border-top: 1px solid var(--line); padding: 8px 12px 12px; background: var(--panel); }
 #detail h2 { font: 700 13px/1.5 ui-monospace, 'DejaVu Sans Mono', monospace; margin: 0 0 4px; overflow-wrap: anywhere; }
@@ -64,6 +66,8 @@ kbd { font: 11px ui-monospace, 'DejaVu Sans Mono', monospace; border: 1px solid 
 <body>
 <header>
   <b id='title'>Timeline</b><span class='sum' id='sum'>This file is cut short, or scripts are not allowed here.</span>
+  <span id='differing' hidden><span id='differ' class='off' aria-live='polite'></span>
+  <button id='before' title='Previous line that differs (X)' aria-label='Previous line that differs'>&uarr;</button><button id='after' title='Next line that differs (x)' aria-label='Next line that differs'>&darr;</button></span>
   <input id='query' type='search' placeholder='Search: T2  E_TMOUT  ipi' aria-label='Search the lines of the trace' title='Words that stand in a line, * for any letters, - before what must not stand there (key /)'>
   <span id='count' aria-live='polite'></span>
   <button id='prev' title='Previous line found (N)' aria-label='Previous line found'>&uarr;</button><button id='next' title='Next line found (n)' aria-label='Next line found'>&darr;</button>

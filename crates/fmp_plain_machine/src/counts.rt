@@ -55,6 +55,7 @@ fn counts_for(timer: Timer, p: Proc, q: Proc) -> bool
     }
 }
 
+/// The ticks left after one more tick, of which 0 stay 0. None where nothing is counted.
 fn one_less(left: Option<u64>) -> Option<u64>
     ensures { result ≡ one_less left }
 {

@@ -55,6 +55,7 @@ pub(crate) fn rule_of(group: Group) -> Rule
 }
 
 impl PlainMachine {
+    /// The priority of a task as a number, of which the least comes first.
     fn priority_in(&self, t: Task) -> u8
         ensures { result ≡ priority_in self.now.tasks t }
     {

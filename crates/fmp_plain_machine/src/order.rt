@@ -28,6 +28,7 @@ impl PlainMachine {
         best
     }
 
+    /// The task, or the best one so far where there is one that the task does not come before.
     #[inline(always)]
     fn better(&self, rule: Rule, t: Task, best: Option<Task>) -> Option<Task>
         ensures { result ≡ better (precedes self.now rule) t best }

@@ -24,6 +24,7 @@ fn kind_of(task: &TaskRecord) -> u8
     }
 }
 
+/// How the task of each record stands, in the order of the records.
 fn kinds_of(records: &[TaskRecord]) -> ArrayVec<u8, 64>
     requires { length records.now ≤ 64 }
     ensures { result.items ≡ map kind_of records.now }
@@ -35,6 +36,7 @@ fn kinds_of(records: &[TaskRecord]) -> ArrayVec<u8, 64>
     kinds
 }
 
+/// The number of the processor of each record's task, in the order of the records.
 fn places_of(records: &[TaskRecord]) -> ArrayVec<u8, 64>
     requires { length records.now ≤ 64 }
     ensures { result.items ≡ map place_of records.now }

@@ -43,6 +43,7 @@ pub(crate) fn is_runnable(task: &TaskRecord) -> bool
     task.active & task.wait.is_none() & !task.suspended
 }
 
+/// The record of a task, or the default one where it has none.
 fn record_of(records: &[TaskRecord], t: Task) -> TaskRecord
     ensures { result ≡ item no_task records.now t.number }
 {
@@ -52,6 +53,7 @@ fn record_of(records: &[TaskRecord], t: Task) -> TaskRecord
         .unwrap_or(TaskRecord::default())
 }
 
+/// The priority of a task as a number, of which the least comes first. It is that of the default record where the task has none.
 #[inline(always)]
 fn priority_of(records: &[TaskRecord], t: Task) -> u8
     ensures { result ≡ priority_in records.now t }
@@ -73,6 +75,7 @@ fn place_of(records: &[TaskRecord], t: Task) -> usize
     }
 }
 
+/// The number that tells when a task last became ready or was put last, or 0 where it has none.
 #[inline(always)]
 fn number_of(ready: &[u64], t: Task) -> u64
     ensures { result ≡ item 0 ready.now t.number }
@@ -90,6 +93,7 @@ fn comes_before(records: &[TaskRecord], ready: &[u64], t: Task, u: Task) -> bool
     a < b || (a == b && number_of(ready, t) < number_of(ready, u))
 }
 
+/// The task, or the best one so far where there is one that the task does not come before.
 #[inline(always)]
 fn better(records: &[TaskRecord], ready: &[u64], t: Task, best: Option<Task>) -> Option<Task>
     ensures { result ≡ better (comes_before (priority_in records.now) ready.now) t best }

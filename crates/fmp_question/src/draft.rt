@@ -40,7 +40,7 @@ impl Model for Draft {
     ghost view = { λ d. record { steps = d.steps.items; times = d.times; moment = d.moment; patterns = d.patterns.items; pattern = d.pattern.items } };
 }
 
-// The pieces of a pattern between its stars.
+/// The bytes between the stars, in order: one piece more than there are stars, and some may be empty. The error is want of memory.
 fn pieces(alloc: Global, pattern: &[u8]) -> Result<Vec<Piece>, AllocError>
     ensures { IfOk result (λ v. v.items ≡ pieces_of star pattern.now) }
 {
@@ -54,7 +54,7 @@ fn pieces(alloc: Global, pattern: &[u8]) -> Result<Vec<Piece>, AllocError>
     Ok(pieces)
 }
 
-// Adds a step so many times.
+/// Puts so many copies of a step behind the others. The error is want of memory.
 fn add_times(alloc: Global, steps: &mut Vec<Step>, step: &Step, times: u8) -> Result<(), AllocError>
     ensures { OnOk result (steps.new.items ≡ steps.old.items ++ replicate times step.now) }
 {
@@ -64,7 +64,7 @@ fn add_times(alloc: Global, steps: &mut Vec<Step>, step: &Step, times: u8) -> Re
     Ok(())
 }
 
-// What is wrong where something could not be completed.
+/// `BadForm` where something was not done, and none where it was.
 fn form_of(done: bool) -> Option<QuestionFault>
     ensures { result ≡ (if done then None else Some QuestionFault.BadForm) }
 {
@@ -90,7 +90,7 @@ impl Draft {
         }
     }
 
-    // Completes a pattern, if one was begun.
+    /// Puts the pattern behind the others of its moment. False where it has no word yet. The error is want of memory.
     #[tactic(auto, unfolding(crate::specs::Reading::with_pattern))]
     fn end_pattern(&mut self) -> Result<bool, AllocError>
         ensures none { IfOk result (λ done. done ≡ is_some (spec.with_pattern self.old)) }
@@ -105,7 +105,7 @@ impl Draft {
         Ok(true)
     }
 
-    // Completes a moment behind which `without` stands, if it is the first of its step.
+    /// Ends a moment at `without`. False where its last pattern has no word yet or the step had a `without` before. The error is want of memory.
     #[tactic(auto, unfolding(crate::specs::Reading::with_moment))]
     fn end_moment(&mut self) -> Result<bool, AllocError>
         ensures none { IfOk result (λ done. done ≡ is_some (spec.with_moment self.old)) }
@@ -119,7 +119,7 @@ impl Draft {
         Ok(true)
     }
 
-    // The step of the moments that were read.
+    /// Takes the step out of the draft. Where `without` was read, the patterns behind it are the moment that must not come before the first.
     fn take_step(&mut self) -> Step
         ensures is { result ≡ spec.step_of self.old.moment self.old.patterns }
         ensures rest { self.new ≡ spec.without_step self.old }
@@ -137,7 +137,7 @@ impl Draft {
         }
     }
 
-    // Adds the step that was read, as often as was said.
+    /// Moves the step to the others as often as was said, or once where nothing was said. The error is want of memory.
     fn add_read(&mut self) -> Result<(), AllocError>
         ensures { OnOk result (self.new ≡ spec.with_read self.old) }
     {
@@ -146,7 +146,7 @@ impl Draft {
         add_times(self.alloc, &mut self.steps, &step, times)
     }
 
-    // Completes a step, if there is something to complete.
+    /// Ends the step and adds it as often as was said. False where its last pattern has no word yet. The error is want of memory.
     #[tactic(auto, unfolding(crate::specs::Reading::with_step))]
     fn end_step(&mut self) -> Result<bool, AllocError>
         ensures none { IfOk result (λ done. done ≡ is_some (spec.with_step self.old)) }
@@ -159,7 +159,7 @@ impl Draft {
         Ok(true)
     }
 
-    // The number that the pattern is, and how often a step may stand.
+    /// The number from 1 to 255 that the pattern is. None where it is not one word of decimal digits, or another number.
     fn number(&self) -> Option<u8>
         ensures { result ≡ option_and_then spec.times_within (spec.number_in self.now.pattern) }
     {
@@ -176,7 +176,7 @@ impl Draft {
         }
     }
 
-    // Says how often the step stands that begins, if nothing else was read of it.
+    /// Takes the pattern as a number. False where it is none from 1 to 255, or where `times`, `&` or `without` was read in this step before.
     #[tactic(auto, unfolding(crate::specs::Reading::with_times))]
     fn begin_times(&mut self) -> bool
         ensures none { result ≡ is_some (spec.with_times self.old) }
@@ -195,7 +195,8 @@ impl Draft {
         }
     }
 
-    // Adds a word to the pattern.
+    /// Puts a word at the end of the pattern. The fault is `UnknownName` where a run of it is not fine, else `TooLong` where the pattern would
+    /// have more than 1,024 bytes. The error is want of memory.
     #[tactic(auto, unfolding(crate::specs::Reading::with_word))]
     fn add_word(&mut self, names: &Names, word: &[u8]) -> Result<Option<QuestionFault>, AllocError>
         ensures told { IfOk result (λ fault. fault ≡ spec.fault_of (spec.with_word names.now self.old word.now)) }
@@ -216,7 +217,8 @@ impl Draft {
         Ok(None)
     }
 
-    // Completes a step, where there are not too many.
+    /// Ends the step. The fault is `BadForm` where its last pattern has no word yet, and `TooLong` where there are more than 255 steps then.
+    /// The error is want of memory.
     fn end_limited(&mut self) -> Result<Option<QuestionFault>, AllocError>
         ensures told { IfOk result (λ fault. fault ≡ spec.fault_of (spec.limited (spec.or_form (spec.with_step self.old)))) }
         ensures ended { (d : spec.Draft) → spec.limited (spec.or_form (spec.with_step self.old)) ≡ Ok d → OnOk result (self.new ≡ d) }

@@ -9,7 +9,7 @@ use fmp_bytes::cut;
 use memchr::memmem;
 use std::alloc::AllocError;
 
-// What follows the first place of a piece in a text. Whatever stands behind another place of it stands there too.
+/// The text behind the first place where a piece stands in it, and none where it stands nowhere. An empty piece stands at the front.
 fn behind_first<'a>(piece: &[u8], text: &'a [u8]) -> Option<&'a [u8]>
     ensures { (pieces : List (List ℕ)) → matching.stand (piece.now ∷ pieces) text.now ≡ option_map_or (matching.stand pieces) (option_copied result) false }
 {
@@ -19,7 +19,7 @@ fn behind_first<'a>(piece: &[u8], text: &'a [u8]) -> Option<&'a [u8]>
     }
 }
 
-// Whether the pieces of a pattern stand in a text one behind the other.
+/// Whether the pieces stand in a text in order, without overlap. Any bytes may come before, between and behind them.
 fn stand(pattern: &Pattern, text: &[u8]) -> bool
     ensures { result ≡ matching.stand pattern.now text.now }
 {
@@ -33,7 +33,7 @@ fn stand(pattern: &Pattern, text: &[u8]) -> bool
     true
 }
 
-// Replaces what the room holds by a line between blanks.
+/// Puts a line into the room alone, with two blanks on each side. The error is want of memory.
 fn pad(room: &mut Vec<u8>, line: &[u8]) -> Result<(), AllocError>
     ensures { OnOk result (room.new.items ≡ matching.padded line.now) }
 {
@@ -43,6 +43,7 @@ fn pad(room: &mut Vec<u8>, line: &[u8]) -> Result<(), AllocError>
     room.extend_from_slice(b"  ")
 }
 
+/// Whether a pattern stands in some line of a text. The room is used up in between; the error is want of memory for a line.
 fn has_pattern(room: &mut Vec<u8>, text: &[u8], pattern: &Pattern) -> Result<bool, AllocError>
     ensures { IfOk result (λ r. r ≡ matching.has_pattern text.now pattern.now) }
 {
@@ -58,6 +59,7 @@ fn has_pattern(room: &mut Vec<u8>, text: &[u8], pattern: &Pattern) -> Result<boo
     Ok(false)
 }
 
+/// Whether each pattern of a moment stands in some line of a text. The lines may differ. The room and the error are as at `has_pattern`.
 fn has_moment(room: &mut Vec<u8>, text: &[u8], moment: &Moment) -> Result<bool, AllocError>
     ensures { IfOk result (λ r. r ≡ spec.has_moment text.now moment.now) }
 {
@@ -69,6 +71,7 @@ fn has_moment(room: &mut Vec<u8>, text: &[u8], moment: &Moment) -> Result<bool, 
     Ok(true)
 }
 
+/// Whether the moment that a step waits for is in a text. False without a step. The room and the error are as at `has_pattern`.
 fn is_met(room: &mut Vec<u8>, text: &[u8], step: Option<&Step>) -> Result<bool, AllocError>
     ensures { IfOk result (λ r. r ≡ spec.is_met text.now (option_copied step.entry)) }
 {
@@ -78,6 +81,8 @@ fn is_met(room: &mut Vec<u8>, text: &[u8], step: Option<&Step>) -> Result<bool, 
     }
 }
 
+/// Whether the moment that must not come before that of a step is in a text. False without a step, and for a step without such a moment.
+/// The room and the error are as at `has_pattern`.
 fn is_barred(room: &mut Vec<u8>, text: &[u8], step: Option<&Step>) -> Result<bool, AllocError>
     ensures { IfOk result (λ r. r ≡ spec.is_barred text.now (option_copied step.entry)) }
 {

@@ -20,19 +20,21 @@ impl Model for Piece {
 }
 
 impl Piece {
+    /// The piece of these bytes. It may be empty, as between two stars in a row.
     pub fn new(bytes: Vec<u8>) -> Piece
         ensures { result ≡ bytes.items }
     {
         Piece { bytes }
     }
 
+    /// The bytes that have to stand in a line, blanks among them.
     pub fn bytes(&self) -> &[u8]
         ensures { result.now ≡ self.now }
     {
         &self.bytes
     }
 
-    // The same bytes once more.
+    /// A piece of the same bytes. The error is want of memory.
     fn copy(&self, alloc: Global) -> Result<Piece, AllocError>
         ensures { IfOk result (λ p. p ≡ self.now) }
     {
@@ -57,19 +59,21 @@ impl Model for Pattern {
 }
 
 impl Pattern {
+    /// The pattern with these pieces between its stars.
     pub fn new(pieces: Vec<Piece>) -> Pattern
         ensures { result ≡ pieces.items }
     {
         Pattern { pieces }
     }
 
+    /// The pieces, in the order in which they stand in a line.
     pub fn pieces(&self) -> &[Piece]
         ensures { result.now ≡ self.now }
     {
         &self.pieces
     }
 
-    // The same pattern once more.
+    /// A pattern of the same pieces. The error is want of memory.
     fn copy(&self, alloc: Global) -> Result<Pattern, AllocError>
         ensures { IfOk result (λ p. p ≡ self.now) }
     {
@@ -96,19 +100,21 @@ impl Model for Moment {
 }
 
 impl Moment {
+    /// The moment at which each of these patterns stands in some line.
     pub fn new(patterns: Vec<Pattern>) -> Moment
         ensures { result ≡ patterns.items }
     {
         Moment { patterns }
     }
 
+    /// The patterns, of which each has to stand in some line.
     pub fn patterns(&self) -> &[Pattern]
         ensures { result.now ≡ self.now }
     {
         &self.patterns
     }
 
-    // The same moment once more.
+    /// A moment of the same patterns. The error is want of memory.
     fn copy(&self, alloc: Global) -> Result<Moment, AllocError>
         ensures { IfOk result (λ m. m ≡ self.now) }
     {
@@ -127,7 +133,7 @@ pub struct Step {
     pub without: Option<Moment>,
 }
 
-// The same moment once more, if there is one.
+/// A copy of a moment, and none of none. The error is want of memory.
 fn copied(alloc: Global, moment: Option<&Moment>) -> Result<Option<Moment>, AllocError>
     ensures { IfOk result (λ o. o ≡ option_copied moment.entry) }
 {
@@ -165,12 +171,14 @@ impl Model for Question {
 }
 
 impl Question {
+    /// The question with these steps, the first step first.
     pub fn new(steps: Vec<Step>) -> Question
         ensures { result ≡ steps.items }
     {
         Question { steps }
     }
 
+    /// The steps, in the order in which their moments are to come.
     pub fn steps(&self) -> &[Step]
         ensures { result.now ≡ self.now }
     {

@@ -61,6 +61,7 @@ pub(crate) fn is_printed(word: &[u8]) -> bool
     !word.is_empty() && all_of(Class::Printed, word)
 }
 
+/// Whether a run is `P` and the number of a processor of the configuration, in one digit from 1.
 fn is_processor(names: &Names, run: &[u8]) -> bool
     ensures { result ≡ spec.is_processor names.now.processors run.now }
 {
@@ -70,18 +71,21 @@ fn is_processor(names: &Names, run: &[u8]) -> bool
     }
 }
 
+/// Whether a run is the name of a code, such as `E_OK`.
 fn is_code(run: &[u8]) -> bool
     ensures { result ≡ list_any (λ c. bytes_eq (name_of c) run.now) all_codes }
 {
     Code::ALL.iter().any(|code| code.name().as_bytes() == run)
 }
 
+/// Whether a run is one of these words, byte for byte.
 fn has_word(words: &[&[u8]], run: &[u8]) -> bool
     ensures { result ≡ list_any (λ w. bytes_eq w.now run.now) words.now }
 {
     words.iter().any(|word| *word == run)
 }
 
+/// Whether a run is one of `TRACE_WORDS`.
 fn is_trace_word(run: &[u8]) -> bool
     ensures { result ≡ list_any (λ w. bytes_eq w.now run.now) TRACE_WORDS }
 {
@@ -100,6 +104,7 @@ fn is_known(names: &Names, run: &[u8]) -> bool
         || is_trace_word(run)
 }
 
+/// Whether the first byte of a run is a decimal digit. That holds of an empty run too.
 fn begins_with_digit(run: &[u8]) -> bool
     ensures { result ≡ spec.begins_with_digit run.now }
 {
@@ -109,6 +114,7 @@ fn begins_with_digit(run: &[u8]) -> bool
     }
 }
 
+/// Whether some byte of a run is a star.
 fn has_star(run: &[u8]) -> bool
     ensures { result ≡ list_any (λ b. b == spec.star) run.now }
 {
@@ -123,12 +129,14 @@ fn is_fine(names: &Names, run: &[u8]) -> bool
     has_star(run) || begins_with_digit(run) || is_known(names, run)
 }
 
+/// Whether a byte is no letter, no digit, no `_` and no star, so that it ends a run.
 fn is_outside(byte: u8) -> bool
     ensures { result ≡ spec.is_outside byte }
 {
     !(Class::Word.has(byte) || byte == b'*')
 }
 
+/// The place of the first byte that ends a run, from 0. None where the whole word is one run.
 fn end_of_run(word: &[u8]) -> Option<usize>
     ensures place { result ≡ position spec.is_outside word.now }
     ensures within { IfSome result (λ i. i < length word.now) }
@@ -136,7 +144,7 @@ fn end_of_run(word: &[u8]) -> Option<usize>
     word.iter().position(|byte| is_outside(*byte))
 }
 
-// The letters, digits, `_` and stars at the front of a word, and what follows the byte behind them.
+/// The first run of a word, and what follows the byte that ends it, which is in neither. None follows where the whole word is one run.
 #[tactic(auto, unfolding(crate::specs::Words::cut_run))]
 fn cut_run(word: &[u8]) -> (&[u8], Option<&[u8]>)
     ensures prefix { result.0.now ≡ (spec.cut_run word.now).0 }

@@ -5,24 +5,28 @@ ghost use Rattle.fmp_calls.specs.Table.{text_of, values_of};
 use fmp_calls::{Value, form, values};
 use fmp_codes::Call;
 
+/// Whether two names have the same bytes.
 fn are_same_names(one: &[u8], other: &[u8]) -> bool
     ensures { IsTrue result ↔ (one.now ≡ other.now) }
 {
     one == other
 }
 
+/// Whether two lists of arguments are equal, value by value.
 fn are_same_values(one: &[Value], other: &[Value]) -> bool
     ensures { IsTrue result ↔ (one.now ≡ other.now) }
 {
     one == other
 }
 
+/// Whether two calls have the same name as it is written.
 fn have_same_name(one: Call, other: Call) -> bool
     ensures { IsTrue result ↔ (text_of one ≡ text_of other) }
 {
     are_same_names(form(one).text, form(other).text)
 }
 
+/// Whether two calls have equal arguments, in their order.
 fn have_same_arguments(one: Call, other: Call) -> bool
     ensures { IsTrue result ↔ (values_of one ≡ values_of other) }
 {

@@ -17,6 +17,7 @@ pub enum Said {
     Closes,
 }
 
+/// The identifier of a text that has nothing else but blanks around it, else `WrongArguments`.
 #[tactic(auto, unfolding(crate::specs::Lines::name_in))]
 fn name_in(text: &[u8]) -> Result<&[u8], TextKind>
     ensures { Gives (λ t. t.now) result (spec.name_in text.now) }
@@ -29,6 +30,7 @@ fn name_in(text: &[u8]) -> Result<&[u8], TextKind>
     }
 }
 
+/// The number of the function that a text names. `WrongArguments` where the text is no name, `UnknownName` where no function has it.
 #[tactic(auto, unfolding(crate::specs::Lines::function_in))]
 fn function_in(names: &Names, text: &[u8]) -> Result<usize, TextKind>
     ensures { result ≡ spec.function_in names.now text.now }
@@ -39,6 +41,7 @@ fn function_in(names: &Names, text: &[u8]) -> Result<usize, TextKind>
         .ok_or(TextKind::UnknownName)
 }
 
+/// What follows `script`: a function whose script opens. Inside a script the word is `BadWord`.
 #[tactic(auto, unfolding(crate::specs::Lines::begins))]
 fn begins(names: &Names, inside: bool, text: &[u8]) -> Result<Option<Said>, TextKind>
     ensures { result ≡ spec.begins names.now inside text.now }
@@ -49,6 +52,7 @@ fn begins(names: &Names, inside: bool, text: &[u8]) -> Result<Option<Said>, Text
     Ok(Some(Said::Opens(function_in(names, text)?)))
 }
 
+/// What follows `end`: the script closes. Outside a script the word is `BadWord`, and more than blanks is `WrongArguments`.
 #[tactic(auto, unfolding(crate::specs::Lines::ends))]
 fn ends(inside: bool, text: &[u8]) -> Result<Option<Said>, TextKind>
     ensures { result ≡ spec.ends inside text.now }
@@ -63,6 +67,7 @@ fn ends(inside: bool, text: &[u8]) -> Result<Option<Said>, TextKind>
     }
 }
 
+/// The call of a line, which is a step of the script. Outside a script it is `BadWord`.
 #[tactic(auto, unfolding(crate::specs::Lines::asks))]
 fn asks(names: &Names, inside: bool, text: &[u8]) -> Result<Option<Said>, TextKind>
     ensures { result ≡ spec.asks names.now inside text.now }
@@ -73,6 +78,7 @@ fn asks(names: &Names, inside: bool, text: &[u8]) -> Result<Option<Said>, TextKi
     Ok(Some(Said::Asks(read_call(text, names)?)))
 }
 
+/// What a line that is not skipped says, by its first word. `ret_hdr` is no step, and is `BadWord`.
 #[tactic(auto, unfolding(crate::specs::Lines::said_by))]
 fn said_by(names: &Names, inside: bool, text: &[u8]) -> Result<Option<Said>, TextKind>
     ensures { result ≡ spec.said_by names.now inside text.now }

@@ -41,6 +41,7 @@ impl Model for Reader {
 }
 
 impl Reader {
+    /// Nothing was read.
     fn new(alloc: Global) -> Reader
         ensures { result ≡ nothing_read }
     {
@@ -51,6 +52,7 @@ impl Reader {
         }
     }
 
+    /// Whether the lines of a script follow.
     fn is_open(&self) -> bool
         ensures { result ≡ is_some self.now.unclosed }
     {
@@ -64,6 +66,7 @@ impl Reader {
         has_script(&self.scripts, function)
     }
 
+    /// Opens the script of a function, without steps. Where the function has a script already, the fault is `WrongArguments`.
     fn begin(&mut self, line: u32, function: usize) -> Result<(), TextFault>
         ensures { Takes (spec.took line self.old (Some (Said.Opens function))) line result self.new }
     {
@@ -81,6 +84,7 @@ impl Reader {
         Ok(())
     }
 
+    /// Adds a step to the open script, if any. Where it has `MOST_STEPS` of them already, the fault is `TooMany`.
     fn ask(&mut self, line: u32, call: Call) -> Result<(), TextFault>
         ensures { Takes (spec.took line self.old (Some (Said.Asks call))) line result self.new }
     {
@@ -98,6 +102,7 @@ impl Reader {
         Ok(())
     }
 
+    /// Closes the open script, if any, and puts it behind those read before. It fails only where memory runs out.
     fn close(&mut self, line: u32) -> Result<(), TextFault>
         ensures { Takes (spec.took line self.old (Some Said.Closes)) line result self.new }
     {
@@ -108,6 +113,7 @@ impl Reader {
         Ok(())
     }
 
+    /// Takes in what a line of this number says. The error is its fault in that line, or want of memory.
     fn take(&mut self, line: u32, said: Option<Said>) -> Result<(), TextFault>
         ensures { Takes (spec.took line self.old said) line result self.new }
     {
@@ -119,6 +125,7 @@ impl Reader {
         }
     }
 
+    /// Reads a whole line of this number without its line feed. The error is its first fault, or want of memory.
     fn read_line(&mut self, names: &Names, line: u32, text: &[u8]) -> Result<(), TextFault>
         ensures { Takes (spec.with_line names.now line self.old text.now) line result self.new }
     {
@@ -128,6 +135,7 @@ impl Reader {
         }
     }
 
+    /// The scripts that were read, in the order of their text. Where one is still open, the fault is `CutShort` in the line that opened it.
     fn finish(self) -> Result<Scripts, TextFault>
         ensures { result ≡ spec.at_end self self.unclosed }
     {

@@ -63,6 +63,7 @@ fn found(scripts: &[Script], function: usize) -> Option<&Script>
     scripts.iter().find(|script| script.function == function)
 }
 
+/// The step at a position from 0, or none past the end.
 fn step_at(steps: &[Call], position: usize) -> Option<Call>
     ensures { result ≡ slice_get steps.now position }
 {
@@ -87,18 +88,21 @@ pub fn has_script(scripts: &[Script], function: usize) -> bool
     has_one(scripts, function)
 }
 
+/// Whether one of the scripts is that of the function.
 fn has_one(scripts: &[Script], function: usize) -> bool
     ensures { result ≡ list_any (λ s. s.function == function) scripts.now }
 {
     scripts.iter().any(|script| script.function == function)
 }
 
+/// Whether two scripts are equal, which they are where their functions and their steps are.
 fn is_same_script(one: &Script, other: &Script) -> bool
     ensures { IsTrue result ↔ (steps_of one.now ≡ steps_of other.now) }
 {
     one.function == other.function && are_same_steps(&one.steps, &other.steps)
 }
 
+/// Whether two lists of scripts are equal, script by script.
 fn are_same(one: &[Script], other: &[Script]) -> bool
     ensures { IsTrue result ↔ (map steps_of one.now ≡ map steps_of other.now) }
 {

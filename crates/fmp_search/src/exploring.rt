@@ -1,8 +1,11 @@
 //! All runs.
-ghost use Rattle.std.specs.Prelude.{◌≡◌, ◌<◌, ◌^◌, IfOk};
+ghost use Rattle.std.specs.Prelude.{◌≡◌, ◌≤◌, ◌<◌, ◌^◌, length, IfOk};
 ghost use Rattle.fmp_search.specs.Answers.{Says};
+ghost use Rattle.fmp_search.specs.Trees.{found_at, IsTree, StandsAt};
 
 use crate::layer::{Front, Layer, open_layer};
+use crate::nodes::stand_at;
+use crate::progress::Progress;
 use crate::space::Space;
 use crate::store::Store;
 use std::alloc::{AllocError, Global};
@@ -18,42 +21,68 @@ pub enum Answer {
     NotWithin(u32),
 }
 
-/// Goes through all places, the nearest first, up to so many steps from where all runs begin, and with room for so many places. Three
+/// Makes `trunk` stand at the place where a layer begins, if that is the only one there: all places that are found behind it are made again from
+/// there. Gives the number of the place where it stands then. The error is want of memory.
+fn move_trunk<W: Space>(
+    alloc: Global,
+    trunk: &mut W,
+    base: &mut W,
+    store: &Store,
+    stem: usize,
+    begin: usize,
+) -> Result<usize, AllocError>
+    requires tree { IsTree W.after (W.origin trunk.old) store.now.nodes.items }
+    requires place { begin ≤ length store.now.nodes.items }
+    requires depth { (found_at W.after (W.origin trunk.old) store.now.nodes.items begin).depth < 2 ^ 31 }
+    requires trunk { StandsAt W.after (W.origin trunk.old) store.now.nodes.items stem (W.place trunk.old) (W.room trunk.old) }
+    requires origins { W.origin base.old ≡ W.origin trunk.old }
+    ensures trunk { IfOk result (λ at. StandsAt W.after (W.origin trunk.old) store.now.nodes.items at (W.place trunk.new) (W.room trunk.new)) }
+    ensures trunk_origin { W.origin trunk.new ≡ W.origin trunk.old }
+    ensures base_origin { W.origin base.new ≡ W.origin base.old }
+{
+    if begin + 1 < store.count() {
+        return Ok(stem);
+    }
+    stand_at(alloc, base, trunk, &store.nodes, stem, begin)?;
+    trunk.copy_from(base)?;
+    Ok(begin)
+}
+
+/// Goes through all places, the nearest first, up to so many steps from where all runs begin, and with room for so many places. Four
 /// walkers stand at places of the same graph: one is made to stand at a place and is copied for each step from there, one makes that step,
-/// and one looks at what was found before.
+/// one looks at what was found before, and one stands at the last place through which all runs lead that are gone on from.
 ///
 /// Where the room does not do, `NotWithin` says for how many steps it did, and then all of it was used. The error is want of memory.
-pub fn explore<W: Space>(
+pub fn explore<W: Space, P: Progress>(
     alloc: Global,
     walker: &mut W,
     base: &mut W,
     other: &mut W,
+    trunk: &mut W,
+    progress: &mut P,
     turns: u32,
     most: u32,
 ) -> Result<Answer, AllocError>
-    requires origins { (W.origin base.old ≡ W.origin walker.old) × (W.origin other.old ≡ W.origin walker.old) }
+    requires origins { (W.origin base.old ≡ W.origin walker.old) × (W.origin other.old ≡ W.origin walker.old) × (W.origin trunk.old ≡ W.origin walker.old) }
     requires turns { turns < 2 ^ 31 }
     ensures { IfOk result (λ a. Says W.after W.wanted (W.origin walker.old) turns most a) }
 {
-    walker.restart()?;
-    if walker.is_wanted() {
+    trunk.restart()?;
+    if trunk.is_wanted() {
         return Ok(Answer::Found(Vec::new(alloc)));
     }
-    let mut store = Store::new(alloc, walker.hash(), most)?;
+    let mut store = Store::new(alloc, trunk.hash(), most)?;
     let mut begin = 0;
+    let mut stem = 0;
     for depth in 0..turns {
         let end = store.count();
         if begin == end {
             return Ok(Answer::Never);
         }
+        stem = move_trunk(alloc, trunk, base, &store, stem, begin)?;
+        let front = Front { depth, end, stem };
         match open_layer(
-            alloc,
-            walker,
-            base,
-            other,
-            &mut store,
-            Front { depth, end },
-            begin,
+            alloc, walker, base, other, trunk, progress, &mut store, front, begin,
         )? {
             Layer::Found(steps) => return Ok(Answer::Found(steps)),
             Layer::Full => return Ok(Answer::NotWithin(depth)),

@@ -3,6 +3,7 @@ ghost use Rattle.std.specs.Prelude.{◌≡◌, ◌+◌, ◌<◌, ◌^◌, drop, 
 ghost use Rattle.fmp_search.specs.Guides.{Guide, SaysAlong, guided_after, guided_wanted, is_empty, is_of, may_choose};
 
 use crate::exploring::{Answer, explore};
+use crate::progress::Progress;
 use crate::space::Space;
 use std::alloc::{AllocError, Global};
 
@@ -75,6 +76,10 @@ impl<'a, W: Space + Drop> Space for Guided<'a, W> {
         Ok(())
     }
 
+    fn may_go(&self, step: u8) -> bool {
+        self.may_choose(step) && self.walker.may_go(step)
+    }
+
     fn go(&mut self, step: u8) -> Result<bool, AllocError> {
         if !self.may_choose(step) {
             return Ok(false);
@@ -113,16 +118,18 @@ impl<'a, W: Space + Drop> Space for Guided<'a, W> {
 }
 
 /// Goes through all places to which runs lead that begin with a step of each of these choices, as `explore` does.
-pub fn explore_along<W: Space + Drop>(
+pub fn explore_along<W: Space + Drop, P: Progress>(
     alloc: Global,
     walker: W,
     base: W,
     other: W,
+    trunk: W,
     choices: &[Choice],
+    progress: &mut P,
     turns: u32,
     most: u32,
 ) -> Result<Answer, AllocError>
-    requires origins { (W.origin base ≡ W.origin walker) × (W.origin other ≡ W.origin walker) }
+    requires origins { (W.origin base ≡ W.origin walker) × (W.origin other ≡ W.origin walker) × (W.origin trunk ≡ W.origin walker) }
     requires turns { turns < 2 ^ 31 }
     ensures { IfOk result (λ a. SaysAlong W.after W.wanted (W.origin walker) choices.now turns most a) }
 {
@@ -141,5 +148,19 @@ pub fn explore_along<W: Space + Drop>(
         choices,
         made: 0,
     };
-    explore(alloc, &mut walker, &mut base, &mut other, turns, most)
+    let mut trunk = Guided {
+        walker: trunk,
+        choices,
+        made: 0,
+    };
+    explore(
+        alloc,
+        &mut walker,
+        &mut base,
+        &mut other,
+        &mut trunk,
+        progress,
+        turns,
+        most,
+    )
 }

@@ -1,10 +1,11 @@
 //! One layer of places: those that are found by so many steps and by no fewer.
 ghost use Rattle.std.specs.Prelude.{◌≡◌, ◌≤◌, ◌<◌, ◌+◌, ◌^◌, length, IfOk};
-ghost use Rattle.fmp_search.specs.Trees.{found_at};
+ghost use Rattle.fmp_search.specs.Trees.{found_at, StandsAt};
 ghost use Rattle.fmp_search.specs.Answers.{Explored};
 ghost use Rattle.fmp_search.specs.Growth.{AreBefore, Fills, Opens, Steps};
 
 use crate::nodes::{Node, stand_at, steps_to};
+use crate::progress::Progress;
 use crate::space::Space;
 use crate::store::Store;
 use std::alloc::{AllocError, Global};
@@ -19,19 +20,23 @@ pub(crate) enum Layer {
     Done,
 }
 
-/// The layer that is opened: its places are found by so many steps, and those behind it begin with this number.
+/// The layer that is opened: its places are found by so many steps, and those behind it begin with this number. One stands at the place of
+/// the number `stem`, from where others set out.
 #[derive(Clone, Copy)]
 pub(crate) struct Front {
     pub(crate) depth: u32,
     pub(crate) end: usize,
+    pub(crate) stem: usize,
 }
 
-// One step from the place where `base` stands. If it leads to a place that was not found before, that is one now.
+/// Tries a step from the place where `base` stands, and adds the place it leads to where that is new and not looked for. It is done, too,
+/// where the step cannot be made. The error is want of memory.
 fn try_step<W: Space>(
     alloc: Global,
     walker: &mut W,
     base: &W,
     other: &mut W,
+    trunk: &W,
     store: &mut Store,
     front: Front,
     at: usize,
@@ -42,14 +47,19 @@ fn try_step<W: Space>(
     requires depth { front.depth + 1 < 2 ^ 31 }
     requires base { W.place base.now ≡ (found_at W.after (W.origin walker.old) store.old.nodes.items at).place }
     requires room { 0 < W.room base.now }
-    requires origins { (W.origin base.now ≡ W.origin walker.old) × (W.origin other.old ≡ W.origin walker.old) }
+    requires origins { (W.origin base.now ≡ W.origin walker.old) × (W.origin other.old ≡ W.origin walker.old) × (W.origin trunk.now ≡ W.origin walker.old) }
+    requires trunk { StandsAt W.after (W.origin walker.old) store.old.nodes.items front.stem (W.place trunk.now) (W.room trunk.now) }
     requires before { AreBefore store.old.nodes.items at step }
     ensures fills { IfOk result (λ how. Fills W.after (W.origin walker.old) front.depth store.old.most at (step + 1) how store.new.nodes.items) }
     ensures room { store.new.most ≡ store.old.most }
+    ensures trunk { IfOk result (λ how. StandsAt W.after (W.origin walker.old) store.new.nodes.items front.stem (W.place trunk.now) (W.room trunk.now)) }
     ensures steps { IfOk result (λ how. Steps W.after W.wanted (W.origin walker.old) store.old.nodes.items front.depth front.end at step how store.new.nodes.items) }
     ensures walker_origin { W.origin walker.new ≡ W.origin walker.old }
     ensures other_origin { W.origin other.new ≡ W.origin other.old }
 {
+    if !base.may_go(step) {
+        return Ok(Layer::Done);
+    }
     walker.copy_from(base)?;
     let made = walker.go(step)?;
     if !made {
@@ -61,7 +71,7 @@ fn try_step<W: Space>(
         return Ok(Layer::Found(steps));
     }
     let hash = walker.hash();
-    if store.has(alloc, walker, other, hash)? {
+    if store.has(alloc, walker, other, trunk, front.stem, hash)? {
         return Ok(Layer::Done);
     }
     if store.is_full() {
@@ -75,12 +85,14 @@ fn try_step<W: Space>(
     Ok(Layer::Done)
 }
 
-// All steps from a place, at which `base` is made to stand.
+/// Makes `base` stand at the place of a number and tries all steps from there, until one finds what is looked for or there is no room for
+/// another place. The error is want of memory.
 fn open_place<W: Space>(
     alloc: Global,
     walker: &mut W,
     base: &mut W,
     other: &mut W,
+    trunk: &W,
     store: &mut Store,
     front: Front,
     at: usize,
@@ -88,19 +100,21 @@ fn open_place<W: Space>(
     requires explored { Explored W.after W.wanted (W.origin walker.old) store.old.nodes.items front.depth front.end at }
     requires place { at < front.end }
     requires depth { front.depth + 1 < 2 ^ 31 }
-    requires origins { (W.origin base.old ≡ W.origin walker.old) × (W.origin other.old ≡ W.origin walker.old) }
+    requires origins { (W.origin base.old ≡ W.origin walker.old) × (W.origin other.old ≡ W.origin walker.old) × (W.origin trunk.now ≡ W.origin walker.old) }
+    requires trunk { StandsAt W.after (W.origin walker.old) store.old.nodes.items front.stem (W.place trunk.now) (W.room trunk.now) }
     requires before { AreBefore store.old.nodes.items at 0 }
     ensures fills { IfOk result (λ how. Fills W.after (W.origin walker.old) front.depth store.old.most (at + 1) 0 how store.new.nodes.items) }
     ensures room { store.new.most ≡ store.old.most }
+    ensures trunk { IfOk result (λ how. StandsAt W.after (W.origin walker.old) store.new.nodes.items front.stem (W.place trunk.now) (W.room trunk.now)) }
     ensures opens { IfOk result (λ how. Opens W.after W.wanted (W.origin walker.old) front.depth front.end (at + 1) how store.new.nodes.items) }
     ensures walker_origin { W.origin walker.new ≡ W.origin walker.old }
     ensures base_origin { W.origin base.new ≡ W.origin base.old }
     ensures other_origin { W.origin other.new ≡ W.origin other.old }
 {
-    stand_at(alloc, base, &store.nodes, at)?;
+    stand_at(alloc, base, trunk, &store.nodes, front.stem, at)?;
     let steps = base.steps();
     for step in 0..steps {
-        match try_step(alloc, walker, base, other, store, front, at, step)? {
+        match try_step(alloc, walker, base, other, trunk, store, front, at, step)? {
             Layer::Done => {}
             Layer::Full => return Ok(Layer::Full),
             Layer::Found(steps) => return Ok(Layer::Found(steps)),
@@ -110,11 +124,13 @@ fn open_place<W: Space>(
 }
 
 /// All steps from the places of a layer, which begins with a number.
-pub(crate) fn open_layer<W: Space>(
+pub(crate) fn open_layer<W: Space, P: Progress>(
     alloc: Global,
     walker: &mut W,
     base: &mut W,
     other: &mut W,
+    trunk: &W,
+    progress: &mut P,
     store: &mut Store,
     front: Front,
     begin: usize,
@@ -122,17 +138,20 @@ pub(crate) fn open_layer<W: Space>(
     requires explored { Explored W.after W.wanted (W.origin walker.old) store.old.nodes.items front.depth front.end begin }
     requires place { begin ≤ front.end }
     requires depth { front.depth + 1 < 2 ^ 31 }
-    requires origins { (W.origin base.old ≡ W.origin walker.old) × (W.origin other.old ≡ W.origin walker.old) }
+    requires origins { (W.origin base.old ≡ W.origin walker.old) × (W.origin other.old ≡ W.origin walker.old) × (W.origin trunk.now ≡ W.origin walker.old) }
+    requires trunk { StandsAt W.after (W.origin walker.old) store.old.nodes.items front.stem (W.place trunk.now) (W.room trunk.now) }
     requires before { AreBefore store.old.nodes.items begin 0 }
     ensures fills { IfOk result (λ how. Fills W.after (W.origin walker.old) front.depth store.old.most front.end 0 how store.new.nodes.items) }
     ensures room { store.new.most ≡ store.old.most }
+    ensures trunk { IfOk result (λ how. StandsAt W.after (W.origin walker.old) store.new.nodes.items front.stem (W.place trunk.now) (W.room trunk.now)) }
     ensures opens { IfOk result (λ how. Opens W.after W.wanted (W.origin walker.old) front.depth front.end front.end how store.new.nodes.items) }
     ensures walker_origin { W.origin walker.new ≡ W.origin walker.old }
     ensures base_origin { W.origin base.new ≡ W.origin base.old }
     ensures other_origin { W.origin other.new ≡ W.origin other.old }
 {
     for at in begin..front.end {
-        match open_place(alloc, walker, base, other, store, front, at)? {
+        progress.tell(store.count(), front.depth);
+        match open_place(alloc, walker, base, other, trunk, store, front, at)? {
             Layer::Done => {}
             Layer::Full => return Ok(Layer::Full),
             Layer::Found(steps) => return Ok(Layer::Found(steps)),

@@ -1,5 +1,5 @@
 //! What can be gone through.
-ghost use Rattle.std.specs.Prelude.{◌≡◌, ◌≤◌, ◌<◌, ◌+◌, ◌^◌, ℕ, Bool, true, Option, None, Some, IfOk, is_some};
+ghost use Rattle.std.specs.Prelude.{◌≡◌, ◌≤◌, ◌<◌, ◌+◌, ◌^◌, ℕ, Bool, true, false, Option, None, Some, IfOk, is_some};
 ghost use Rattle.fmp_search.specs.Runs.{Goes};
 
 use std::alloc::AllocError;
@@ -29,6 +29,10 @@ pub trait Space {
         ensures there { IfOk result (λ done. place self.new ≡ origin self.old) }
         ensures room { IfOk result (λ done. 2 ^ 31 ≤ room self.new) }
         ensures origin { origin self.new ≡ origin self.old };
+
+    /// Whether the step of a number may be one that can be made from where it stands. Where it says no it cannot, and none goes there to try.
+    fn may_go(&self, step: u8) -> bool
+        ensures { result ≡ false → after (place self.now) step ≡ None };
 
     /// Makes the step of a number, and says whether it could be made. If not, where it stands is not known, until it goes elsewhere.
     /// The error is want of memory.

@@ -1,6 +1,6 @@
 //! All places that were found, and a table by which one is found again.
 ghost use Rattle.std.specs.Prelude.{◌≡◌, ◌≤◌, ◌<◌, ◌+◌, ◌^◌, ◌++◌, ◌∷◌, ◌↔◌, [], true, length, IfOk, ℕ};
-ghost use Rattle.fmp_search.specs.Trees.{found_at, IsTree, Has};
+ghost use Rattle.fmp_search.specs.Trees.{found_at, IsTree, Has, StandsAt};
 
 use crate::nodes::{Node, stand_at};
 use crate::space::Space;
@@ -20,7 +20,7 @@ pub(crate) struct Store {
     ghost small: { length nodes.items < 2 ^ 32 },
 }
 
-// The slot that is tried at this turn.
+/// The index of the slot that is tried for a hash at a turn, counted from 0. It is less than `slots`.
 fn slot(hash: u64, turn: usize, slots: usize) -> usize
     requires { 0 < slots }
     ensures { result < slots }
@@ -28,7 +28,7 @@ fn slot(hash: u64, turn: usize, slots: usize) -> usize
     (hash.wrapping_add(turn as u64) % slots as u64) as usize
 }
 
-// Puts the number of a place into the first free slot.
+/// Puts the number of a place into the first free slot that is tried for its hash, or nowhere where none is free.
 fn put(table: &mut [u32], hash: u64, place: u32) {
     let slots = table.len();
     for turn in 0..slots {
@@ -63,12 +63,14 @@ impl Store {
         self.nodes.len() + 1
     }
 
+    /// Whether there is no room for another place.
     pub(crate) fn is_full(&self) -> bool
         ensures { result ≡ true ↔ (self.now.most ≤ length self.now.nodes.items) }
     {
         self.nodes.len() >= self.most as usize
     }
 
+    /// Adds a place behind the others, which the table then has too. The error is want of memory.
     pub(crate) fn push(&mut self, node: Node) -> Result<(), AllocError>
         requires { length self.old.nodes.items < self.old.most }
         ensures more { IfOk result (λ done. self.new.nodes.items ≡ self.old.nodes.items ++ node ∷ []) }
@@ -80,7 +82,7 @@ impl Store {
         Ok(())
     }
 
-    // Whether a place may be the one of a hash.
+    /// Whether the place of a number has this hash. Others may have the same.
     fn has_hash(&self, place: usize, hash: u64) -> bool
         requires { place ≤ length self.now.nodes.items }
     {
@@ -97,10 +99,13 @@ impl Store {
         alloc: Global,
         walker: &W,
         other: &mut W,
+        trunk: &W,
+        stem: usize,
         hash: u64,
     ) -> Result<bool, AllocError>
         requires tree { IsTree W.after (W.origin other.old) self.now.nodes.items }
-        requires origins { W.origin other.old ≡ W.origin walker.now }
+        requires origins { (W.origin other.old ≡ W.origin walker.now) × (W.origin trunk.now ≡ W.origin walker.now) }
+        requires trunk { StandsAt W.after (W.origin other.old) self.now.nodes.items stem (W.place trunk.now) (W.room trunk.now) }
         requires depths { (i : ℕ) → i ≤ length self.now.nodes.items → (found_at W.after (W.origin other.old) self.now.nodes.items i).depth < 2 ^ 31 }
         ensures known { IfOk result (λ k. k ≡ true → Has W.after (W.origin other.old) self.now.nodes.items (W.place walker.now)) }
         ensures origin { W.origin other.new ≡ W.origin other.old }
@@ -111,24 +116,28 @@ impl Store {
             if number == NOBODY {
                 return Ok(false);
             }
-            if self.is_at(alloc, walker, other, hash, number as usize)? {
+            if self.is_at(alloc, walker, other, trunk, stem, hash, number as usize)? {
                 return Ok(true);
             }
         }
         Ok(false)
     }
 
-    // Whether this is the number of the place where a walker stands, of this hash.
+    /// Whether `walker` stands at the place of a number, of this hash. It may say no where it does. The other walker goes there to compare.
+    /// The error is want of memory.
     fn is_at<W: Space>(
         &self,
         alloc: Global,
         walker: &W,
         other: &mut W,
+        trunk: &W,
+        stem: usize,
         hash: u64,
         number: usize,
     ) -> Result<bool, AllocError>
         requires tree { IsTree W.after (W.origin other.old) self.now.nodes.items }
-        requires origins { W.origin other.old ≡ W.origin walker.now }
+        requires origins { (W.origin other.old ≡ W.origin walker.now) × (W.origin trunk.now ≡ W.origin walker.now) }
+        requires trunk { StandsAt W.after (W.origin other.old) self.now.nodes.items stem (W.place trunk.now) (W.room trunk.now) }
         requires depths { (i : ℕ) → i ≤ length self.now.nodes.items → (found_at W.after (W.origin other.old) self.now.nodes.items i).depth < 2 ^ 31 }
         ensures known { IfOk result (λ k. k ≡ true → Has W.after (W.origin other.old) self.now.nodes.items (W.place walker.now)) }
         ensures origin { W.origin other.new ≡ W.origin other.old }
@@ -139,7 +148,7 @@ impl Store {
         if !self.has_hash(number, hash) {
             return Ok(false);
         }
-        stand_at(alloc, other, &self.nodes, number)?;
+        stand_at(alloc, other, trunk, &self.nodes, stem, number)?;
         Ok(walker.is_same(other))
     }
 }

@@ -32,6 +32,10 @@ impl Space for Board {
         Ok(())
     }
 
+    fn may_go(&self, step: u8) -> bool {
+        step < 2
+    }
+
     fn go(&mut self, step: u8) -> Result<bool, AllocError> {
         match step {
             0 => {
@@ -80,16 +84,71 @@ impl Space for Board {
 #[cfg(test)]
 mod tests {
     use crate::Board;
-    use fmp_search::{Answer, explore};
+    use fmp_search::{Answer, Choice, Quiet, explore, explore_along};
     use std::alloc::{AllocError, Global};
 
+    /// What `explore` answers from place 1, where `goal` is looked for in up to `turns` steps and with room for `most` places.
+    /// The error is want of memory.
     fn answer(alloc: Global, goal: u8, turns: u32, most: u32) -> Result<Answer, AllocError>
         requires { turns < 2 ^ 31 }
     {
         let mut walker = Board { at: 1, goal };
         let mut base = Board { at: 1, goal };
         let mut other = Board { at: 1, goal };
-        explore(alloc, &mut walker, &mut base, &mut other, turns, most)
+        let mut trunk = Board { at: 1, goal };
+        explore(
+            alloc,
+            &mut walker,
+            &mut base,
+            &mut other,
+            &mut trunk,
+            &mut Quiet,
+            turns,
+            most,
+        )
+    }
+
+    /// What `explore_along` answers likewise, where these are the first choices. The error is want of memory.
+    fn answer_along(alloc: Global, goal: u8, choices: &[Choice]) -> Result<Answer, AllocError> {
+        let walker = Board { at: 1, goal };
+        let base = Board { at: 1, goal };
+        let other = Board { at: 1, goal };
+        let trunk = Board { at: 1, goal };
+        explore_along(
+            alloc, walker, base, other, trunk, choices, &mut Quiet, 50, 400,
+        )
+    }
+
+    // two doublings first: 1, 2, 4, then 5, 6, 12, 24
+    #[test]
+    fn by_a_shortest_run_of_those_that_begin_so(rt: HostRuntime) {
+        let doubled = Choice { step: 1, other: 3 };
+        match answer_along(rt.alloc(), 24, &[doubled, doubled]).expect(&rt, "memory") {
+            Answer::Found(steps) => assert_eq!(rt; steps.len(), 6),
+            _ => panic!(rt; "found"),
+        }
+    }
+
+    // 2 is come to by the first step, but counts only behind both
+    #[test]
+    fn not_before_all_choices_are_made(rt: HostRuntime) {
+        let doubled = Choice { step: 1, other: 1 };
+        match answer_along(rt.alloc(), 2, &[doubled, doubled]).expect(&rt, "memory") {
+            Answer::Found(steps) => assert!(rt; steps.len() > 2),
+            _ => panic!(rt; "found"),
+        }
+    }
+
+    // there is no step 2
+    #[test]
+    fn never_by_a_step_that_cannot_be_made(rt: HostRuntime) {
+        let none = Choice { step: 2, other: 3 };
+        assert!(rt;
+            matches!(
+                answer_along(rt.alloc(), 24, &[none]).expect(&rt, "memory"),
+                Answer::Never
+            )
+        );
     }
 
     // 1, 2, 3, 6, 12, 24

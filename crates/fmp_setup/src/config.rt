@@ -171,6 +171,7 @@ pub fn is_class_of(processors: u8, class: &Class) -> bool
     class.has(class.initial) && !has_one(&class.members[processors as usize..])
 }
 
+/// Whether at least one of these processors is a member.
 fn has_one(members: &[bool]) -> bool
     ensures { result ≡ list_any (λ m. m) members.now }
 {

@@ -93,6 +93,7 @@ pub struct Parts {
     pub spin_locks: u8,
 }
 
+/// Adds a function's name, where no function has it yet. The error is want of memory.
 #[tactic(auto, unfolding(crate::specs::Building::with_function))]
 fn add_function(names: &mut Names, function: &[u8]) -> Result<(), AllocError>
     requires name { is_name function.now ≡ true }
@@ -136,6 +137,7 @@ fn add_object_names(
     Ok(())
 }
 
+/// The number of the function with this name, from 1, and 0 where there is none.
 #[tactic(auto, unfolding(crate::specs::Building::function_number))]
 fn function_number(names: &Names, function: &[u8]) -> usize
     ensures { result ≡ spec.function_number names.now function.now }
@@ -143,6 +145,7 @@ fn function_number(names: &Names, function: &[u8]) -> usize
     names.number(NameKind::Function, function).unwrap_or(0)
 }
 
+/// Whether at least one of the classes has exactly this name.
 fn is_name_of_one(classes: &[NamedClass], name: &[u8]) -> bool
     ensures { result ≡ list_any (λ c. bytes_eq name.now c.name.items) classes.now }
 {
@@ -197,6 +200,7 @@ impl Parts {
             || self.names.contains_defined(name)
     }
 
+    /// The first class that was defined with this name, together with the name.
     fn named(&self, name: &[u8]) -> Option<&NamedClass>
         ensures { option_copied result ≡ find (λ c. bytes_eq name.now c.name.items) self.now.classes.items }
     {

@@ -1,3 +1,1 @@
-pub mod Seeing  -- How many steps may have been seen behind one event more.
-pub mod Answering  -- What is seen in the answers to a list of events.
 pub mod Parts  -- Parts of lists.

@@ -171,3 +171,7 @@ whole_at_end seed ticks w r x false w' r' x' cpus clock c scripts turns is valid
 -- the records of the run that the judge gives
 pub judged_history : (o : Option SmpRun) (run : SmpRun) (w : History) → IfSome o (λ r. r.history ≡ w) → o ≡ Some run → run.history ≡ w
 judged_history o run w are is = subst (λ x. IfSome x (λ r. r.history ≡ w)) is are
+
+-- and its configuration is the one that the judge was given
+pub judged_config : (o : Option SmpRun) (run : SmpRun) (c : Setup) → IfSome o (λ r. r.history.config ≡ c) → o ≡ Some run → run.history.config ≡ c
+judged_config o run c are is = subst (λ x. IfSome x (λ r. r.history.config ≡ c)) is are

@@ -77,6 +77,7 @@ impl<'a> Clocked<'a> {
     ) -> Option<SmpRun<'a>>
         ensures whole { IsSome result ↔ ((self.entry.ticks ≡ ticks) × IsWhole self.entry.world seats.cpus.items seats.clock config.now scripts.now ticks turns) }
         ensures history { IfSome result (λ r. r.history ≡ self.entry.world) }
+        ensures configured { IfSome result (λ r. r.history.config ≡ config.now) }
         ensures run { IfSome result (λ r. IsSmpRun config.now scripts.now ticks turns r.history.records (map (λ v. v.items) r.receipts.items) r.ended) }
         ensures ticked { IfSome result (λ r. TicksInTurn config.now ticks r.history.records) }
     {

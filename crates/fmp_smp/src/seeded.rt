@@ -43,6 +43,7 @@ pub fn run_seeded<'a>(
     ensures run { IfOk result (λ r. IsSmpRun config.entry.now scripts.entry.now ticks turns r.history.records (map (λ v. v.items) r.receipts.items) r.ended) }
     ensures order { IfOk result (λ r. IsInOrderOf seed config.entry.now scripts.entry.now ticks r.history.records) }
     ensures ticked { IfOk result (λ r. TicksInTurn config.entry.now ticks r.history.records) }
+    ensures configured { IfOk result (λ r. r.history.config ≡ config.entry.now) }
 {
     let (mut world, mut seats) = World::boot(alloc, config, scripts, turns)?;
     let mut rounds = Rounds::new(config, ticks);

@@ -41,6 +41,7 @@ pub fn run_smp<'a, T: Threads + Wait + Sync, G: Gate + Sync>(
     requires most { turns ≤ 1000000 }
     ensures run { IfOk result (λ r. IsSmpRun config.entry.now scripts.entry.now ticks turns r.history.records (map (λ v. v.items) r.receipts.items) r.ended) }
     ensures ticked { IfOk result (λ r. TicksInTurn config.entry.now ticks r.history.records) }
+    ensures configured { IfOk result (λ r. r.history.config ≡ config.entry.now) }
 {
     let (world, seats) = World::boot(alloc, config, scripts, turns)?;
     let (parkers, unparkers) = make_parkers(alloc, config.processors())?;

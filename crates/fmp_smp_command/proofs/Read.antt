@@ -7,7 +7,8 @@ use Rattle.clap.specs.Matches.{ReadsOne, first_value, one_text}
 use Rattle.clap.specs.Walk.{first_of, one_of, rows_of}
 use Rattle.clap.specs.declared.parser.matches.Found.{Found}
 use Rattle.clap.proofs.WalkLemmas.{first_value-rows, one_text-rows}
-use Rattle.fmp_smp_command.specs.Smp.{IsFlag, IsNumberIn, number_of}
+use Rattle.fmp_smp_command.specs.Numbers.{IsNumberIn, number_of}
+use Rattle.fmp_smp_command.specs.Smp.{IsFlag}
 
 -- a path that is given
 pub path_read : (f : Found) (id : List ℕ) (o : Option (Bor (List ℕ))) (d r : Bor (List ℕ)) → option_map (λ s. s.now) o ≡ first_value f id

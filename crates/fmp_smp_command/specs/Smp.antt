@@ -1,8 +1,7 @@
 -- The command line of a run with scripts, and what it gives.
-use Rattle.std.specs.Prelude.{◌≡◌, ◌<◌, ◌^◌, ℕ, Bool, pos, true, false, List, [], ◌∷◌, Option, Some, None, codes, is_some, option_map, if◌then◌else◌}
-use Rattle.std.specs.Option.{SomeIff}
+use Rattle.std.specs.Prelude.{◌≡◌, ℕ, Bool, pos, true, false, List, [], ◌∷◌, Option, Some, None, codes, is_some, option_map, if◌then◌else◌}
+use Rattle.std.specs.Borrow.{Bor}
 use Rattle.std.specs.Str.{bytes_eq}
-use Rattle.std.specs.Str.Parse.{IsNumeral, digits_value, without_leading_plus}
 use Rattle.clap.specs.Words.{AddsArg, AddsInTurn, IsPlainArg, IsSignedIn, args_of, groups_of, found_of, one_text, without_minus, App, Kinds, Row, Rule, Text, app_of, fault_of, first_of, first_value, matches_of, new_app, new_rule, one_of, rows_of, with_rule}
 use Rattle.clap.specs.declared.builder.command.Command.TheViews.{out-Command as fields_of}
 use Rattle.clap.specs.Built.{TakesValue}
@@ -15,6 +14,8 @@ use Rattle.fmp_smp_command.specs.declared.colours.Colour.{Colour}
 use Rattle.fmp_smp_command.specs.declared.colours.Colour.TheVariants.{Auto, Always, Never, Other}
 use Rattle.fmp_smp_command.specs.declared.limits.Limits.{Limits}
 use Rattle.fmp_smp_command.specs.declared.SmpRequest.{SmpRequest}
+use Rattle.fmp_smp_command.specs.Numbers.{IsNumberIn, number_of}
+use Rattle.fmp_smp_command.specs.Seeds.{AreSeeds, seeds_rule}
 
 -- an argument of this id
 pub record IsOptional (a : Arg) (id : List ℕ) : Type 0 where
@@ -55,9 +56,17 @@ seed_rule = record (new_rule (codes "seed")) {
   parser = Some (parser.Unsigned 0 18446744073709551615);
 }
 
+-- of a question that may be left out
+abbrev pub find_rule : Rule
+find_rule = record (new_rule (codes "find")) { long = Some (codes "find"); value_names = 1; action = Some Set }
+
 -- and of a flag
 abbrev pub context_rule : Rule
 context_rule = record (new_rule (codes "context")) { long = Some (codes "context"); action = Some SetTrue }
+
+-- of another flag
+abbrev pub strict_rule : Rule
+strict_rule = record (new_rule (codes "strict")) { long = Some (codes "strict"); action = Some SetTrue }
 
 -- of when the trace is coloured
 abbrev pub colour_rule : Rule
@@ -84,11 +93,17 @@ smp_line = with_rule
     (with_rule
     (with_rule
     (with_rule
+    (with_rule
+    (with_rule
+    (with_rule
     (with_rule (new_app (codes "smp")) (path_rule (codes "CFG")))
     (path_rule (codes "SCRIPTS")))
     (number_rule (codes "ticks") 0 1000000))
     (number_rule (codes "turns") 1 1000000))
     seed_rule)
+    seeds_rule)
+    find_rule)
+    strict_rule)
     context_rule)
     colour_rule
 
@@ -100,7 +115,15 @@ found_in words = matches_of smp_line words
 unfoldable pub faults_in : List Text → Kinds
 faults_in words = fault_of smp_line words
 
--- the command line: two paths, two numbers, and three that may be left out
+-- the command without its arguments
+pub record IsStart (c : Command) : Type 0 where
+  pub no_arguments : args_of c ≡ []
+  pub no_groups : groups_of c ≡ []
+  pub no_globals : (fields_of c).has_globals ≡ false
+  pub negates_nothing : (fields_of c).subcommand_negates_reqs ≡ false
+  pub line : app_of c ≡ new_app (codes "smp")
+
+-- the command line: two paths, two numbers, and six that may be left out
 pub record IsSmp (c : Command) : Type 0 where
   pub start : Command
   pub config : Arg
@@ -108,18 +131,21 @@ pub record IsSmp (c : Command) : Type 0 where
   pub ticks : Arg
   pub turns : Arg
   pub seed : Arg
+  pub seeds : Arg
+  pub find : Arg
+  pub strict : Arg
   pub context : Arg
   pub colour : Arg
-  pub chain : AddsInTurn AddsArg start (config ∷ scripts ∷ ticks ∷ turns ∷ seed ∷ context ∷ colour ∷ []) c
-  pub no_arguments : args_of start ≡ []
-  pub no_groups : groups_of start ≡ []
-  pub no_globals : (fields_of start).has_globals ≡ false
-  pub negates_nothing : (fields_of start).subcommand_negates_reqs ≡ false
+  pub chain : AddsInTurn AddsArg start (config ∷ scripts ∷ ticks ∷ turns ∷ seed ∷ seeds ∷ find ∷ strict ∷ context ∷ colour ∷ []) c
+  pub is_start : IsStart start
   pub is_config : IsRequired config (codes "CFG")
   pub is_scripts : IsRequired scripts (codes "SCRIPTS")
   pub is_ticks : IsNumber ticks (codes "ticks") 0 1000000
   pub is_turns : IsNumber turns (codes "turns") 1 1000000
   pub is_seed : IsOptional seed (codes "seed")
+  pub is_seeds : IsOptional seeds (codes "seeds")
+  pub is_find : IsOptional find (codes "find")
+  pub is_strict : IsOptional strict (codes "strict")
   pub is_context : IsOptional context (codes "context")
   pub is_colour : IsOptional colour (codes "color")
   pub line : app_of c ≡ smp_line
@@ -143,19 +169,10 @@ pub record GivesAll (m : ArgMatches) : Type 0 where
 abbrev pub rows_in : ArgMatches → List Row
 rows_in m = rows_of (found_of m)
 
--- the number that the digits of a text write, where a plus may stand first
-abbrev pub number_of : Text → ℕ
-number_of t = digits_value 10 (without_leading_plus t)
-
 -- the limits are the numbers of these two ids, each its own
 pub record AsksLimits (rows : List Row) (l : Limits) : Type 0 where
   pub ticks : option_map number_of (one_of (codes "ticks") rows) ≡ Some l.ticks
   pub turns : option_map number_of (one_of (codes "turns") rows) ≡ Some l.turns
-
--- the number of a text that may be missing: none without a text, and else what it writes, where that has 64 bits
-abbrev pub IsNumberIn : Option Text → Option ℕ → Type 0
-IsNumberIn None n = n ≡ None
-IsNumberIn (Some t) n = SomeIff n (IsNumeral 10 (without_leading_plus t) × (number_of t < 2 ^ 64)) (number_of t)
 
 -- whether a flag is set, by its text
 pub record IsFlag (text : Option Text) (b : Bool) : Type 0 where
@@ -169,5 +186,8 @@ pub record Asks (rows : List Row) (r : SmpRequest) : Type 0 where
   pub scripts : first_of (codes "SCRIPTS") rows ≡ Some r.scripts.now
   pub limits : AsksLimits rows r.limits
   pub seed : IsNumberIn (one_of (codes "seed") rows) r.seed
+  pub seeds : AreSeeds (first_of (codes "seeds") rows) r.seeds
+  pub find : option_map (λ (text : Bor Text). text.now) r.find ≡ first_of (codes "find") rows
+  pub strict : IsFlag (one_of (codes "strict") rows) r.strict
   pub context : IsFlag (one_of (codes "context") rows) r.context
   pub colour : r.colour ≡ colour_by (first_of (codes "color") rows)

@@ -9,15 +9,18 @@
 ghost use Rattle.std.specs.Prelude.{◌≡◌, IfOk, map, pos, Some, codes};
 ghost use Rattle.clap.specs.Words.{FailsBy, rule_of};
 ghost use Rattle.clap.specs.declared.builder.value_parser.ValueParser.TheVariants as parser;
-ghost use Rattle.fmp_smp_command.specs.Smp.{IsOptional, IsRequired, IsNumber, IsSmp, GivesLimits, GivesAll};
-ghost use Rattle.fmp_smp_command.specs.Smp.{Asks, AsksLimits, context_rule, faults_in, found_in, number_rule, path_rule, rows_in, seed_rule};
+ghost use Rattle.fmp_smp_command.specs.Smp.{IsOptional, IsRequired, IsNumber, IsStart, IsSmp, GivesLimits, GivesAll};
+ghost use Rattle.fmp_smp_command.specs.Smp.{Asks, AsksLimits, context_rule, faults_in, find_rule, found_in, number_rule, path_rule, rows_in, seed_rule, strict_rule};
 
 mod colours;
 mod limits;
+mod seeds;
 
 use clap::{Arg, ArgAction, ArgMatches, Command, Error};
 pub use colours::{Colour, colour_of, colour_option};
 pub use limits::Limits;
+pub use seeds::Seeds;
+use seeds::{seeds_of, seeds_option};
 use std::alloc::{AllocError, Global};
 
 const ABOUT: &str = "Runs processors that follow scripts, each in a thread of its own";
@@ -36,21 +39,32 @@ call that is answered with `spin` is made again.
 
 Each processor takes its turns in a thread of its own: it takes a pending request, or makes the
 call that is next in the script of its due handler or else of its running task. A clock gives
-each processor its ticks, round by round; under `TIMER(GLOBAL, p);` it gives them to p alone. The
-run ends when all ticks are taken and no processor has anything left to do, or when there were as
-many events as --turns says.
+each processor its ticks, round by round; under `TIMER(GLOBAL, p);` it gives them to p alone, the
+only one whose ticks count. The run ends when all ticks are taken and no processor has anything
+left to do, or when there were as many events as --turns says.
 
 The trace, on standard output, has one line for each event, in the order in which they happened,
-as that of `fmpsim calls`, and in its colours. That order may be another one each time. With --seed the processors
-and the clock take turns without threads, in an order that the number determines.
+as that of `fmpsim calls`, and in its colours. That order may be another one each time. With
+--seed the processors and the clock take turns without threads, in an order that the number
+determines. On standard error stands who still waits at the end, and for what, a line a task, as
+in the states of `fmpsim calls --state`:
+
+  fmpsim: T1 waits sem S1 left=3
+
+With --seeds A..B the orders of the seeds A, A + 1 to B are played one after the other, without
+threads, up to the first at whose end a task waits while nothing is left to do, or with --find
+QUESTION up to the first that shows what QUESTION asks, as `fmpsim explore` has it. Its trace is
+written, and its seed is told before the tasks. Where there is none, nothing is written.
 
 Exit status:
-  0  all ticks were taken, and no processor had anything left to do
-  1  a fault in a text, told on standard error with its line
+  0  all ticks were taken, and no processor had anything left to do; or no seed was found
+  1  a fault in a text or in the question, told on standard error with its place
   2  the command line is wrong
   3  a file could not be read, or the output not be written
   4  want of memory or of threads
-  6  there were as many events as --turns says; their trace was written";
+  5  with --find: the order of a seed shows it; its trace was written
+  6  there were as many events as --turns says; their trace was written
+  7  with --strict, or with --seeds and no --find: as 0, but a task waits";
 
 /// What the command line of `fmpsim smp` asks for.
 #[derive(Clone, Copy, Debug)]
@@ -62,6 +76,12 @@ pub struct SmpRequest<'a> {
     pub limits: Limits,
     /// What determines the order of a run without threads.
     pub seed: Option<u64>,
+    /// The seeds of a run that goes through many.
+    pub seeds: Seeds,
+    /// The question of which one of these is to show what it asks. Without it one is looked for that ends while a task waits.
+    pub find: Option<&'a str>,
+    /// Whether it is a status of its own that a task waits at a quiet end.
+    pub strict: bool,
     /// Whether what stands beside a fault is to be shown.
     pub context: bool,
     /// When the trace is coloured.
@@ -90,7 +110,7 @@ fn ticks<'a>(alloc: Global) -> Arg<'a>
         .required(true)
         .action(ArgAction::Set)
         .value_parser(clap::value_parser!(u32).range(0..=1_000_000))
-        .help("How many ticks each processor takes, 0 to 1000000")
+        .help("How many ticks each processor takes whose ticks count, 0 to 1000000")
 }
 
 /// The option for the greatest number of events, which has to be given.
@@ -120,6 +140,29 @@ fn seed<'a>(alloc: Global) -> Arg<'a>
         .help("Runs without threads, in an order that this number determines")
 }
 
+/// The option for the question that is asked of the orders of seeds.
+fn find<'a>(alloc: Global) -> Arg<'a>
+    ensures kind { IsOptional result (codes "find") }
+    ensures rule { rule_of result ≡ find_rule }
+{
+    Arg::new(alloc, "find")
+        .long("find")
+        .value_name("QUESTION")
+        .action(ArgAction::Set)
+        .help("What is looked for in the orders of --seeds")
+}
+
+/// The flag by which it is a status of its own that a task waits at a quiet end.
+fn strict<'a>(alloc: Global) -> Arg<'a>
+    ensures kind { IsOptional result (codes "strict") }
+    ensures rule { rule_of result ≡ strict_rule }
+{
+    Arg::new(alloc, "strict")
+        .long("strict")
+        .action(ArgAction::SetTrue)
+        .help("Ends with status 7 where a task waits at the end, and nothing else is left to do")
+}
+
 /// The flag to show what stands beside a fault.
 fn context<'a>(alloc: Global) -> Arg<'a>
     ensures kind { IsOptional result (codes "context") }
@@ -129,6 +172,16 @@ fn context<'a>(alloc: Global) -> Arg<'a>
         .long("context")
         .action(ArgAction::SetTrue)
         .help("Shows below a fault its line, its place and what is wanted there")
+}
+
+/// The command without its arguments.
+fn start<'a>(alloc: Global) -> Result<Command<'a>, AllocError>
+    ensures { IfOk result IsStart }
+{
+    Command::new(alloc, "smp")
+        .about(ABOUT)
+        .after_help(HELP)
+        .bin_name("fmpsim smp")
 }
 
 /// The command, for its help and for what is wrong in it.
@@ -144,20 +197,23 @@ pub fn smp_command<'a>(alloc: Global) -> Result<Command<'a>, AllocError>
     let ticks = ticks(alloc);
     let turns = turns(alloc);
     let seed = seed(alloc);
+    let seeds = seeds_option(alloc);
+    let find = find(alloc);
+    let strict = strict(alloc);
     let context = context(alloc);
     let colour = colour_option(alloc);
-    let start = Command::new(alloc, "smp")
-        .about(ABOUT)
-        .after_help(HELP)
-        .bin_name("fmpsim smp")?;
+    let start = start(alloc)?;
     let one = start.arg(config)?;
     let two = one.arg(scripts)?;
     let three = two.arg(ticks)?;
     let four = three.arg(turns)?;
     let five = four.arg(seed)?;
-    let six = five.arg(context)?;
-    let seven = six.arg(colour)?;
-    Ok(seven)
+    let six = five.arg(seeds)?;
+    let seven = six.arg(find)?;
+    let eight = seven.arg(strict)?;
+    let nine = eight.arg(context)?;
+    let ten = nine.arg(colour)?;
+    Ok(ten)
 }
 
 /// The numbers of `--ticks` and `--turns`, each in its own place.
@@ -179,6 +235,9 @@ fn request_of<'a>(matches: &ArgMatches<'a>) -> SmpRequest<'a>
     let scripts = matches.get_str("SCRIPTS").unwrap_or("");
     let limits = limits_of(matches);
     let seed = matches.get_one::<u64>("seed");
+    let seeds = seeds_of(matches);
+    let find = matches.get_str("find");
+    let strict = matches.get_flag("strict");
     let context = matches.get_flag("context");
     let colour = colour_of(matches);
     SmpRequest {
@@ -186,6 +245,9 @@ fn request_of<'a>(matches: &ArgMatches<'a>) -> SmpRequest<'a>
         scripts,
         limits,
         seed,
+        seeds,
+        find,
+        strict,
         context,
         colour,
     }

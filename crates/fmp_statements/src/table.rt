@@ -218,6 +218,7 @@ impl StatementName {
     }
 }
 
+/// The range with these two bounds, which belong to it. It is never `None`, as the answer of a statement that has the number.
 fn from_to(least: u64, most: u64) -> Option<Range>
     ensures { result ≡ spec.from_to least most }
 {

@@ -75,6 +75,7 @@ pub fn is_mark(byte: u8, token: &Token<'_>) -> bool
     matches!(token.kind(), TokenKind::Symbol) && is_one(byte, token.text())
 }
 
+/// Whether the text is this byte and nothing else.
 fn is_one(byte: u8, text: &[u8]) -> bool
     ensures { result ≡ spec.is_one byte text.now }
 {

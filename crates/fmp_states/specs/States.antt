@@ -105,10 +105,14 @@ abbrev pub left_text : Option ℕ → List ℕ
 left_text None = []
 left_text (Some n) = codes " left=" ++ decimal n
 
+-- a task, what is told of it, and a line feed
+unfoldable pub task_words : NameLists → Task → TaskRecord → Option ℕ → List ℕ
+task_words lists t x left =
+    task_text lists t ++ flag_text x.suspended (codes " suspended") ++ waiting_text lists x.wait ++ left_text left ++ numbers_text x ++ codes "\n"
+
 -- the line of a task of which something is told
 unfoldable pub told_text : NameLists → Task → TaskRecord → Option ℕ → List ℕ
-told_text lists t x left =
-    codes "  " ++ task_text lists t ++ flag_text x.suspended (codes " suspended") ++ waiting_text lists x.wait ++ left_text left ++ numbers_text x ++ codes "\n"
+told_text lists t x left = codes "  " ++ task_words lists t x left
 
 -- a task that neither waits nor is suspended, and of which nothing else is another than at boot, has no line
 abbrev pub is_told : TaskRecord → Bool

@@ -14,7 +14,7 @@ use std::alloc::AllocError;
 
 /// Adds the line of an object, with a number behind its word.
 #[tactic(auto, unfolding(crate::specs::Changes::object_text))]
-fn put_object(
+pub fn put_object(
     out: &mut Vec<u8>,
     names: &Names,
     kind: ObjectKind,
@@ -87,7 +87,7 @@ fn put_value(out: &mut Vec<u8>, index: usize, value: Option<i64>) -> Result<(), 
 }
 
 /// Adds the values of a data queue, the oldest first.
-fn put_values(out: &mut Vec<u8>, kernel: &Kernel, d: Object) -> Result<(), AllocError>
+pub fn put_values(out: &mut Vec<u8>, kernel: &Kernel, d: Object) -> Result<(), AllocError>
     ensures { OnOk result (out.new.items ≡ out.old.items ++ spec.values_from 0 (values kernel.now d)) }
 {
     for index in 0..kernel.value_count(d) {
@@ -112,7 +112,7 @@ fn put_queue(out: &mut Vec<u8>, names: &Names, kernel: &Kernel, d: Object) -> Re
 }
 
 /// How many blocks of a pool are free.
-fn free_blocks(pool: &Pool) -> u64
+pub fn free_blocks(pool: &Pool) -> u64
     ensures { result ≡ spec.free_blocks pool.now }
 {
     let blocks = usize::from(pool.setup.blocks);

@@ -35,7 +35,7 @@ fn phase_left(setup: &CyclicSetup) -> Option<u64>
 }
 
 /// Adds the ticks left of a handler, or that it is stopped.
-fn put_ticks(out: &mut Vec<u8>, left: Option<u64>) -> Result<(), AllocError>
+pub fn put_ticks(out: &mut Vec<u8>, left: Option<u64>) -> Result<(), AllocError>
     ensures { OnOk result (out.new.items ≡ out.old.items ++ spec.ticks_text left) }
 {
     match left {
@@ -47,6 +47,7 @@ fn put_ticks(out: &mut Vec<u8>, left: Option<u64>) -> Result<(), AllocError>
     }
 }
 
+/// Adds the line of a handler: its name, and its ticks left or that it is stopped.
 #[tactic(auto, unfolding(crate::specs::Changes::handler_text))]
 fn put_handler(
     out: &mut Vec<u8>,

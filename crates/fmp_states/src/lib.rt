@@ -3,7 +3,8 @@
 //! [`put_state`] writes a line for each processor, one for each task that waits, is suspended or is otherwise not as at boot, one for each
 //! object that is not as at boot, and one that ends the state. Its contract says so twice: by what the kernel's lists tell (`lists`), and,
 //! for every state of the model for which the kernel stands, by what that one tells (`model`). The text is `state_text` in
-//! `specs/States`, and what is told where it is not as at boot stands in `specs/Changes`; docs/FORMATS.md has its form.
+//! `specs/States`, and what is told where it is not as at boot stands in `specs/Changes`; docs/FORMATS.md has its form. [`put_waiting`]
+//! writes the lines of the tasks that wait alone, which are `waiting_lines` in `specs/Waits`, and likewise says so twice.
 #![tactic(auto)]
 
 mod changes;
@@ -11,5 +12,11 @@ mod handlers;
 mod processors;
 mod states;
 mod tasks;
+mod waits;
 
+pub use changes::{free_blocks, put_object, put_values};
+pub use handlers::put_ticks;
+pub use processors::put_flag;
 pub use states::{put_lines, put_state};
+pub use tasks::{put_any_wait, put_left, put_numbers};
+pub use waits::put_waiting;

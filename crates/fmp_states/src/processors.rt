@@ -11,6 +11,7 @@ use fmp_names::Names;
 use fmp_trace::{put_number, put_runner, put_task};
 use std::alloc::{AllocError, Global};
 
+/// Whether a task is the one that runs.
 fn is_running(running: Option<Task>, task: Task) -> bool
     ensures { result ≡ spec.is_running running task }
 {
@@ -36,6 +37,23 @@ fn add_others(
     Ok(())
 }
 
+/// Adds the ready tasks of a priority on a processor, without the running one.
+fn add_ready(
+    others: &mut Vec<Task>,
+    running: Option<Task>,
+    kernel: &Kernel,
+    p: Proc,
+    priority: Pri,
+) -> Result<(), AllocError>
+    ensures { OnOk result (others.new.items ≡ others.old.items ++ spec.without_running running (listed.ready kernel.now.order kernel.now.tasks p priority)) }
+{
+    // most priorities have none, and a list is longer than a look
+    if kernel.first_ready(p, priority).is_none() {
+        return Ok(());
+    }
+    add_others(others, running, kernel.ready(p, priority).as_slice())
+}
+
 /// The ready tasks of a processor in their precedence, without the running one.
 fn other_ready(alloc: Global, kernel: &Kernel, p: Proc) -> Result<Vec<Task>, AllocError>
     ensures { IfOk result (λ v. v.items ≡ spec.ready_to listed kernel.now p 32) }
@@ -43,12 +61,12 @@ fn other_ready(alloc: Global, kernel: &Kernel, p: Proc) -> Result<Vec<Task>, All
     let running = kernel.processor(p).running;
     let mut others = Vec::new(alloc);
     for index in 0..32u8 {
-        let tasks = kernel.ready(p, Pri::new(index + 1));
-        add_others(&mut others, running, tasks.as_slice())?;
+        add_ready(&mut others, running, kernel, p, Pri::new(index + 1))?;
     }
     Ok(others)
 }
 
+/// Adds ` ready=` and the names of the tasks with commas between them, or nothing where there is no task.
 fn put_ready(out: &mut Vec<u8>, names: &Names, tasks: &[Task]) -> Result<(), AllocError>
     ensures { OnOk result (out.new.items ≡ out.old.items ++ spec.ready_from names.now 0 tasks.now) }
 {
@@ -63,6 +81,7 @@ fn put_ready(out: &mut Vec<u8>, names: &Names, tasks: &[Task]) -> Result<(), All
     Ok(())
 }
 
+/// Adds ` due=` and the names of the handlers with commas between them, or nothing where there is no handler.
 fn put_due(out: &mut Vec<u8>, names: &Names, due: &[Runner]) -> Result<(), AllocError>
     ensures { OnOk result (out.new.items ≡ out.old.items ++ spec.due_from names.now 0 due.now) }
 {
@@ -78,7 +97,7 @@ fn put_due(out: &mut Vec<u8>, names: &Names, due: &[Runner]) -> Result<(), Alloc
 }
 
 /// Adds a word where it holds.
-pub(crate) fn put_flag(out: &mut Vec<u8>, holds: bool, word: &[u8]) -> Result<(), AllocError>
+pub fn put_flag(out: &mut Vec<u8>, holds: bool, word: &[u8]) -> Result<(), AllocError>
     ensures { OnOk result (out.new.items ≡ out.old.items ++ spec.flag_text holds word.now) }
 {
     if holds {
@@ -87,6 +106,7 @@ pub(crate) fn put_flag(out: &mut Vec<u8>, holds: bool, word: &[u8]) -> Result<()
     Ok(())
 }
 
+/// Adds a word for each that holds: that it is CPU-locked, that its dispatching is disabled, that its latch is set.
 #[tactic(auto, unfolding(crate::specs::States::flags_text))]
 fn put_flags(out: &mut Vec<u8>, processor: Processor) -> Result<(), AllocError>
     ensures { OnOk result (out.new.items ≡ out.old.items ++ spec.flags_text processor) }
@@ -96,6 +116,7 @@ fn put_flags(out: &mut Vec<u8>, processor: Processor) -> Result<(), AllocError>
     put_flag(out, processor.latch, b" latch")
 }
 
+/// Adds the name of the running task, or `-` where none runs.
 fn put_running(out: &mut Vec<u8>, names: &Names, running: Option<Task>) -> Result<(), AllocError>
     ensures { OnOk result (out.new.items ≡ out.old.items ++ spec.running_text names.now running) }
 {

@@ -12,6 +12,7 @@ use fmp_names::Names;
 use fmp_trace::{put_named, put_number, put_task};
 use std::alloc::AllocError;
 
+/// Adds that a task waits for an object: the word for such a wait, and the object's name.
 #[tactic(auto, unfolding(crate::specs::States::object_wait))]
 fn put_object_wait(
     out: &mut Vec<u8>,
@@ -28,6 +29,7 @@ fn put_object_wait(
     put_named(out, names, kind, usize::from(object.number))
 }
 
+/// Adds what a task waits for: a word for the kind of wait, and the name of the object where it waits for one.
 fn put_wait(out: &mut Vec<u8>, names: &Names, wait: Wait) -> Result<(), AllocError>
     ensures { OnOk result (out.new.items ≡ out.old.items ++ spec.wait_text names.now wait) }
 {
@@ -43,7 +45,7 @@ fn put_wait(out: &mut Vec<u8>, names: &Names, wait: Wait) -> Result<(), AllocErr
 }
 
 /// Adds what a task waits for, if it waits.
-fn put_waiting(out: &mut Vec<u8>, names: &Names, wait: Option<Wait>) -> Result<(), AllocError>
+pub fn put_any_wait(out: &mut Vec<u8>, names: &Names, wait: Option<Wait>) -> Result<(), AllocError>
     ensures { OnOk result (out.new.items ≡ out.old.items ++ spec.waiting_text names.now wait) }
 {
     match wait {
@@ -53,7 +55,7 @@ fn put_waiting(out: &mut Vec<u8>, names: &Names, wait: Option<Wait>) -> Result<(
 }
 
 /// Adds the ticks left of a wait, where it is timed.
-fn put_left(out: &mut Vec<u8>, left: Option<u64>) -> Result<(), AllocError>
+pub fn put_left(out: &mut Vec<u8>, left: Option<u64>) -> Result<(), AllocError>
     ensures { OnOk result (out.new.items ≡ out.old.items ++ spec.left_text left) }
 {
     if let Some(left) = left {
@@ -97,7 +99,7 @@ fn put_told(out: &mut Vec<u8>, told: bool, word: &[u8], number: u64) -> Result<(
 
 /// Adds the priority of a task where it is another one, and what is queued for it.
 #[tactic(auto, unfolding(crate::specs::Changes::numbers_text))]
-fn put_numbers(out: &mut Vec<u8>, task: &TaskRecord) -> Result<(), AllocError>
+pub fn put_numbers(out: &mut Vec<u8>, task: &TaskRecord) -> Result<(), AllocError>
     ensures { OnOk result (out.new.items ≡ out.old.items ++ changes.numbers_text task.now) }
 {
     let priority = u64::from(task.priority.number);
@@ -106,6 +108,26 @@ fn put_numbers(out: &mut Vec<u8>, task: &TaskRecord) -> Result<(), AllocError>
     put_told(out, has_moved(task), b" pri=", priority)?;
     put_told(out, activations != 0, b" act=", activations)?;
     put_told(out, wakeups != 0, b" wup=", wakeups)
+}
+
+/// Adds a task, what is told of it, and a line feed.
+#[tactic(auto, unfolding(crate::specs::States::task_words))]
+pub(crate) fn put_task_words(
+    out: &mut Vec<u8>,
+    names: &Names,
+    t: Task,
+    task: &TaskRecord,
+    left: Option<u64>,
+) -> Result<(), AllocError>
+    ensures { OnOk result (out.new.items ≡ out.old.items ++ spec.task_words names.now t task.now left) }
+{
+    put_task(out, names, t)?;
+    put_flag(out, task.suspended, b" suspended")?;
+    put_any_wait(out, names, task.wait)?;
+    put_left(out, left)?;
+    put_numbers(out, task)?;
+    out.push(b'\n')?;
+    Ok(())
 }
 
 /// Adds the line of a task of which something is told.
@@ -120,13 +142,7 @@ fn put_task_line(
     ensures { OnOk result (out.new.items ≡ out.old.items ++ spec.told_text names.now t task.now left) }
 {
     out.extend_from_slice(b"  ")?;
-    put_task(out, names, t)?;
-    put_flag(out, task.suspended, b" suspended")?;
-    put_waiting(out, names, task.wait)?;
-    put_left(out, left)?;
-    put_numbers(out, task)?;
-    out.push(b'\n')?;
-    Ok(())
+    put_task_words(out, names, t, task, left)
 }
 
 /// Adds the line of a task, if there is something to be told of it.

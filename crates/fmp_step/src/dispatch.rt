@@ -6,6 +6,7 @@ use fmp_codes::{Proc, Requests, Task};
 use fmp_machine::Processor;
 use fmp_primitives::{Overview, Tops, Words, is_held};
 
+/// Whether both are the same task, or neither is one.
 fn is_same(a: Option<Task>, b: Option<Task>) -> bool
     ensures { result ≡ is_same a b }
 {
@@ -28,6 +29,7 @@ pub(crate) fn changed_run(before: Option<Task>, after: Option<Task>) -> Option<O
     }
 }
 
+/// Whether an event on q sends p a request: p is another processor, and its top is not what it was before.
 fn is_requested<M: Words>(machine: &M, before: &Tops, q: Proc, p: Proc) -> bool
     ensures { result ≡ is_requested M.ordering before.now (M.world machine.now) q p }
 {

@@ -95,6 +95,7 @@ pub fn step_into<M: Overview>(machine: &mut M, event: Event, told: &mut Record)
     }
 }
 
+/// Plays a call from a processor, and makes the record tell it. Nothing changes where neither a handler nor a task could make it.
 fn step_call<M: Overview>(machine: &mut M, p: Proc, call: Call, told: &mut Record)
     requires room { 64 ≤ M.room machine.old }
     requires empty { told.old.releases ≡ [] }
@@ -121,6 +122,8 @@ fn has_time(timer: Timer, p: Proc) -> bool
     }
 }
 
+/// Plays a tick of a processor, and makes the record tell it. Nothing changes where its ticks do not count, and where the tick is held
+/// back because it is CPU-locked or a handler is due.
 fn step_tick<M: Overview>(machine: &mut M, p: Proc, told: &mut Record)
     requires room { 64 ≤ M.room machine.old }
     requires empty { told.old.releases ≡ [] }
@@ -140,6 +143,8 @@ fn step_tick<M: Overview>(machine: &mut M, p: Proc, told: &mut Record)
     settled(machine, p, &before, Effect::answer(Answer::Taken), told);
 }
 
+/// Plays an interrupt that comes to a processor, and makes the record tell it. It is held back, and nothing changes, where dispatching
+/// is held.
 fn step_interrupt<M: Overview>(machine: &mut M, p: Proc, told: &mut Record)
     requires empty { told.old.releases ≡ [] }
     requires event { told.old.event ≡ Event.Ipi p }

@@ -12,11 +12,19 @@ const TRACE: &[u8] = b"\
 4 P2 T2 ipi taken
 ";
 
-/// The two reports on it.
+/// The two reports on it. The first begins with the state that the third line leaves behind: each processor runs its task, and nothing else
+/// is as it was not at boot.
 const REPORTS: [(Shown, &[u8]); 2] = [
     (
         Shown::First,
-        b"no 4\n- 4 P2 T2 ipi taken\n+ 4 P2 T2 ipi none\n",
+        b"\
+no 4
+  P1 run=T1
+  P2 run=T2
+  end
+- 4 P2 T2 ipi taken
++ 4 P2 T2 ipi none
+",
     ),
     (
         Shown::Each,

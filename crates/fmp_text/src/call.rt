@@ -11,6 +11,7 @@ use fmp_calls::{ArgumentKind, MOST_ARGUMENTS, Value, find_call, form, with_value
 use fmp_codes::Call;
 use fmp_names::Names;
 
+/// A call of this name, with some arguments. A word that is the name of no call is a bad one.
 #[tactic(auto, unfolding(crate::specs::Reading::named_call))]
 fn named_call(word: &[u8]) -> Result<Call, TextKind>
     ensures { result ≡ spec.named_call word.now }
@@ -18,6 +19,7 @@ fn named_call(word: &[u8]) -> Result<Call, TextKind>
     find_call(word).ok_or(TextKind::BadWord)
 }
 
+/// The values of arguments, each of the kind in its place, or the fault of the first that has no such value.
 fn values_at(
     names: &Names,
     kinds: &[ArgumentKind],
@@ -34,6 +36,7 @@ fn values_at(
     Ok(values)
 }
 
+/// The call of this name with these arguments, or the fault of the first bad one. Too few or too many are wrong arguments.
 #[tactic(auto, unfolding(crate::specs::Reading::call_with))]
 fn call_with(names: &Names, name: Call, tokens: &[&[u8]]) -> Result<Call, TextKind>
     ensures { result ≡ spec.call_with names.now name (map (λ t. t.now) tokens.now) }
@@ -46,6 +49,7 @@ fn call_with(names: &Names, name: Call, tokens: &[&[u8]]) -> Result<Call, TextKi
     with_values(name, values.as_slice()).ok_or(TextKind::WrongArguments)
 }
 
+/// The call of this name with the arguments in what follows the name. What has not their form is wrong arguments.
 #[tactic(auto, unfolding(crate::specs::Reading::call_after))]
 fn call_after(names: &Names, name: Call, rest: &[u8]) -> Result<Call, TextKind>
     ensures { result ≡ spec.call_after names.now name rest.now }

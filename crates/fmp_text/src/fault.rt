@@ -12,7 +12,7 @@ pub enum TextKind {
     BadByte,
     /// A word that is not the one that has to stand there.
     BadWord,
-    /// A name of no object.
+    /// A word that is neither a constant nor the name of an object.
     UnknownName,
     /// Arguments of another form, number or kind than the call has.
     WrongArguments,

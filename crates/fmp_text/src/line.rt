@@ -9,6 +9,7 @@ use fmp_bytes::{Class, all_of, are_digits, behind, is_zero_led, magnitude, skip,
 use fmp_codes::{Event, Proc};
 use fmp_names::Names;
 
+/// The processor of this number, where there is one and it is from 1 to `most`.
 #[tactic(auto, unfolding(crate::specs::Lines::in_processors))]
 fn in_processors(most: u8, number: Option<u64>) -> Option<Proc>
     requires { most ≤ 8 }
@@ -28,6 +29,7 @@ pub fn processor_numbered(names: &Names, digits: &[u8]) -> Option<Proc>
     in_processors(names.processors(), magnitude(10, digits))
 }
 
+/// The decimal digits behind `P`, where the word is `P` and one or more of them.
 #[tactic(auto, unfolding(crate::specs::Lines::digits_of))]
 fn digits_of(word: &[u8]) -> Option<&[u8]>
     ensures { option_copied result ≡ spec.digits_of word.now }
@@ -52,6 +54,7 @@ pub fn processor_in(names: &Names, word: &[u8]) -> Result<Proc, TextKind>
     processor_numbered(names, digits).ok_or(TextKind::NumberOutOfRange)
 }
 
+/// The event, where only blanks follow it. Anything else is wrong arguments.
 fn alone(event: Event, rest: &[u8]) -> Result<Event, TextKind>
     ensures { result ≡ spec.alone event rest.now }
 {
@@ -62,6 +65,7 @@ fn alone(event: Event, rest: &[u8]) -> Result<Event, TextKind>
     }
 }
 
+/// The event on this processor that a text with no blanks before it says: `tick`, `ipi` or a call.
 #[tactic(auto, unfolding(crate::specs::Lines::event_of))]
 fn event_of(names: &Names, processor: Proc, text: &[u8]) -> Result<Event, TextKind>
     ensures { result ≡ spec.event_of names.now processor text.now }
@@ -76,6 +80,7 @@ fn event_of(names: &Names, processor: Proc, text: &[u8]) -> Result<Event, TextKi
     Ok(Event::Call(processor, call_at(names, text)?))
 }
 
+/// The event of a line with no blanks before it: its processor, and behind blanks what happens there.
 #[tactic(auto, unfolding(crate::specs::Lines::event_at))]
 fn event_at(names: &Names, text: &[u8]) -> Result<Event, TextKind>
     ensures { result ≡ spec.event_at names.now text.now }
@@ -85,6 +90,7 @@ fn event_at(names: &Names, text: &[u8]) -> Result<Event, TextKind>
     event_of(names, processor, skip(Class::Blank, rest))
 }
 
+/// The event of a line that is not skipped, with blanks around. The fault of a byte that may not stand in a line comes first.
 #[tactic(auto, unfolding(crate::specs::Lines::event_in))]
 fn event_in(names: &Names, line: &[u8]) -> Result<Event, TextKind>
     ensures { result ≡ spec.event_in names.now line.now }

@@ -124,6 +124,9 @@ impl Differences {
         requires { item < 128 }
         ensures { IsTrue result → left_in self.now item ≡ left_in other.now item }
     {
+        if !self.stands(item) && !other.stands(item) {
+            return true;
+        }
         match (self.at(item), other.at(item)) {
             (Some((list, ticks)), Some((place, left))) => list == place && ticks == left,
             (None, None) => true,
@@ -155,6 +158,9 @@ impl Differences {
     /// Adds to a digest the ticks left of all items that stand in a list, whatever the order of those with equal ticks left.
     pub fn add_to(&self, digest: &mut Digest) {
         for item in 0..128usize {
+            if !self.stands(item) {
+                continue;
+            }
             if let Some(ticks) = self.left(item) {
                 digest.add(ticks << 7 ^ item as u64);
             }

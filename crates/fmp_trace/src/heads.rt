@@ -21,6 +21,7 @@ fn front_event(names: &Names, p: Proc, text: &[u8]) -> Option<Event>
     Some(Event::Call(p, call))
 }
 
+/// The event of a text that begins with a call on this processor, if it does. What follows the call is not looked at.
 #[tactic(auto, unfolding(crate::specs::Heads::called_event))]
 fn called_event(names: &Names, p: Proc, text: &[u8]) -> Option<Event>
     ensures { result ≡ spec.called_event names.now p text.now }
@@ -30,6 +31,7 @@ fn called_event(names: &Names, p: Proc, text: &[u8]) -> Option<Event>
     Some(Event::Call(p, call))
 }
 
+/// The event that a text begins with, by its first word: a tick, a request, or a call. Unlike `front_event`, its `None` says that there is none.
 #[tactic(auto, unfolding(crate::specs::Heads::event_at))]
 fn worded_event(names: &Names, p: Proc, text: &[u8]) -> Option<Event>
     ensures { result ≡ spec.event_at names.now p text.now }
@@ -48,6 +50,7 @@ fn worded_event(names: &Names, p: Proc, text: &[u8]) -> Option<Event>
     called_event(names, p, text)
 }
 
+/// The event that a text begins with on this processor, if any. The short way is tried first.
 fn event_at(names: &Names, p: Proc, text: &[u8]) -> Option<Event>
     ensures { result ≡ spec.event_at names.now p text.now }
 {
@@ -57,6 +60,7 @@ fn event_at(names: &Names, p: Proc, text: &[u8]) -> Option<Event>
     }
 }
 
+/// The event of a line behind its number, from the `P` of the processor on, if any. The word of the runner is passed over.
 #[tactic(auto, unfolding(crate::specs::Heads::event_on))]
 fn event_on(names: &Names, text: &[u8]) -> Option<Event>
     ensures { result ≡ spec.event_on names.now text.now }

@@ -92,6 +92,7 @@ pub fn put_answer(out: &mut Vec<u8>, answer: Answer) -> Result<(), AllocError>
     }
 }
 
+/// Adds the end of a wait behind a blank: the task, and the code with its value, if any.
 #[tactic(auto, unfolding(crate::specs::Lines::release_text))]
 fn put_release(out: &mut Vec<u8>, names: &Names, release: Release) -> Result<(), AllocError>
     ensures ok { OnOk result (out.new.items ≡ out.old.items ++ spec.release_text names.now release) }

@@ -77,6 +77,7 @@ fn put_object(
     put_named(out, names, kind, number as usize)
 }
 
+/// Adds how a wait for an eventflag ends: `TWF_ANDW` for all bits, `TWF_ORW` for one of them.
 fn put_mode(out: &mut Vec<u8>, mode: Mode) -> Result<(), AllocError>
     ensures ok { OnOk result (out.new.items ≡ out.old.items ++ spec.mode_text mode) }
     ensures full { OnErr result (vec_capacity out.old < length out.old.items + length (spec.mode_text mode)) }
@@ -111,6 +112,7 @@ fn put_value(
     }
 }
 
+/// Adds arguments with `, ` between them, each as its kind is printed.
 fn put_arguments(
     out: &mut Vec<u8>,
     names: &Names,

@@ -7,7 +7,14 @@ use Rattle.fmp_judging.specs.declared.fault.RunFault.{RunFault}
 use Rattle.fmp_judging.specs.declared.fault.RunFault.TheVariants as run
 use Rattle.fmp_judging.specs.Texts.{SaysConfig}
 use Rattle.fmp_judging.specs.Traces.{IsYes}
-use Rattle.fmp_view.specs.Runs.{Shown, IsBegunBy, IsShownBy, IsLate, LeavesBy, LeavesShown}
+use Rattle.fmp_view.specs.Runs.{Contrasted, IsContrastedBy, IsContrastOf, IsLate, IsPageOf, IsShownBy, Leaves, LeavesContrast, LeavesShown, Shown, Shows, ShowsDifferences}
+
+-- what is left of pages of one kind is so of those of a wider one
+wider : (P Q : List ℕ → Type 0) → ((page : List ℕ) → P page → Q page) → (old new : List ℕ) (fault : RunFault) → Leaves P old new fault → Leaves Q old new fault
+wider P Q goes old new run.Write begun = (begun.0, goes begun.0 begun.1, begun.2)
+wider P Q goes old new run.Memory (inl nothing) = inl nothing
+wider P Q goes old new run.Memory (inr begun) = inr (begun.0, goes begun.0 begun.1, begun.2)
+wider P Q goes old new _ nothing = nothing
 
 module _ (config_text trace_text old new text : List ℕ) (c : Setup) (says : SaysConfig config_text c) (same : text ≡ trace_text) where
   pub shown_of_texts : (verdict : Verdict) → Judges c text verdict → IsShownBy c text old new verdict → Shown config_text trace_text old new verdict
@@ -18,11 +25,19 @@ module _ (config_text trace_text old new text : List ℕ) (c : Setup) (says : Sa
     shown = subst (λ (t : List ℕ). IsShownBy c t old new verdict) same shown;
   }
 
-  pub leaves_of_texts : (fault : RunFault) → LeavesBy c text old new fault → LeavesShown config_text trace_text old new fault
-  leaves_of_texts run.Write begun = (c, says, subst (λ (t : List ℕ). IsBegunBy c t old new) same begun)
-  leaves_of_texts run.Memory (inl nothing) = inl nothing
-  leaves_of_texts run.Memory (inr begun) = inr (c, says, subst (λ (t : List ℕ). IsBegunBy c t old new) same begun)
-  leaves_of_texts _ nothing = nothing
+  pub contrasted_of_texts : (verdict : Verdict) → Judges c text verdict → IsContrastedBy c text old new → Contrasted config_text trace_text old new verdict
+  contrasted_of_texts verdict judges shown = record {
+    config = c;
+    says = says;
+    judges = subst (λ (t : List ℕ). Judges c t verdict) same judges;
+    shown = subst (λ (t : List ℕ). IsContrastedBy c t old new) same shown;
+  }
+
+  pub leaves_of_texts : (fault : RunFault) → Leaves (Shows c text) old new fault → LeavesShown config_text trace_text old new fault
+  leaves_of_texts = wider (Shows c text) (IsPageOf config_text trace_text) (λ page shows. (c, says, subst (λ (t : List ℕ). Shows c t page) same shows)) old new
+
+  pub contrast_of_texts : (fault : RunFault) → Leaves (ShowsDifferences c text) old new fault → LeavesContrast config_text trace_text old new fault
+  contrast_of_texts = wider (ShowsDifferences c text) (IsContrastOf config_text trace_text) (λ page shows. (c, says, subst (λ (t : List ℕ). ShowsDifferences c t page) same shows)) old new
 
 -- want of memory, or a write that failed, is no answer but yes
 pub late_is_yes : (fault : RunFault) → IsLate fault → IsYes (Err fault)

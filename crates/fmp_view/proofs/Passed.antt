@@ -1,19 +1,18 @@
 -- How a run ends whose sink passed on what it held back.
 use Rattle.std.proofs.Common.{◌≡◌, ◌⊎◌, ◌++◌, List, ℕ, Result, Ok, Err, IfErr, OnOk, OnErr, refl, inl, inr}
-use Rattle.fmp_setup.specs.Setup.{Setup}
 use Rattle.fmp_devices.specs.Devices.{BeginsWith}
 use Rattle.fmp_judging.specs.declared.fault.RunFault.{RunFault}
 use Rattle.fmp_judging.specs.declared.fault.RunFault.TheVariants as run
-use Rattle.fmp_view.specs.Runs.{Shows, IsLate, LeavesBy}
+use Rattle.fmp_view.specs.Runs.{IsLate, Leaves}
 use Rattle.fmp_view.proofs.SoFar.{all_begun}
 
 abbrev Ended : Type 0
 Ended = Result (Unit {0}) RunFault
 
-module _ (c : Setup) (text page old new : List ℕ) (shows : Shows c text page) where
-  late_leaves : (fault : RunFault) → IsLate fault → BeginsWith old page new → LeavesBy c text old new fault
-  late_leaves fault (inl memory) begun = rw memory (inr (page, shows, begun))
-  late_leaves fault (inr write) begun = rw write (page, shows, begun)
+module _ (IsPage : List ℕ → Type 0) (page old new : List ℕ) (is_page : IsPage page) where
+  late_leaves : (fault : RunFault) → IsLate fault → BeginsWith old page new → Leaves IsPage old new fault
+  late_leaves fault (inl memory) begun = rw memory (inr (page, is_page, begun))
+  late_leaves fault (inr write) begun = rw write (page, is_page, begun)
 
   whole_begun : (ended : Ended) → OnOk ended (new ≡ old ++ page) → OnErr ended (BeginsWith old page new) → BeginsWith old page new
   whole_begun (Ok done) all begun = all_begun old page new all
@@ -21,12 +20,17 @@ module _ (c : Setup) (text page old new : List ℕ) (shows : Shows c text page) 
 
   -- the run ended as the showing did, or the flush failed
   pub leaves_passed : (ended result : Ended) → (result ≡ ended) ⊎ (result ≡ Err run.Write) → OnOk ended (new ≡ old ++ page) → OnErr ended (BeginsWith old page new) → IfErr ended IsLate
-      → IfErr result (LeavesBy c text old new)
+      → IfErr result (Leaves IsPage old new)
   leaves_passed (Ok done) result (inl is) all begun late = rw is tt
   leaves_passed (Err fault) result (inl is) all begun late = rw is (late_leaves fault late begun)
-  leaves_passed ended result (inr is) all begun late = rw is (page, shows, whole_begun ended all begun)
+  leaves_passed ended result (inr is) all begun late = rw is (page, is_page, whole_begun ended all begun)
 
 -- a fault that came late is no fault of a text, and neither is a failed flush
 pub late_passed : (ended result : Ended) → (result ≡ ended) ⊎ (result ≡ Err run.Write) → IfErr ended IsLate → IfErr result IsLate
 late_passed ended result (inl is) late = rw is late
 late_passed ended result (inr is) late = rw is (inr refl)
+
+-- what holds where the showing went to its end holds where the run did
+pub ok_passed : (ended result : Ended) (X : Type 0) → (result ≡ ended) ⊎ (result ≡ Err run.Write) → OnOk ended X → OnOk result X
+ok_passed ended result X (inl is) done = rw is done
+ok_passed ended result X (inr is) done = rw is tt

@@ -1,11 +1,12 @@
--- No processor takes more ticks than there are events.
-use Rattle.std.proofs.Common.{ℕ, zero, suc, ◌+◌, ◌-◌, ◌≤◌, List, [], ◌∷◌, arith}
+-- No processor takes more ticks than there are events, and what is left of any count fits beside them.
+use Rattle.std.proofs.Common.{ℕ, zero, suc, ◌+◌, ◌-◌, ◌≤◌, ◌^◌, List, [], ◌∷◌, Option, None, Some, IfSome, arith}
 use Rattle.std.specs.Prelude.{slice_index_or, slice_set}
 use Rattle.fmp_codes.specs.declared.records.Answer.{Answer}
 use Rattle.fmp_codes.specs.declared.records.Answer.TheVariants as answers
 use Rattle.fmp_codes.specs.declared.records.Event.{Event}
 use Rattle.fmp_codes.specs.declared.records.Event.TheVariants as events
 use Rattle.fmp_machine.specs.World.{item}
+use Rattle.fmp_safety.specs.Safe.{TicksInRange}
 use Rattle.fmp_view.specs.Moments.{ticked}
 
 -- numbers that are at most n, with another one that is
@@ -25,3 +26,8 @@ ticked_within ticks (events.Tick p) answers.Taken n within k =
     let few : item 0 ticks p.number + 1 ≤ n + 1 = omega arith in
     set_within ticks (p.number - 1) (item 0 ticks p.number + 1) (n + 1) (more ticks n within) few k
 ticked_within ticks e a n within k = more ticks n within k
+
+-- the ticks left of a wait or a handler are few
+pub few_left : (left : Option ℕ) → TicksInRange left → IfSome left (λ n. n ≤ 2 ^ 31)
+few_left None range = tt
+few_left (Some n) range = let most : n ≤ 2147483648 = range.1 in omega arith

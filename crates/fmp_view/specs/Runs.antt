@@ -1,15 +1,17 @@
 -- What a run that shows a trace does.
-use Rattle.std.specs.Prelude.{◌≡◌, ◌⊎◌, ℕ, List, ◌++◌, map}
+use Rattle.std.specs.Prelude.{◌≡◌, ◌⊎◌, ℕ, List, [], ◌++◌, map}
 use Rattle.fmp_codes.specs.declared.records.Record.{Record}
 use Rattle.fmp_setup.specs.Setup.{Setup}
 use Rattle.fmp_check.specs.declared.checking.Verdict.{Verdict}
 use Rattle.fmp_check.specs.declared.checking.Verdict.TheVariants.{Yes, No}
 use Rattle.fmp_check.specs.Checking.{Judges, own_text}
+use Rattle.fmp_check.specs.Differences.{differences}
 use Rattle.fmp_trace.specs.Prints.{PrintsWithin}
 use Rattle.fmp_judging.specs.declared.fault.RunFault.{RunFault}
 use Rattle.fmp_judging.specs.declared.fault.RunFault.TheVariants as run
 use Rattle.fmp_devices.specs.Devices.{BeginsWith}
 use Rattle.fmp_judging.specs.Texts.{SaysConfig}
+use Rattle.fmp_view.specs.Given.{given_text}
 use Rattle.fmp_view.specs.Pages.{page_of}
 
 -- the text is what the machine answers to its own events, and this is their page
@@ -17,16 +19,22 @@ pub record Shows (c : Setup) (text page : List ℕ) : Type 0 where
   pub records : List Record
   pub prints : PrintsWithin c.names text records
   pub own : text ≡ own_text c records
-  pub shown : page ≡ page_of c text (map (λ r. r.event) records)
+  pub shown : page ≡ page_of c text [] (map (λ r. r.event) records)
+
+-- this is the page of what the machine answers to the text's events, beside the lines of the text that differ
+pub record ShowsDifferences (c : Setup) (text page : List ℕ) : Type 0 where
+  pub records : List Record
+  pub prints : PrintsWithin c.names text records
+  pub shown : page ≡ page_of c (own_text c records) (given_text (differences c records)) (map (λ r. r.event) records)
 
 -- the page was written after old, all of it; of a text that is not the machine's own nothing was
 abbrev pub IsShownBy : Setup → List ℕ → List ℕ → List ℕ → Verdict → Type 0
 IsShownBy c text old new Yes = (page : List ℕ) × Shows c text page × (new ≡ old ++ page)
 IsShownBy c text old new (No n) = new ≡ old
 
--- a beginning of the page was written after old
-abbrev pub IsBegunBy : Setup → List ℕ → List ℕ → List ℕ → Type 0
-IsBegunBy c text old new = (page : List ℕ) × Shows c text page × BeginsWith old page new
+-- the page with the lines that differ was
+abbrev pub IsContrastedBy : Setup → List ℕ → List ℕ → List ℕ → Type 0
+IsContrastedBy c text old new = (page : List ℕ) × ShowsDifferences c text page × (new ≡ old ++ page)
 
 -- the verdict on a trace, by the machine that a text says, and what was written after old with it
 pub record Shown (config_text trace_text old new : List ℕ) (verdict : Verdict) : Type 0 where
@@ -35,21 +43,38 @@ pub record Shown (config_text trace_text old new : List ℕ) (verdict : Verdict)
   pub judges : Judges config trace_text verdict
   pub shown : IsShownBy config trace_text old new verdict
 
--- the same of a beginning
-abbrev pub IsBegun : List ℕ → List ℕ → List ℕ → List ℕ → Type 0
-IsBegun config_text trace_text old new = (config : Setup) × SaysConfig config_text config × IsBegunBy config trace_text old new
+-- the same with the lines that differ
+pub record Contrasted (config_text trace_text old new : List ℕ) (verdict : Verdict) : Type 0 where
+  pub config : Setup
+  pub says : SaysConfig config_text config
+  pub judges : Judges config trace_text verdict
+  pub shown : IsContrastedBy config trace_text old new
 
--- what was written after old, where showing the text ends with this fault
-abbrev pub LeavesBy : Setup → List ℕ → List ℕ → List ℕ → RunFault → Type 0
-LeavesBy c text old new run.Write = IsBegunBy c text old new
-LeavesBy c text old new run.Memory = (new ≡ old) ⊎ IsBegunBy c text old new
-LeavesBy c text old new other = new ≡ old
+-- the page of a trace, by the machine that a text says
+abbrev pub IsPageOf : List ℕ → List ℕ → List ℕ → Type 0
+IsPageOf config_text trace_text page = (config : Setup) × SaysConfig config_text config × Shows config trace_text page
 
--- the same where a run ends with this fault
+-- the same with the lines that differ
+abbrev pub IsContrastOf : List ℕ → List ℕ → List ℕ → Type 0
+IsContrastOf config_text trace_text page = (config : Setup) × SaysConfig config_text config × ShowsDifferences config trace_text page
+
+-- a beginning of such a page was written after old
+abbrev pub IsBegun : (List ℕ → Type 0) → List ℕ → List ℕ → Type 0
+IsBegun IsPage old new = (page : List ℕ) × IsPage page × BeginsWith old page new
+
+-- what was written of such a page after old, where a run ends with this fault
+abbrev pub Leaves : (List ℕ → Type 0) → List ℕ → List ℕ → RunFault → Type 0
+Leaves IsPage old new run.Write = IsBegun IsPage old new
+Leaves IsPage old new run.Memory = (new ≡ old) ⊎ IsBegun IsPage old new
+Leaves IsPage old new other = new ≡ old
+
+-- of the page of a trace
 abbrev pub LeavesShown : List ℕ → List ℕ → List ℕ → List ℕ → RunFault → Type 0
-LeavesShown config_text trace_text old new run.Write = IsBegun config_text trace_text old new
-LeavesShown config_text trace_text old new run.Memory = (new ≡ old) ⊎ IsBegun config_text trace_text old new
-LeavesShown config_text trace_text old new other = new ≡ old
+LeavesShown config_text trace_text = Leaves (IsPageOf config_text trace_text)
+
+-- of that with the lines that differ
+abbrev pub LeavesContrast : List ℕ → List ℕ → List ℕ → List ℕ → RunFault → Type 0
+LeavesContrast config_text trace_text = Leaves (IsContrastOf config_text trace_text)
 
 -- memory ran out, or a write failed
 abbrev pub IsLate : RunFault → Type 0

@@ -1,5 +1,5 @@
 -- The texts of the values. Places count from 0, and numbers from 1.
-use Rattle.std.specs.Prelude.{ℕ, ◌+◌, Bool, true, false, not, ◌==◌, Option, None, Some, List, [], ◌∷◌, ◌++◌, length, take, count_by, if◌then◌else◌, codes, decimal, option_map}
+use Rattle.std.specs.Prelude.{ℕ, ◌+◌, Bool, true, false, not, ◌==◌, Option, None, Some, List, [], ◌∷◌, ◌++◌, length, take, count_by, if◌then◌else◌, codes, decimal}
 use Rattle.fmp_codes.specs.Numbers.{as_object, as_proc, as_task}
 use Rattle.fmp_codes.specs.declared.numbers.Object.{Object}
 use Rattle.fmp_codes.specs.declared.numbers.Pri.{Pri}
@@ -20,7 +20,8 @@ use Rattle.fmp_view.specs.declared.value.TaskState.{TaskState}
 use Rattle.fmp_view.specs.declared.value.TaskState.TheVariants.{Dormant, Ready, Running, Waiting, Suspended, WaitingSuspended}
 use Rattle.fmp_view.specs.declared.value.Value.{Value}
 use Rattle.fmp_view.specs.declared.value.Value.TheVariants as shown
-use Rattle.fmp_view.specs.Moments.{Moment, ticks_for}
+use Rattle.fmp_view.specs.Moments.{Moment}
+use Rattle.fmp_view.specs.Ticks.{started_text, until_of, until_text}
 
 -- the number of a task or of a processor, or 0
 abbrev pub task_number : Option Task → ℕ
@@ -92,11 +93,7 @@ wait_text (Some (waits.Send d value)) = object_wait (codes " sdtq ") d
 wait_text (Some (waits.Receive d)) = object_wait (codes " rdtq ") d
 wait_text (Some (waits.Pool m)) = object_wait (codes " mpf ") m
 
--- how many ticks there will have been when the wait is over, where it is timed
-abbrev pub until_text : Option ℕ → List ℕ
-until_text None = []
-until_text (Some ticks) = codes " @" ++ decimal ticks
-
+-- a task's state, what it waits for, and when that is over
 unfoldable pub state_text : TaskState → Option Wait → Option ℕ → List ℕ
 state_text state wait until = state_letter state ++ wait_text wait ++ until_text until
 
@@ -111,15 +108,11 @@ text_of (shown.Number n) = decimal n
 text_of (shown.Flags locked disabled latch) = flags_text locked disabled latch
 text_of (shown.State state wait until) = state_text state wait until
 text_of (shown.Rest p priority activations wakeups) = rest_text p priority activations wakeups
+text_of (shown.Started p until) = started_text p until
 
 -- how many blocks of a pool are free
 abbrev pub free_blocks : Pool → ℕ
 free_blocks x = count_by not (take x.setup.blocks x.handed)
-
--- the processor on which a handler is started, or 0
-abbrev pub started_on : Option ℕ → Proc → ℕ
-started_on None p = 0
-started_on (Some left) p = p.number
 
 abbrev pub flags_of : Processor → Value
 flags_of x = shown.Flags x.locked x.disabled x.latch
@@ -129,9 +122,11 @@ rest_of x = shown.Rest x.assigned x.priority x.activations x.wakeups
 
 module _ (m : Moment) where
   abbrev pub state_of : Task → TaskRecord → Value
-  state_of t x =
-      shown.State (task_state t x (processor m.state x.assigned).running) x.wait
-      (option_map (λ (left : ℕ). left + ticks_for m x.assigned) (item None m.state.waits_left t.number))
+  state_of t x = shown.State (task_state t x (processor m.state x.assigned).running) x.wait (until_of m x.assigned (item None m.state.waits_left t.number))
+
+  -- a handler that is assigned to a processor and has so many ticks left, if it is started
+  abbrev pub started_of : Proc → Option ℕ → Value
+  started_of p left = shown.Started p (until_of m p left)
 
   -- the text of the value at this place
   abbrev pub value_text : Signal → ℕ → List ℕ
@@ -145,6 +140,6 @@ module _ (m : Moment) where
   value_text signals.Eventflag i = decimal (eventflag m.state (as_object (i + 1))).pattern
   value_text signals.DataQueue i = decimal (length (values m.state (as_object (i + 1))))
   value_text signals.Pool i = decimal (free_blocks (pool m.state (as_object (i + 1))))
-  value_text signals.Cyclic i = decimal (started_on (item None m.state.cyclics_left (as_object (i + 1)).number) (cyclic m.state (as_object (i + 1))).assigned)
-  value_text signals.Alarm i = decimal (started_on (item None m.state.alarms_left (as_object (i + 1)).number) (alarm m.state (as_object (i + 1))).assigned)
+  value_text signals.Cyclic i = text_of (started_of (cyclic m.state (as_object (i + 1))).assigned (item None m.state.cyclics_left (as_object (i + 1)).number))
+  value_text signals.Alarm i = text_of (started_of (alarm m.state (as_object (i + 1))).assigned (item None m.state.alarms_left (as_object (i + 1)).number))
   value_text signals.SpinLock i = decimal (proc_number (holder m.state (as_object (i + 1))))

@@ -5,7 +5,7 @@ ghost use Rattle.fmp_safety.specs.Runs.{processor_of};
 ghost use Rattle.fmp_setup.specs.Valid.{IsValid};
 ghost use Rattle.fmp_view.specs.Moments as spec;
 
-use fmp_codes::{Answer, Event, Proc, Record, Task};
+use fmp_codes::{Answer, Event, Object, Proc, Record, Task};
 use fmp_machine::{Config, Timer};
 use fmp_plain::Plain;
 use fmp_plain_machine::PlainMachine;
@@ -106,5 +106,21 @@ impl Player {
         ensures few { IfSome result (λ left. left ≤ 2 ^ 31) }
     {
         self.plain.machine().wait_left(t)
+    }
+
+    /// The ticks left of a cyclic handler, if it is started.
+    pub(crate) fn cyclic_left(&self, c: Object) -> Option<u64>
+        ensures value { result ≡ item None self.now.state.cyclics_left c.number }
+        ensures few { IfSome result (λ left. left ≤ 2 ^ 31) }
+    {
+        self.plain.machine().cyclic_left(c)
+    }
+
+    /// The ticks left of an alarm, if it is started.
+    pub(crate) fn alarm_left(&self, a: Object) -> Option<u64>
+        ensures value { result ≡ item None self.now.state.alarms_left a.number }
+        ensures few { IfSome result (λ left. left ≤ 2 ^ 31) }
+    {
+        self.plain.machine().alarm_left(a)
     }
 }

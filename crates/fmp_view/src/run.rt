@@ -8,7 +8,7 @@ ghost use Rattle.fmp_judging.specs.Traces.{FirstTraceFault, IsOwn, IsYes};
 ghost use Rattle.fmp_devices.specs.Devices.{BeginsWith, IsKnown, bytes_of};
 ghost use Rattle.fmp_judging.specs.Faults.{failed_write, is_thread_fault};
 ghost use Rattle.fmp_judging.specs.Texts.{Answered, CountsReads, FirstConfigFault};
-ghost use Rattle.fmp_view.specs.Runs.{IsLate, IsShownBy, LeavesBy, LeavesShown, Shown};
+ghost use Rattle.fmp_view.specs.Runs.{IsLate, IsShownBy, Leaves, LeavesShown, Shown, Shows};
 ghost use Rattle.fmp_view.specs.Pages.{page_of};
 
 use crate::showing::Showing;
@@ -20,22 +20,29 @@ use fmp_text::{TextFault, TextKind};
 use fmp_trace::{event_of, next_line};
 use std::alloc::Global;
 
-/// Shows the events of a text that is the machine's own.
-fn show<W: Sink>(alloc: Global, config: &Config, text: &[u8], page: &mut W) -> Result<(), RunFault>
+/// Shows the events of a text over a trace of them, beside the lines that were given where it has others.
+pub(crate) fn show<W: Sink>(
+    alloc: Global,
+    config: &Config,
+    text: &[u8],
+    trace: &[u8],
+    given: &[u8],
+    page: &mut W,
+) -> Result<(), RunFault>
     requires calls { W.failures page.old < 2 ^ 64 - 1 }
     requires short { length text.now ≤ MOST_BYTES }
     ensures known { IsKnown (W.written page.old) → IsKnown (W.written page.new) }
     ensures shown { IsKnown (W.written page.old) → (records : List AnyRecord) → PrintsWithin config.now.names text.now records
-        → OnOk result (bytes_of (W.written page.new) ≡ bytes_of (W.written page.old) ++ page_of config.now text.now (map (λ r. r.event) records)) }
+        → OnOk result (bytes_of (W.written page.new) ≡ bytes_of (W.written page.old) ++ page_of config.now trace.now given.now (map (λ r. r.event) records)) }
     ensures begun { IsKnown (W.written page.old) → (records : List AnyRecord) → PrintsWithin config.now.names text.now records
-        → OnErr result (BeginsWith (bytes_of (W.written page.old)) (page_of config.now text.now (map (λ r. r.event) records)) (bytes_of (W.written page.new))) }
+        → OnErr result (BeginsWith (bytes_of (W.written page.old)) (page_of config.now trace.now given.now (map (λ r. r.event) records)) (bytes_of (W.written page.new))) }
     ensures kinds { (records : List AnyRecord) → PrintsWithin config.now.names text.now records → IfErr result IsLate }
     ensures no_thread_fault { IfErr result (λ fault. is_thread_fault fault ≡ false) }
     ensures writes { W.failures page.new ≡ W.failures page.old + (if failed_write result then 1 else 0) }
 {
     let names = config.names();
     names.validity();
-    let mut showing = Showing::new(alloc, config, text)?;
+    let mut showing = Showing::new(alloc, config, trace, given)?;
     write_all(page, showing.piece())?;
     let mut number: u32 = 1;
     let mut rest = text;
@@ -64,7 +71,7 @@ fn show_judged<W: Sink>(alloc: Global, judged: &Judged, page: &mut W) -> Result<
     ensures shown { IsKnown (W.written page.old) → OnOk result (IsShownBy judged.now.config judged.now.text.items (bytes_of (W.written page.old)) (bytes_of (W.written page.new)) judged.now.verdict) }
     ensures passed { OnOk result (judged.now.verdict ≡ Verdict.Yes → W.buffered page.new ≡ []) }
     ensures none_held { W.buffered page.old ≡ [] → result ≢ Err RunFault.Write → W.buffered page.new ≡ [] }
-    ensures leaves { IsKnown (W.written page.old) → IfErr result (LeavesBy judged.now.config judged.now.text.items (bytes_of (W.written page.old)) (bytes_of (W.written page.new))) }
+    ensures leaves { IsKnown (W.written page.old) → IfErr result (Leaves (Shows judged.now.config judged.now.text.items) (bytes_of (W.written page.old)) (bytes_of (W.written page.new))) }
     ensures kinds { IfErr result IsLate }
     ensures no_thread_fault { IfErr result (λ fault. is_thread_fault fault ≡ false) }
     ensures writes { W.failures page.new ≡ W.failures page.old + (if failed_write result then 1 else 0) }
@@ -72,7 +79,8 @@ fn show_judged<W: Sink>(alloc: Global, judged: &Judged, page: &mut W) -> Result<
     match judged.verdict {
         Verdict::No(_) => Ok(()),
         Verdict::Yes => {
-            let shown = show(alloc, &judged.config, judged.text.as_slice(), page);
+            let text = judged.text.as_slice();
+            let shown = show(alloc, &judged.config, text, text, b"", page);
             pass_on(shown, page)
         }
     }

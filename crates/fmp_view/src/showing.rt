@@ -28,12 +28,19 @@ fn put_part(out: &mut Vec<u8>, name: &[u8], text: &[u8]) -> Result<(), AllocErro
 
 /// Adds what stands before the first event, where these are the values at boot.
 #[tactic(auto, unfolding(crate::specs::Pages::start_text))]
-fn put_start(out: &mut Vec<u8>, setup: &[u8], trace: &[u8], values: &[u8]) -> Result<(), AllocError>
-    ensures { OnOk result (out.new.items ≡ out.old.items ++ spec.start_text setup.now trace.now values.now) }
+fn put_start(
+    out: &mut Vec<u8>,
+    setup: &[u8],
+    trace: &[u8],
+    given: &[u8],
+    values: &[u8],
+) -> Result<(), AllocError>
+    ensures { OnOk result (out.new.items ≡ out.old.items ++ spec.start_text setup.now trace.now given.now values.now) }
 {
     put_head(out)?;
     put_part(out, b"setup", setup)?;
     put_part(out, b"trace", trace)?;
+    put_part(out, b"given", given)?;
     put_text_begin(out, b"changes")?;
     put_escaped(out, values)
 }
@@ -87,13 +94,18 @@ pub(crate) struct Showing {
 }
 
 impl Showing {
-    /// Both machines at boot. The piece is what stands before the first event.
-    pub(crate) fn new(alloc: Global, config: &Config, trace: &[u8]) -> Result<Showing, AllocError>
+    /// Both machines at boot. The piece is what stands before the first event: this trace, and what was given where it differs.
+    pub(crate) fn new(
+        alloc: Global,
+        config: &Config,
+        trace: &[u8],
+        given: &[u8],
+    ) -> Result<Showing, AllocError>
         ensures before { IfOk result (λ s. s.before ≡ at_boot config.now) }
         ensures after { IfOk result (λ s. s.after ≡ at_boot config.now) }
         ensures processors { IfOk result (λ s. length s.before.state.processors ≡ config.now.processors) }
         ensures valid { IfOk result (λ s. IsValid config.now) }
-        ensures piece { IfOk result (λ s. s.piece.items ≡ spec.start_of config.now trace.now) }
+        ensures piece { IfOk result (λ s. s.piece.items ≡ spec.start_of config.now trace.now given.now) }
     {
         let before = Player::boot(config)?;
         let after = Player::boot(config)?;
@@ -103,7 +115,7 @@ impl Showing {
         let mut raw = Vec::new(alloc);
         put_values(&mut raw, &mut texts, config, &before)?;
         let mut piece = Vec::new(alloc);
-        put_start(&mut piece, setup.as_slice(), trace, raw.as_slice())?;
+        put_start(&mut piece, setup.as_slice(), trace, given, raw.as_slice())?;
         Ok(Showing {
             before,
             after,

@@ -1,14 +1,15 @@
-//! The states of the tasks.
-ghost use Rattle.std.specs.Prelude.{◌≡◌, ◌+◌, option_map};
+//! The states of the tasks and of the time event handlers.
+ghost use Rattle.std.specs.Prelude.{◌≡◌, ◌≤◌, ◌^◌, None, IfSome};
+ghost use Rattle.fmp_machine.specs.Objects.{alarm, cyclic};
 ghost use Rattle.fmp_machine.specs.World.{item, task};
-ghost use Rattle.fmp_view.specs.Moments.{ticks_for};
+ghost use Rattle.fmp_view.specs.Ticks.{until_of};
 ghost use Rattle.fmp_view.specs.Values as spec;
 
 use crate::player::Player;
 use crate::value::{TaskState, Value};
-use fmp_codes::{Proc, Task};
+use fmp_codes::{Object, Proc, Task};
 use fmp_machine::TaskRecord;
-use fmp_primitives::Words;
+use fmp_primitives::{Objects, Words};
 
 /// The state of a task that could run: it does, or it is ready.
 fn ready_state(t: Task, running: Option<Task>) -> TaskState
@@ -40,12 +41,13 @@ fn task_state(t: Task, task: &TaskRecord, running: Option<Task>) -> TaskState
 }
 
 impl Player {
-    /// How many ticks there will have been for a task of this processor when its wait is over, if it is timed.
+    /// How many ticks there will have been for what is assigned to a processor, when so many more are over.
     #[inline(always)]
-    fn wait_until(&self, t: Task, p: Proc) -> Option<u64>
-        ensures { result ≡ option_map (λ left. left + ticks_for self.now p) (item None self.now.state.waits_left t.number) }
+    fn until(&self, p: Proc, left: Option<u64>) -> Option<u64>
+        requires { IfSome left (λ n. n ≤ 2 ^ 31) }
+        ensures { result ≡ until_of self.now p left }
     {
-        match self.wait_left(t) {
+        match left {
             None => None,
             Some(left) => Some(left + self.ticks_for(p)),
         }
@@ -61,7 +63,7 @@ impl Player {
         Value::State(
             task_state(t, &task, running),
             task.wait,
-            self.wait_until(t, task.assigned),
+            self.until(task.assigned, self.wait_left(t)),
         )
     }
 
@@ -72,5 +74,23 @@ impl Player {
     {
         let task = self.machine().task(t);
         Value::Rest(task.assigned, task.priority, task.activations, task.wakeups)
+    }
+
+    /// Where a cyclic handler is started, and when it is due.
+    #[inline(always)]
+    pub(crate) fn cyclic_value(&self, c: Object) -> Value
+        ensures { result ≡ spec.started_of self.now (cyclic self.now.state c).assigned (item None self.now.state.cyclics_left c.number) }
+    {
+        let p = self.machine().cyclic(c).assigned;
+        Value::Started(p, self.until(p, self.cyclic_left(c)))
+    }
+
+    /// Where an alarm is started, and when it is due.
+    #[inline(always)]
+    pub(crate) fn alarm_value(&self, a: Object) -> Value
+        ensures { result ≡ spec.started_of self.now (alarm self.now.state a).assigned (item None self.now.state.alarms_left a.number) }
+    {
+        let p = self.machine().alarm(a).assigned;
+        Value::Started(p, self.until(p, self.alarm_left(a)))
     }
 }

@@ -1,5 +1,6 @@
 //! The values that are told, and their texts.
 ghost use Rattle.std.specs.Prelude.{◌≡◌, ◌++◌, ◌∷◌, [], decimal, IsTrue, OnOk};
+ghost use Rattle.fmp_view.specs.Ticks as ticks;
 ghost use Rattle.fmp_view.specs.Values as spec;
 
 use fmp_codes::{Object, Pri, Proc, Runner};
@@ -28,6 +29,8 @@ pub enum Value {
     State(TaskState, Option<Wait>, Option<u64>),
     /// A task's processor and priority, the queued activations and the queued wakeups.
     Rest(Proc, Pri, u8, u16),
+    /// The processor of a time event handler, and how many ticks there will have been when it is due, if it is started.
+    Started(Proc, Option<u64>),
 }
 
 /// Whether two states have the same letter.
@@ -65,10 +68,10 @@ fn is_for_same(one: Option<Wait>, two: Option<Wait>) -> bool
     }
 }
 
-/// Whether two waits are over at the same count of ticks, or neither ever.
+/// Whether two are over at the same count of ticks, or neither ever.
 #[inline(always)]
 fn is_till_same(one: Option<u64>, two: Option<u64>) -> bool
-    ensures { IsTrue result → spec.until_text one ≡ spec.until_text two }
+    ensures { IsTrue result → one ≡ two }
 {
     match (one, two) {
         (None, None) => true,
@@ -79,7 +82,7 @@ fn is_till_same(one: Option<u64>, two: Option<u64>) -> bool
 
 impl Value {
     /// Whether another value has the same text.
-    #[tactic(auto, unfolding(crate::specs::Values::state_text, crate::specs::Values::rest_text))]
+    #[tactic(auto, unfolding(crate::specs::Values::state_text, crate::specs::Values::rest_text, crate::specs::Ticks::started_text))]
     #[inline(always)]
     pub(crate) fn has_text_of(self, other: Value) -> bool
         ensures { IsTrue result → spec.text_of self ≡ spec.text_of other }
@@ -92,6 +95,9 @@ impl Value {
             }
             (Value::Rest(a, b, c, d), Value::Rest(e, f, g, h)) => {
                 a.number == e.number && b.number == f.number && c == g && d == h
+            }
+            (Value::Started(a, b), Value::Started(c, d)) => {
+                a.number == c.number && is_till_same(b, d)
             }
             _ => false,
         }
@@ -203,9 +209,9 @@ fn put_wait(out: &mut Vec<u8>, wait: Option<Wait>) -> Result<(), AllocError>
     }
 }
 
-/// Adds how many ticks there will have been when a wait is over, if it is timed.
+/// Adds how many ticks there will have been when something is over, if it is timed.
 fn put_until(out: &mut Vec<u8>, until: Option<u64>) -> Result<(), AllocError>
-    ensures { OnOk result (out.new.items ≡ out.old.items ++ spec.until_text until) }
+    ensures { OnOk result (out.new.items ≡ out.old.items ++ ticks.until_text until) }
 {
     match until {
         None => Ok(()),
@@ -251,6 +257,25 @@ fn put_rest(
     put_number(out, u64::from(wakeups))
 }
 
+/// The processor on which a handler is started, or 0.
+fn started_on(p: Proc, until: Option<u64>) -> u64
+    ensures { result ≡ ticks.started_on p until }
+{
+    match until {
+        None => 0,
+        Some(_) => u64::from(p.number),
+    }
+}
+
+/// Adds where a handler is started, and how many ticks there will have been when it is due.
+#[tactic(auto, unfolding(crate::specs::Ticks::started_text))]
+fn put_started(out: &mut Vec<u8>, p: Proc, until: Option<u64>) -> Result<(), AllocError>
+    ensures { OnOk result (out.new.items ≡ out.old.items ++ ticks.started_text p until) }
+{
+    put_number(out, started_on(p, until))?;
+    put_until(out, until)
+}
+
 /// Adds the text of a value.
 pub(crate) fn put_value(out: &mut Vec<u8>, value: Value) -> Result<(), AllocError>
     ensures { OnOk result (out.new.items ≡ out.old.items ++ spec.text_of value) }
@@ -262,5 +287,6 @@ pub(crate) fn put_value(out: &mut Vec<u8>, value: Value) -> Result<(), AllocErro
         Value::Rest(p, priority, activations, wakeups) => {
             put_rest(out, p, priority, activations, wakeups)
         }
+        Value::Started(p, until) => put_started(out, p, until),
     }
 }

@@ -1,7 +1,7 @@
 //! The value of each signal.
 ghost use Rattle.std.specs.Prelude.{◌≡◌, ◌++◌, ◌+◌, ◌<◌, length, IsTrue, MatchOption, OnOk};
-ghost use Rattle.fmp_machine.specs.Objects.{alarm, cyclic, eventflag, holder, pool, semaphore, values};
-ghost use Rattle.fmp_machine.specs.World.{item, processor};
+ghost use Rattle.fmp_machine.specs.Objects.{eventflag, holder, pool, semaphore, values};
+ghost use Rattle.fmp_machine.specs.World.{processor};
 ghost use Rattle.fmp_view.specs.Signals as signals;
 ghost use Rattle.fmp_view.specs.Values as spec;
 
@@ -31,16 +31,6 @@ fn proc_number(p: Option<Proc>) -> u64
     match p {
         None => 0,
         Some(p) => u64::from(p.number),
-    }
-}
-
-/// The processor on which a handler is started that has so many ticks left, or 0.
-fn started_on(left: Option<u64>, p: Proc) -> u64
-    ensures { result ≡ spec.started_on left p }
-{
-    match left {
-        None => 0,
-        Some(_) => u64::from(p.number),
     }
 }
 
@@ -104,22 +94,6 @@ fn pool_number(machine: &PlainMachine, m: Object) -> u64
     free_blocks(&machine.pool(m))
 }
 
-/// The number of the processor on which a cyclic handler is started, or 0.
-#[inline(always)]
-fn cyclic_number(machine: &PlainMachine, c: Object) -> u64
-    ensures { result ≡ (spec.started_on (item None machine.now.cyclics_left c.number) (cyclic machine.now c).assigned) }
-{
-    started_on(machine.cyclic_left(c), machine.cyclic(c).assigned)
-}
-
-/// The number of the processor on which an alarm is started, or 0.
-#[inline(always)]
-fn alarm_number(machine: &PlainMachine, a: Object) -> u64
-    ensures { result ≡ (spec.started_on (item None machine.now.alarms_left a.number) (alarm machine.now a).assigned) }
-{
-    started_on(machine.alarm_left(a), machine.alarm(a).assigned)
-}
-
 /// The number of the processor that holds a spin lock, or 0.
 #[inline(always)]
 fn spin_lock_number(machine: &PlainMachine, l: Object) -> u64
@@ -155,15 +129,15 @@ impl Player {
                 Object::from_index(index),
             )),
             Signal::Pool => Value::Number(pool_number(machine, Object::from_index(index))),
-            Signal::Cyclic => Value::Number(cyclic_number(machine, Object::from_index(index))),
-            Signal::Alarm => Value::Number(alarm_number(machine, Object::from_index(index))),
+            Signal::Cyclic => self.cyclic_value(Object::from_index(index)),
+            Signal::Alarm => self.alarm_value(Object::from_index(index)),
             Signal::SpinLock => Value::Number(spin_lock_number(machine, Object::from_index(index))),
         })
     }
 
-    /// Whether the objects of a signal at a place have the same number.
+    /// Whether the objects of a signal at a place have the same value.
     #[inline(always)]
-    fn has_number_of(&self, other: &Player, signal: Signal, index: usize) -> bool
+    fn has_object_of(&self, other: &Player, signal: Signal, index: usize) -> bool
         requires { index < signals.most signal }
         ensures { IsTrue result → spec.value_text self.now signal index ≡ spec.value_text other.now signal index }
     {
@@ -178,8 +152,8 @@ impl Player {
             Signal::Eventflag => eventflag_number(one, o) == eventflag_number(two, o),
             Signal::DataQueue => data_queue_number(one, o) == data_queue_number(two, o),
             Signal::Pool => pool_number(one, o) == pool_number(two, o),
-            Signal::Cyclic => cyclic_number(one, o) == cyclic_number(two, o),
-            Signal::Alarm => alarm_number(one, o) == alarm_number(two, o),
+            Signal::Cyclic => self.cyclic_value(o).has_text_of(other.cyclic_value(o)),
+            Signal::Alarm => self.alarm_value(o).has_text_of(other.alarm_value(o)),
             Signal::SpinLock => spin_lock_number(one, o) == spin_lock_number(two, o),
             _ => false,
         }
@@ -215,7 +189,7 @@ impl Player {
                 let t = Task::from_index(index);
                 self.rest_value(t).has_text_of(other.rest_value(t))
             }
-            _ => self.has_number_of(other, signal, index),
+            _ => self.has_object_of(other, signal, index),
         }
     }
 

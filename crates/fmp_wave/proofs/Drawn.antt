@@ -21,7 +21,7 @@ unfolding watched_by
 watched-nil names w n d = refl
 
 watched-cons : (names : NameLists) (w : State) (n : ℕ) (e : Event) (es : List Event) (d : Picture)
-    → watched_by behind names w n (e ∷ es) d ≡ watched_by behind names (step numbered w e).0 (n + 1) es (behind d names n e (step numbered w e).0)
+    → watched_by behind names w n (e ∷ es) d ≡ watched_by behind names (step numbered w e).0 (n + 1) es (behind d names n (step numbered w e).1 (step numbered w e).0)
 unfolding watched_by
 watched-cons names w n e es d = refl
 
@@ -30,7 +30,7 @@ unfolding events_text
 events-nil names n w = refl
 
 events-cons : (names : NameLists) (n : ℕ) (w : State) (e : Event) (es : List Event) → events_text names n w (e ∷ es)
-    ≡ change_text names n e (shown_of w) (shown_of (step numbered w e).0) ++ events_text names (n + 1) (step numbered w e).0 es
+    ≡ change_text names n (step numbered w e).1 (shown_of w) (shown_of (step numbered w e).0) ++ events_text names (n + 1) (step numbered w e).0 es
 unfolding events_text
 events-cons names n w e es = refl
 
@@ -40,10 +40,11 @@ drawn_events names w n [] d shown =
     ap (λ (x : Picture). x.wave) (watched-nil names w n d) ∙ sym (ap (λ (xs : List ℕ). d.wave ++ xs) (events-nil names n w) ∙ append-nil d.wave)
 drawn_events names w n (e ∷ es) d shown =
     let after = (step numbered w e).0 in
-    let change : List ℕ = change_text names n e (shown_of w) (shown_of after) in
+    let told = (step numbered w e).1 in
+    let change : List ℕ = change_text names n told (shown_of w) (shown_of after) in
     ap (λ (x : Picture). x.wave) (watched-cons names w n e es d)
-    ∙ drawn_events names after (n + 1) es (behind d names n e after) refl
-    ∙ ap (λ (s : _). (d.wave ++ change_text names n e s (shown_of after)) ++ events_text names (n + 1) after es) shown
+    ∙ drawn_events names after (n + 1) es (behind d names n told after) refl
+    ∙ ap (λ (s : _). (d.wave ++ change_text names n told s (shown_of after)) ++ events_text names (n + 1) after es) shown
     ∙ append_assoc d.wave change (events_text names (n + 1) after es)
     ∙ ap (λ (xs : List ℕ). d.wave ++ xs) (sym (events-cons names n w e es))
 

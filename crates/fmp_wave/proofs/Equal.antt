@@ -7,7 +7,7 @@ use Rattle.fmp_codes.specs.declared.records.Runner.{Runner}
 use Rattle.fmp_codes.specs.declared.records.Runner.TheVariants as runner
 use Rattle.fmp_safety.proofs.Items.{object_same, task_same}
 use Rattle.fmp_wave.specs.declared.snapshot.ShownProcessor.{ShownProcessor}
-use Rattle.fmp_wave.specs.Values.{number_of}
+use Rattle.fmp_wave.specs.Shown.{Shown, number_of}
 
 by_number : (a b : Option Task) → number_of a ≡ number_of b → a ≡ b
 by_number None None e = refl
@@ -31,3 +31,7 @@ pub same_shown_processor : (x y : ShownProcessor) → x.running ≡ y.running �
 same_shown_processor x y running locked disabled latch due =
     let made : Option Task → Bool → Bool → Bool → Option Runner → ShownProcessor = λ o a b c h. record { running = o; locked = a; disabled = b; latch = c; due = h } in
     rw (running, locked, disabled, latch, due) refl
+
+pub same_shown : (x y : Shown) → x.processors ≡ y.processors → x.tasks ≡ y.tasks → x.waits ≡ y.waits
+    → x.semaphores ≡ y.semaphores → x.eventflags ≡ y.eventflags → x.data_queues ≡ y.data_queues → x.pools ≡ y.pools → x ≡ y
+same_shown x y processors tasks waits semaphores eventflags data_queues pools = rw (processors, tasks, waits, semaphores, eventflags, data_queues, pools) refl

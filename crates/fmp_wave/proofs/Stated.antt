@@ -1,10 +1,10 @@
 -- The states of tasks, found by how the tasks stand and where they are, are those that are shown.
-use Rattle.std.proofs.Common.{◌≡◌, ℕ, [], ◌∷◌, ◌++◌, ◌+◌, ◌-◌, ◌<◌, ◌≤◌, Bool, true, false, ltb, inl, inr, List, length, map, Option, None, Some, refl, sym, ap, ap₂, ◌∙◌, arith, get_or, take}
+use Rattle.std.proofs.Common.{◌≡◌, ℕ, ◌-◌, ◌≤◌, Bool, true, false, ltb, inl, inr, List, length, map, Option, None, Some, refl, sym, ap, ap₂, ◌∙◌, arith, get_or}
 use Rattle.std.specs.Prelude.{if◌then◌else◌}
 use Rattle.std.specs.List.{range_with_len}
 use Rattle.std.proofs.Math.Path.{fun_ext}
 use Rattle.std.proofs.lemmas.Bool.{cases_Bool, ltb-true, ltb-false, ne_eqb}
-use Rattle.std.proofs.lemmas.List.{get_or_past, length-map, take_more}
+use Rattle.std.proofs.lemmas.List.{get_or_past, length-map}
 use Rattle.std.proofs.lemmas.List.FromFn.{get_or-map-range_with_len, length-map-range_with_len}
 use Rattle.fmp_codes.specs.Numbers.{as_proc, as_task, within}
 use Rattle.fmp_codes.specs.declared.numbers.Proc.{Proc}
@@ -21,9 +21,8 @@ use Rattle.fmp_plain_machine.specs.Signs.{active_kind, kind_of, place_of}
 use Rattle.fmp_wave.specs.declared.snapshot.ShownProcessor.{ShownProcessor}
 use Rattle.fmp_wave.specs.declared.snapshot.TaskState.{TaskState}
 use Rattle.fmp_wave.specs.declared.snapshot.TaskState.TheVariants.{Dormant}
-use Rattle.fmp_wave.specs.Shown.{Shown, active_state, nothing_shown, shown_of, shown_processor, shown_task}
+use Rattle.fmp_wave.specs.Shown.{active_state, nothing_shown, shown_of, shown_processor, shown_task}
 use Rattle.fmp_wave.specs.Signs.{runs_at, state_at, states_at, told_state}
-use Rattle.fmp_wave.proofs.Alike.{one_more}
 
 -- how a task stands tells its state
 told_by : (t : Task) (running : Option Task) (active : Bool) (x : Option Wait) (suspended : Bool)
@@ -122,16 +121,7 @@ same_states ps qs kinds kinds' places places' kind place running =
     λ runs ks ls. map (λ n. told_state (item 0 ks (as_task n).number) (as_task n) (runs (item 1 ls (as_task n).number))) (range_with_len 1 (length ks)) in
     ap (λ (runs : ℕ → Option Task). found runs kinds places) same ∙ ap₂ (found (runs_at qs)) kind place
 
--- what shows of these tasks and processors
-pub shown_again : (w : State) (ps : List ShownProcessor) (kinds places : List ℕ) → kinds ≡ map kind_of w.tasks → places ≡ map place_of w.tasks
-    → ps ≡ (shown_of w).processors → record { processors = ps; tasks = states_at ps kinds places } ≡ shown_of w
-shown_again w ps kinds places kind place processors =
-    let made : List TaskState → Shown = λ states. record { processors = (shown_of w).processors; tasks = states } in
-    rw (processors, kind, place) (ap made (shown_states w))
-
--- one processor more that is shown so
-pub one_more_shown : (w : State) (ps : List ShownProcessor) (n : ℕ) (x : ShownProcessor) → n < length ps → x ≡ get_or ps n x → x ≡ shown_processor w (as_proc (n + 1))
-    → take n ps ≡ map (λ i. shown_processor w (as_proc i)) (range_with_len 1 n) → take (n + 1) ps ≡ map (λ i. shown_processor w (as_proc i)) (range_with_len 1 (n + 1))
-one_more_shown w ps n x inside here shown so_far =
-    one_more (λ i. shown_processor w (as_proc i)) n x (take n ps) (take (n + 1) ps) so_far shown
-    (take_more ps n x inside ∙ ap (λ (y : ShownProcessor). take n ps ++ (y ∷ [])) (sym here))
+-- the states of the tasks that stand so, on these processors
+pub states_again : (w : State) (ps : List ShownProcessor) (kinds places : List ℕ) → kinds ≡ map kind_of w.tasks → places ≡ map place_of w.tasks
+    → ps ≡ (shown_of w).processors → states_at ps kinds places ≡ (shown_of w).tasks
+states_again w ps kinds places kind place processors = rw (processors, kind, place) (shown_states w)

@@ -1,19 +1,25 @@
-//! What is told of one event: its time, its tick, and the values that it changed.
-ghost use Rattle.std.specs.Prelude.{◌≡◌, ◌++◌, length, not, IfOk, OnOk};
+//! What is told of one event: its time, its tick, the event itself with its answer, and the values that it changed.
+ghost use Rattle.std.specs.Prelude.{◌≡◌, ◌+◌, ◌<◌, ◌++◌, length, not, IfOk, OnOk};
 ghost use Rattle.std.specs.Str.{bytes_eq};
 ghost use Rattle.fmp_trace.specs.Lines.{runner_text, running_text};
 ghost use Rattle.fmp_wave.specs.Changes as spec;
+ghost use Rattle.fmp_wave.specs.Listing.{each};
 ghost use Rattle.fmp_wave.specs.Shown.{state_of};
+ghost use Rattle.fmp_wave.specs.Values.{wait_text};
 ghost use Rattle.fmp_wave.specs.Waves as waves;
 
+use crate::resource::{Resource, signal_of};
 use crate::signal::Signal;
-use crate::snapshot::{ShownProcessor, Snapshot, TaskState, number_of};
+use crate::snapshot::{ShownProcessor, Snapshot, TaskState};
 use crate::values::{
-    put_bit_value, put_due_value, put_number_value, put_running_value, put_state_value, state_word,
+    put_bit_value, put_due_value, put_number_value, put_running_value, put_state_value,
+    put_value_end, put_wait, put_wait_value, state_word,
 };
-use fmp_codes::{Event, Proc, Runner, Task};
+use fmp_codes::{Event, Object, Proc, Record, Runner, Task};
+use fmp_machine::Wait;
 use fmp_names::Names;
-use fmp_trace::{put_number, put_runner, put_running};
+use fmp_same::Same;
+use fmp_trace::{put_answer, put_event, put_number, put_runner, put_running};
 use std::alloc::{AllocError, Global};
 
 /// Adds the time of event n.
@@ -37,8 +43,20 @@ pub(crate) fn put_mark(out: &mut Vec<u8>, event: Event) -> Result<(), AllocError
     }
 }
 
-/// The texts of the old and the new value of a signal, to be compared: two names may be one word. They keep their room, so that
-/// an event takes none.
+/// Adds a text without its blanks.
+fn put_joined(out: &mut Vec<u8>, text: &[u8]) -> Result<(), AllocError>
+    ensures { OnOk result (out.new.items ≡ out.old.items ++ waves.joined text.now) }
+{
+    for byte in text {
+        if *byte != b' ' {
+            out.push(*byte)?;
+        }
+    }
+    Ok(())
+}
+
+/// The texts of the old and the new value of a signal, to be compared: two names may be one word. An event takes the new one for its own.
+/// They keep their room, so that an event takes none.
 #[derive(Drop)]
 pub(crate) struct Texts {
     old: Vec<u8>,
@@ -70,6 +88,22 @@ impl Texts {
         Ok(self.old.as_slice() != self.new.as_slice())
     }
 
+    /// Whether waits, or none, are told by different words.
+    fn tell_waits_apart(
+        &mut self,
+        names: &Names,
+        old: Option<Wait>,
+        new: Option<Wait>,
+    ) -> Result<bool, AllocError>
+        ensures { IfOk result (λ other. other ≡ not (bytes_eq (wait_text names.now old) (wait_text names.now new))) }
+    {
+        self.old.clear();
+        put_wait(&mut self.old, names, old)?;
+        self.new.clear();
+        put_wait(&mut self.new, names, new)?;
+        Ok(self.old.as_slice() != self.new.as_slice())
+    }
+
     /// Whether the handlers, or none, are told by different words.
     fn tell_due_apart(
         &mut self,
@@ -85,6 +119,38 @@ impl Texts {
         put_runner(&mut self.new, names, new)?;
         Ok(self.old.as_slice() != self.new.as_slice())
     }
+}
+
+/// Adds an event without its blanks, and its answer.
+#[tactic(auto, unfolding(crate::specs::Waves::call_text))]
+fn put_call_text(
+    out: &mut Vec<u8>,
+    texts: &mut Texts,
+    names: &Names,
+    told: &Record,
+) -> Result<(), AllocError>
+    ensures { OnOk result (out.new.items ≡ out.old.items ++ waves.call_text names.now told.now) }
+{
+    texts.new.clear();
+    put_event(&mut texts.new, names, told.event)?;
+    put_joined(out, texts.new.as_slice())?;
+    out.push(b'=')?;
+    put_answer(out, told.answer)
+}
+
+/// Adds the line of an event with its answer, which is the last one of its processor.
+#[tactic(auto, unfolding(crate::specs::Values::text_value))]
+pub(crate) fn put_call_value(
+    out: &mut Vec<u8>,
+    texts: &mut Texts,
+    names: &Names,
+    told: &Record,
+) -> Result<(), AllocError>
+    ensures { OnOk result (out.new.items ≡ out.old.items ++ waves.call_value names.now told.now) }
+{
+    out.push(b's')?;
+    put_call_text(out, texts, names, told)?;
+    put_value_end(out, Signal::Call, told.event.processor().number)
 }
 
 /// Adds the line of a signal of one bit, if it changed.
@@ -116,16 +182,6 @@ fn put_running_change(
 {
     if old != new && texts.tell_running_apart(names, old, new)? {
         put_running_value(out, names, p, new)?;
-    }
-    Ok(())
-}
-
-/// Adds the line of the number of the task that runs on a processor, if it changed.
-fn put_number_change(out: &mut Vec<u8>, p: Proc, old: u8, new: u8) -> Result<(), AllocError>
-    ensures { OnOk result (out.new.items ≡ out.old.items ++ spec.number_change p old new) }
-{
-    if old != new {
-        put_number_value(out, p, new)?;
     }
     Ok(())
 }
@@ -175,9 +231,25 @@ fn put_processor_changes(
     ensures { OnOk result (out.new.items ≡ out.old.items ++ spec.processor_changes names.now p old new) }
 {
     put_running_change(out, texts, names, p, old.running, new.running)?;
-    put_number_change(out, p, number_of(old.running), number_of(new.running))?;
     put_flag_changes(out, p, old, new)?;
     put_due_change(out, texts, names, p, old.due, new.due)
+}
+
+/// Adds the lines of those signals of the processor at a place that changed.
+#[tactic(auto, unfolding(crate::specs::Changes::processor_changed))]
+fn put_processor_change(
+    out: &mut Vec<u8>,
+    texts: &mut Texts,
+    names: &Names,
+    old: &Snapshot,
+    new: &Snapshot,
+    index: usize,
+) -> Result<(), AllocError>
+    requires { index < 8 }
+    ensures { OnOk result (out.new.items ≡ out.old.items ++ spec.processor_changed names.now old.now new.now (index + 1)) }
+{
+    let p = Proc::from_index(index);
+    put_processor_changes(out, texts, names, p, old.processor(p), new.processor(p))
 }
 
 /// Adds the lines of those signals of processors that changed.
@@ -188,16 +260,15 @@ fn put_processors_changes(
     old: &Snapshot,
     new: &Snapshot,
 ) -> Result<(), AllocError>
-    ensures { OnOk result (out.new.items ≡ out.old.items ++ spec.processors_changes names.now old.now new.now (length new.now.processors)) }
+    ensures { OnOk result (out.new.items ≡ out.old.items ++ each (spec.processor_changed names.now old.now new.now) (length new.now.processors)) }
 {
     for index in 0..new.processor_count() {
-        let p = Proc::from_index(index);
-        put_processor_changes(out, texts, names, p, old.processor(p), new.processor(p))?;
+        put_processor_change(out, texts, names, old, new, index)?;
     }
     Ok(())
 }
 
-/// Adds the line of a task, if its state changed.
+/// Adds the line of a task's state, if that changed.
 #[inline(always)]
 fn put_state_change(
     out: &mut Vec<u8>,
@@ -213,9 +284,9 @@ fn put_state_change(
     Ok(())
 }
 
-/// Adds the line of a task, if its state changed. The states are found only where they may be others.
+/// Adds the line of a task's state, if that changed. The states are found only where they may be others.
 #[inline(always)]
-fn put_task_change(
+fn put_found_change(
     out: &mut Vec<u8>,
     t: Task,
     old: &Snapshot,
@@ -229,24 +300,142 @@ fn put_task_change(
     put_state_change(out, t, old.task(t), new.task(t))
 }
 
-/// Adds the lines of the tasks whose states changed, one after the other.
-fn put_each_change(out: &mut Vec<u8>, old: &Snapshot, new: &Snapshot) -> Result<(), AllocError>
-    ensures { OnOk result (out.new.items ≡ out.old.items ++ spec.tasks_changes old.now new.now (length new.now.tasks)) }
+/// Adds the line of what a task waits for, if it is told by another word than before.
+#[inline(always)]
+fn put_wait_change(
+    out: &mut Vec<u8>,
+    texts: &mut Texts,
+    names: &Names,
+    t: Task,
+    old: Option<Wait>,
+    new: Option<Wait>,
+) -> Result<(), AllocError>
+    ensures { OnOk result (out.new.items ≡ out.old.items ++ spec.wait_change names.now t old new) }
 {
-    for index in 0..new.task_count() {
-        put_task_change(out, Task::from_index(index), old, new)?;
+    if old.is_same(&new) {
+        return Ok(());
+    }
+    if texts.tell_waits_apart(names, old, new)? {
+        put_wait_value(out, names, t, new)?;
     }
     Ok(())
 }
 
-/// Adds the lines of the tasks whose states changed, if any did.
-fn put_tasks_changes(out: &mut Vec<u8>, old: &Snapshot, new: &Snapshot) -> Result<(), AllocError>
-    ensures { OnOk result (out.new.items ≡ out.old.items ++ spec.tasks_changes old.now new.now (length new.now.tasks)) }
+/// Adds the lines of those signals of the task at a place that changed.
+#[inline(always)]
+#[tactic(auto, unfolding(crate::specs::Changes::task_changed))]
+fn put_task_change(
+    out: &mut Vec<u8>,
+    texts: &mut Texts,
+    names: &Names,
+    old: &Snapshot,
+    new: &Snapshot,
+    index: usize,
+) -> Result<(), AllocError>
+    requires { index < 64 }
+    ensures { OnOk result (out.new.items ≡ out.old.items ++ spec.task_changed names.now old.now new.now (index + 1)) }
+{
+    let t = Task::from_index(index);
+    put_found_change(out, t, old, new)?;
+    put_wait_change(out, texts, names, t, old.wait(t), new.wait(t))
+}
+
+/// Adds the lines of those signals of tasks that changed, one task after the other.
+fn put_each_change(
+    out: &mut Vec<u8>,
+    texts: &mut Texts,
+    names: &Names,
+    old: &Snapshot,
+    new: &Snapshot,
+) -> Result<(), AllocError>
+    ensures { OnOk result (out.new.items ≡ out.old.items ++ each (spec.task_changed names.now old.now new.now) (length new.now.tasks)) }
+{
+    for index in 0..new.task_count() {
+        put_task_change(out, texts, names, old, new, index)?;
+    }
+    Ok(())
+}
+
+/// Adds the lines of those signals of tasks that changed, if any did.
+fn put_tasks_changes(
+    out: &mut Vec<u8>,
+    texts: &mut Texts,
+    names: &Names,
+    old: &Snapshot,
+    new: &Snapshot,
+) -> Result<(), AllocError>
+    ensures { OnOk result (out.new.items ≡ out.old.items ++ each (spec.task_changed names.now old.now new.now) (length new.now.tasks)) }
 {
     if old.has_same_tasks(new) {
         return Ok(());
     }
-    put_each_change(out, old, new)
+    put_each_change(out, texts, names, old, new)
+}
+
+/// Adds the line of a number, if it changed.
+#[inline(always)]
+fn put_number_change(
+    out: &mut Vec<u8>,
+    signal: Signal,
+    number: u8,
+    old: u64,
+    new: u64,
+) -> Result<(), AllocError>
+    ensures { OnOk result (out.new.items ≡ out.old.items ++ spec.number_change signal number old new) }
+{
+    if old != new {
+        put_number_value(out, signal, number, new)?;
+    }
+    Ok(())
+}
+
+/// Adds the line of the object of a kind at a place, if its number changed.
+#[inline(always)]
+#[tactic(auto, unfolding(crate::specs::Changes::number_changed))]
+fn put_object_change(
+    out: &mut Vec<u8>,
+    old: &Snapshot,
+    new: &Snapshot,
+    resource: Resource,
+    index: usize,
+) -> Result<(), AllocError>
+    requires { index < 32 }
+    ensures { OnOk result (out.new.items ≡ out.old.items ++ spec.number_changed old.now new.now resource (index + 1)) }
+{
+    let o = Object::from_index(index);
+    put_number_change(
+        out,
+        signal_of(resource),
+        o.number,
+        old.number(resource, o),
+        new.number(resource, o),
+    )
+}
+
+/// Adds the lines of the objects of a kind whose numbers changed.
+fn put_numbers_changes(
+    out: &mut Vec<u8>,
+    old: &Snapshot,
+    new: &Snapshot,
+    resource: Resource,
+) -> Result<(), AllocError>
+    ensures { OnOk result (out.new.items ≡ out.old.items ++ spec.numbers_changes old.now new.now resource) }
+{
+    for index in 0..new.number_count(resource) {
+        put_object_change(out, old, new, resource, index)?;
+    }
+    Ok(())
+}
+
+/// Adds the lines of the objects whose numbers changed.
+#[tactic(auto, unfolding(crate::specs::Changes::objects_changes))]
+fn put_objects_changes(out: &mut Vec<u8>, old: &Snapshot, new: &Snapshot) -> Result<(), AllocError>
+    ensures { OnOk result (out.new.items ≡ out.old.items ++ spec.objects_changes old.now new.now) }
+{
+    put_numbers_changes(out, old, new, Resource::Semaphore)?;
+    put_numbers_changes(out, old, new, Resource::Eventflag)?;
+    put_numbers_changes(out, old, new, Resource::DataQueue)?;
+    put_numbers_changes(out, old, new, Resource::Pool)
 }
 
 /// Adds the lines of the signals that changed, in the order of their declarations.
@@ -261,5 +450,6 @@ pub(crate) fn put_changes(
     ensures { OnOk result (out.new.items ≡ out.old.items ++ spec.changes_text names.now old.now new.now) }
 {
     put_processors_changes(out, texts, names, old, new)?;
-    put_tasks_changes(out, old, new)
+    put_tasks_changes(out, texts, names, old, new)?;
+    put_objects_changes(out, old, new)
 }

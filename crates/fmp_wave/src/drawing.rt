@@ -2,12 +2,12 @@
 ghost use Rattle.std.specs.Prelude.{◌≡◌, ◌++◌, OnOk, IfOk};
 ghost use Rattle.fmp_wave.specs.Waves as spec;
 
-use crate::changes::{Texts, put_changes, put_mark, put_time};
+use crate::changes::{Texts, put_call_value, put_changes, put_mark, put_time};
 use crate::header::put_header;
 use crate::snapshot::Snapshot;
 use crate::values::put_values;
 use fmp_check::Watcher;
-use fmp_codes::Event;
+use fmp_codes::Record;
 use fmp_machine::Config;
 use fmp_names::Names;
 use fmp_plain::Plain;
@@ -15,6 +15,7 @@ use fmp_plain_machine::PlainMachine;
 use std::alloc::{AllocError, Global};
 use std::marker::Model;
 
+/// Adds what stands before the values at time 0.
 #[tactic(auto, unfolding(crate::specs::Waves::start_begin))]
 fn put_start_begin(out: &mut Vec<u8>) -> Result<(), AllocError>
     ensures { OnOk result (out.new.items ≡ out.old.items ++ spec.start_begin) }
@@ -22,6 +23,7 @@ fn put_start_begin(out: &mut Vec<u8>) -> Result<(), AllocError>
     out.extend_from_slice(b"#0\n$dumpvars\n")
 }
 
+/// Adds what stands behind them.
 #[tactic(auto, unfolding(crate::specs::Waves::start_end))]
 fn put_start_end(out: &mut Vec<u8>) -> Result<(), AllocError>
     ensures { OnOk result (out.new.items ≡ out.old.items ++ spec.start_end) }
@@ -31,12 +33,12 @@ fn put_start_end(out: &mut Vec<u8>) -> Result<(), AllocError>
 
 /// Adds what stands before the first event: the declarations, and the values that the signals begin with.
 #[tactic(auto, unfolding(crate::specs::Waves::start_text))]
-fn put_start(out: &mut Vec<u8>, names: &Names, shown: &Snapshot) -> Result<(), AllocError>
-    ensures { OnOk result (out.new.items ≡ out.old.items ++ spec.start_text names.now shown.now) }
+fn put_start(out: &mut Vec<u8>, config: &Config, shown: &Snapshot) -> Result<(), AllocError>
+    ensures { OnOk result (out.new.items ≡ out.old.items ++ spec.start_text config.now shown.now) }
 {
-    put_header(out, names, shown)?;
+    put_header(out, config)?;
     put_start_begin(out)?;
-    put_values(out, names, shown)?;
+    put_values(out, config.names(), shown)?;
     put_start_end(out)
 }
 
@@ -64,7 +66,7 @@ impl Drawing {
         let plain = Plain::boot(config)?;
         let shown = Snapshot::of(plain.machine());
         let mut wave = Vec::new(alloc);
-        put_start(&mut wave, config.names(), &shown)?;
+        put_start(&mut wave, config, &shown)?;
         Ok(Drawing {
             shown,
             texts: Texts::new(alloc),
@@ -97,17 +99,18 @@ impl Drawing {
 impl Watcher for Drawing {
     ghost watched = { spec.behind };
 
-    /// Tells event n, behind which the machine is in its state now.
+    /// Tells event n with its answer, behind which the machine is in its state now.
     #[tactic(auto, unfolding(crate::specs::Waves::change_text))]
     fn watch(
         &mut self,
         names: &Names,
         n: u32,
-        event: Event,
+        told: &Record,
         machine: &PlainMachine,
     ) -> Result<(), AllocError> {
         put_time(&mut self.wave, n)?;
-        put_mark(&mut self.wave, event)?;
+        put_mark(&mut self.wave, told.event)?;
+        put_call_value(&mut self.wave, &mut self.texts, names, told)?;
         self.show(names, machine)
     }
 }

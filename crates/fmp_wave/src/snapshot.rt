@@ -3,16 +3,18 @@ ghost use Rattle.std.specs.Prelude.{◌≡◌, ◌≤◌, [], IsTrue, length, ma
 ghost use Rattle.fmp_machine.specs.World.{item};
 ghost use Rattle.fmp_wave.specs.Shown as spec;
 ghost use Rattle.fmp_wave.specs.Signs as signs;
-ghost use Rattle.fmp_wave.specs.Values as values;
 
+use crate::resource::{Resource, count_in, number_in};
 use arrayvec::ArrayVec;
 use fmp_check::is_same;
-use fmp_codes::{Proc, Runner, Task};
+use fmp_codes::{Object, Proc, Runner, Task};
+use fmp_machine::Wait;
 use fmp_plain_machine::PlainMachine;
 use fmp_primitives::Words;
+use fmp_same::{Same, are_equal};
 use std::marker::Model;
 
-/// The state of a task, as a waveform tells it: what a task waits for is not shown.
+/// The state of a task, as a waveform tells it.
 #[derive(Clone, Copy, Debug, PartialEq, Eq)]
 pub enum TaskState {
     Dormant,
@@ -74,6 +76,13 @@ pub(crate) struct Snapshot {
     kinds: ArrayVec<u8, 64>,
     /// The number of the processor of each.
     places: ArrayVec<u8, 64>,
+    /// What each waits for.
+    waits: ArrayVec<Option<Wait>, 64>,
+    /// The numbers of the objects of each kind.
+    semaphores: ArrayVec<u64, 32>,
+    eventflags: ArrayVec<u64, 32>,
+    data_queues: ArrayVec<u64, 32>,
+    pools: ArrayVec<u64, 32>,
 }
 
 impl Model for Snapshot {
@@ -82,13 +91,21 @@ impl Model for Snapshot {
 
     ghost Value = { Shown };
 
-    ghost view = { λ a. record { processors = a.processors.items; tasks = states_at a.processors.items a.kinds.items a.places.items } };
+    ghost view = { λ a. record {
+      processors = a.processors.items;
+      tasks = states_at a.processors.items a.kinds.items a.places.items;
+      waits = a.waits.items;
+      semaphores = a.semaphores.items;
+      eventflags = a.eventflags.items;
+      data_queues = a.data_queues.items;
+      pools = a.pools.items;
+    } };
 }
 
 /// The number of the task that runs, or 0.
 #[inline(always)]
-pub(crate) fn number_of(running: Option<Task>) -> u8
-    ensures { result ≡ values.number_of running }
+fn number_of(running: Option<Task>) -> u8
+    ensures { result ≡ spec.number_of running }
 {
     match running {
         None => 0,
@@ -185,6 +202,28 @@ fn shown_processors(machine: &PlainMachine) -> ArrayVec<ShownProcessor, 8>
     shown
 }
 
+/// What all tasks wait for.
+fn shown_waits(machine: &PlainMachine) -> ArrayVec<Option<Wait>, 64>
+    ensures { result.items ≡ spec.shown_waits machine.now }
+{
+    let mut shown = ArrayVec::new();
+    for index in 0..machine.task_count() {
+        shown.push(machine.task(Task::from_index(index)).wait);
+    }
+    shown
+}
+
+/// The numbers of the objects of a kind.
+fn shown_numbers(machine: &PlainMachine, resource: Resource) -> ArrayVec<u64, 32>
+    ensures { result.items ≡ spec.shown_numbers machine.now resource }
+{
+    let mut shown = ArrayVec::new();
+    for index in 0..count_in(machine, resource) {
+        shown.push(number_in(machine, resource, Object::from_index(index)));
+    }
+    shown
+}
+
 /// Whether the same task runs, or none.
 #[inline(always)]
 #[tactic(auto, using(crate::proofs::Equal::same_running))]
@@ -263,6 +302,34 @@ fn show(processors: &[ShownProcessor], machine: &PlainMachine) -> bool
     processors.len() == machine.processor_count()
 }
 
+/// Whether this is what a machine's tasks wait for.
+#[inline(always)]
+fn show_waits(waits: &[Option<Wait>], machine: &PlainMachine) -> bool
+    requires { length waits.now ≤ 64 }
+    ensures { IsTrue result → waits.now ≡ spec.shown_waits machine.now }
+{
+    for (index, wait) in waits.iter().enumerate() {
+        if !wait.is_same(&machine.task(Task::from_index(index)).wait) {
+            return false;
+        }
+    }
+    waits.len() == machine.task_count()
+}
+
+/// Whether these are the numbers of a machine's objects of a kind.
+#[inline(always)]
+fn show_numbers(numbers: &[u64], machine: &PlainMachine, resource: Resource) -> bool
+    requires { length numbers.now ≤ 32 }
+    ensures { IsTrue result → numbers.now ≡ spec.shown_numbers machine.now resource }
+{
+    for (index, number) in numbers.iter().enumerate() {
+        if *number != number_in(machine, resource, Object::from_index(index)) {
+            return false;
+        }
+    }
+    numbers.len() == count_in(machine, resource)
+}
+
 impl Snapshot {
     /// What is shown of a machine's state.
     pub(crate) fn of(machine: &PlainMachine) -> Snapshot
@@ -272,6 +339,11 @@ impl Snapshot {
             processors: shown_processors(machine),
             kinds: copied(machine.kinds()),
             places: copied(machine.places()),
+            waits: shown_waits(machine),
+            semaphores: shown_numbers(machine, Resource::Semaphore),
+            eventflags: shown_numbers(machine, Resource::Eventflag),
+            data_queues: shown_numbers(machine, Resource::DataQueue),
+            pools: shown_numbers(machine, Resource::Pool),
         }
     }
 
@@ -312,7 +384,50 @@ impl Snapshot {
         told_state(byte_of(self.kinds.as_slice(), t, 0), t, running)
     }
 
-    /// Whether a task is shown as in another snapshot: it stands the same and, where it could run, its processor runs the same.
+    /// What a task waits for: nothing where there is no task.
+    #[inline(always)]
+    pub(crate) fn wait(&self, t: Task) -> Option<Wait>
+        ensures { result ≡ spec.wait_of self.now t }
+    {
+        self.waits
+            .as_slice()
+            .get(t.index())
+            .copied()
+            .unwrap_or(None)
+    }
+
+    /// The numbers of the objects of a kind.
+    #[inline(always)]
+    fn numbers(&self, resource: Resource) -> &[u64]
+        ensures value { result.now ≡ spec.numbers_of self.now resource }
+        ensures few { length result.now ≤ 32 }
+    {
+        match resource {
+            Resource::Semaphore => self.semaphores.as_slice(),
+            Resource::Eventflag => self.eventflags.as_slice(),
+            Resource::DataQueue => self.data_queues.as_slice(),
+            Resource::Pool => self.pools.as_slice(),
+        }
+    }
+
+    /// How many objects of a kind there are.
+    #[inline(always)]
+    pub(crate) fn number_count(&self, resource: Resource) -> usize
+        ensures value { result ≡ length (spec.numbers_of self.now resource) }
+        ensures few { result ≤ 32 }
+    {
+        self.numbers(resource).len()
+    }
+
+    /// The number of an object: 0 where there is none.
+    #[inline(always)]
+    pub(crate) fn number(&self, resource: Resource, o: Object) -> u64
+        ensures { result ≡ spec.number_at self.now resource o }
+    {
+        self.numbers(resource).get(o.index()).copied().unwrap_or(0)
+    }
+
+    /// Whether a task's state is shown as in another snapshot: it stands the same and, where it could run, its processor runs the same.
     #[inline(always)]
     pub(crate) fn has_same_task(&self, other: &Snapshot, t: Task) -> bool
         ensures { IsTrue result → spec.state_of self.now t ≡ spec.state_of other.now t }
@@ -329,7 +444,7 @@ impl Snapshot {
     }
 
     /// Whether all tasks stand as in another snapshot, at processors that run the same.
-    pub(crate) fn has_same_tasks(&self, other: &Snapshot) -> bool
+    fn has_same_states(&self, other: &Snapshot) -> bool
         ensures { IsTrue result → self.now.tasks ≡ other.now.tasks }
     {
         is_same(self.kinds.as_slice(), other.kinds.as_slice())
@@ -337,13 +452,47 @@ impl Snapshot {
             && run_the_same(self.processors.as_slice(), other.processors.as_slice())
     }
 
-    /// Whether a machine's state is shown so.
+    /// Whether all tasks are shown as in another snapshot: they stand the same, and wait for the same.
+    pub(crate) fn has_same_tasks(&self, other: &Snapshot) -> bool
+        ensures states { IsTrue result → self.now.tasks ≡ other.now.tasks }
+        ensures waits { IsTrue result → self.now.waits ≡ other.now.waits }
+    {
+        if !self.has_same_states(other) {
+            return false;
+        }
+        are_equal(self.waits.as_slice(), other.waits.as_slice())
+    }
+
+    /// Whether the processors and the tasks of a machine's state are shown so.
     #[inline(always)]
-    pub(crate) fn shows(&self, machine: &PlainMachine) -> bool
-        ensures { IsTrue result → self.now ≡ spec.shown_of machine.now }
+    fn shows_tasks(&self, machine: &PlainMachine) -> bool
+        ensures processors { IsTrue result → self.now.processors ≡ (spec.shown_of machine.now).processors }
+        ensures states { IsTrue result → self.now.tasks ≡ (spec.shown_of machine.now).tasks }
     {
         is_same(self.kinds.as_slice(), machine.kinds())
             && is_same(self.places.as_slice(), machine.places())
             && show(self.processors.as_slice(), machine)
+    }
+
+    /// Whether the objects of a machine's state are shown so.
+    #[inline(always)]
+    fn shows_numbers(&self, machine: &PlainMachine, resource: Resource) -> bool
+        ensures { IsTrue result → spec.numbers_of self.now resource ≡ spec.shown_numbers machine.now resource }
+    {
+        show_numbers(self.numbers(resource), machine, resource)
+    }
+
+    /// Whether a machine's state is shown so.
+    #[inline(always)]
+    #[tactic(auto, using(crate::proofs::Equal::same_shown))]
+    pub(crate) fn shows(&self, machine: &PlainMachine) -> bool
+        ensures { IsTrue result → self.now ≡ spec.shown_of machine.now }
+    {
+        self.shows_tasks(machine)
+            && show_waits(self.waits.as_slice(), machine)
+            && self.shows_numbers(machine, Resource::Semaphore)
+            && self.shows_numbers(machine, Resource::Eventflag)
+            && self.shows_numbers(machine, Resource::DataQueue)
+            && self.shows_numbers(machine, Resource::Pool)
     }
 }

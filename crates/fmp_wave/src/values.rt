@@ -1,17 +1,21 @@
 //! The values of all signals, a line for each.
-ghost use Rattle.std.specs.Prelude.{◌≡◌, ◌++◌, length, OnOk};
+ghost use Rattle.std.specs.Prelude.{◌≡◌, ◌+◌, ◌<◌, ◌++◌, length, OnOk};
+ghost use Rattle.fmp_wave.specs.Listing.{each};
 ghost use Rattle.fmp_wave.specs.Values as spec;
 
+use crate::resource::{Resource, signal_of};
 use crate::signal::{Signal, put_identifier};
-use crate::snapshot::{ShownProcessor, Snapshot, TaskState, number_of};
-use fmp_codes::{Proc, Runner, Task};
+use crate::snapshot::{ShownProcessor, Snapshot, TaskState};
+use fmp_calls::ObjectKind;
+use fmp_codes::{Object, Proc, Runner, Task};
+use fmp_machine::Wait;
 use fmp_names::Names;
-use fmp_trace::{put_runner, put_running};
+use fmp_trace::{put_named, put_runner, put_running};
 use std::alloc::AllocError;
 
 /// Adds what stands behind a value of more than a bit: the signal, and the end of the line.
 #[tactic(auto, unfolding(crate::specs::Values::value_end))]
-fn put_value_end(out: &mut Vec<u8>, signal: Signal, number: u8) -> Result<(), AllocError>
+pub(crate) fn put_value_end(out: &mut Vec<u8>, signal: Signal, number: u8) -> Result<(), AllocError>
     ensures { OnOk result (out.new.items ≡ out.old.items ++ spec.value_end signal number) }
 {
     out.push(b' ')?;
@@ -20,6 +24,22 @@ fn put_value_end(out: &mut Vec<u8>, signal: Signal, number: u8) -> Result<(), Al
     Ok(())
 }
 
+/// Adds the line of a signal whose value is a text.
+#[tactic(auto, unfolding(crate::specs::Values::text_value))]
+fn put_text_value(
+    out: &mut Vec<u8>,
+    signal: Signal,
+    number: u8,
+    text: &[u8],
+) -> Result<(), AllocError>
+    ensures { OnOk result (out.new.items ≡ out.old.items ++ spec.text_value signal number text.now) }
+{
+    out.push(b's')?;
+    out.extend_from_slice(text)?;
+    put_value_end(out, signal, number)
+}
+
+/// Adds a bit, as a digit.
 fn put_bit(out: &mut Vec<u8>, bit: bool) -> Result<(), AllocError>
     ensures { OnOk result (out.new.items ≡ out.old.items ++ spec.bit_text bit) }
 {
@@ -46,8 +66,39 @@ pub(crate) fn put_bit_value(
     Ok(())
 }
 
+/// Adds the last bits of a number, so many at most, the highest first, without zeros before them.
+#[tactic(auto, unfolding(crate::specs::Values::bits_text))]
+fn put_bits(out: &mut Vec<u8>, most: u8, number: u64) -> Result<(), AllocError>
+    ensures { OnOk result (out.new.items ≡ out.old.items ++ spec.bits_text most number) }
+{
+    if most == 0 {
+        return Ok(());
+    }
+    if number < 2 {
+        return put_bit(out, number == 1);
+    }
+    put_bits(out, most - 1, number / 2)?;
+    put_bit(out, number % 2 == 1)?;
+    Ok(())
+}
+
+/// Adds the line of a signal whose value is a number.
+#[tactic(auto, unfolding(crate::specs::Values::number_value))]
+pub(crate) fn put_number_value(
+    out: &mut Vec<u8>,
+    signal: Signal,
+    number: u8,
+    value: u64,
+) -> Result<(), AllocError>
+    ensures { OnOk result (out.new.items ≡ out.old.items ++ spec.number_value signal number value) }
+{
+    out.push(b'b')?;
+    put_bits(out, 64, value)?;
+    put_value_end(out, signal, number)
+}
+
 /// Adds the line of the task that runs on a processor.
-#[tactic(auto, unfolding(crate::specs::Values::running_value))]
+#[tactic(auto, unfolding(crate::specs::Values::text_value))]
 pub(crate) fn put_running_value(
     out: &mut Vec<u8>,
     names: &Names,
@@ -61,32 +112,8 @@ pub(crate) fn put_running_value(
     put_value_end(out, Signal::Running, p.number)
 }
 
-/// Adds the seven bits of a number, the highest first.
-#[tactic(auto, unfolding(crate::specs::Values::number_text))]
-fn put_bits(out: &mut Vec<u8>, number: u8) -> Result<(), AllocError>
-    ensures { OnOk result (out.new.items ≡ out.old.items ++ spec.number_text number) }
-{
-    put_bit(out, number / 64 % 2 == 1)?;
-    put_bit(out, number / 32 % 2 == 1)?;
-    put_bit(out, number / 16 % 2 == 1)?;
-    put_bit(out, number / 8 % 2 == 1)?;
-    put_bit(out, number / 4 % 2 == 1)?;
-    put_bit(out, number / 2 % 2 == 1)?;
-    put_bit(out, number % 2 == 1)
-}
-
-/// Adds the line of the number of the task that runs on a processor.
-#[tactic(auto, unfolding(crate::specs::Values::number_value))]
-pub(crate) fn put_number_value(out: &mut Vec<u8>, p: Proc, number: u8) -> Result<(), AllocError>
-    ensures { OnOk result (out.new.items ≡ out.old.items ++ spec.number_value p number) }
-{
-    out.push(b'b')?;
-    put_bits(out, number)?;
-    put_value_end(out, Signal::Number, p.number)
-}
-
 /// Adds the line of the handler that is due on a processor.
-#[tactic(auto, unfolding(crate::specs::Values::due_value))]
+#[tactic(auto, unfolding(crate::specs::Values::text_value))]
 pub(crate) fn put_due_value(
     out: &mut Vec<u8>,
     names: &Names,
@@ -121,18 +148,32 @@ fn put_processor_values(
     ensures { OnOk result (out.new.items ≡ out.old.items ++ spec.processor_values names.now p shown) }
 {
     put_running_value(out, names, p, shown.running)?;
-    put_number_value(out, p, number_of(shown.running))?;
+    put_text_value(out, Signal::Call, p.number, b"-")?;
     put_flag_values(out, p, shown)?;
     put_due_value(out, names, p, shown.due)
 }
 
+/// Adds the lines of the processor at a place.
+#[tactic(auto, unfolding(crate::specs::Values::processor_lines))]
+fn put_processor(
+    out: &mut Vec<u8>,
+    names: &Names,
+    shown: &Snapshot,
+    index: usize,
+) -> Result<(), AllocError>
+    requires { index < 8 }
+    ensures { OnOk result (out.new.items ≡ out.old.items ++ spec.processor_lines names.now shown.now (index + 1)) }
+{
+    let p = Proc::from_index(index);
+    put_processor_values(out, names, p, shown.processor(p))
+}
+
 /// Adds the lines of all processors.
 fn put_processors(out: &mut Vec<u8>, names: &Names, shown: &Snapshot) -> Result<(), AllocError>
-    ensures { OnOk result (out.new.items ≡ out.old.items ++ spec.processors_values names.now shown.now (length shown.now.processors)) }
+    ensures { OnOk result (out.new.items ≡ out.old.items ++ each (spec.processor_lines names.now shown.now) (length shown.now.processors)) }
 {
     for index in 0..shown.processor_count() {
-        let p = Proc::from_index(index);
-        put_processor_values(out, names, p, shown.processor(p))?;
+        put_processor(out, names, shown, index)?;
     }
     Ok(())
 }
@@ -151,8 +192,7 @@ pub(crate) fn state_word(state: TaskState) -> &'static [u8]
     }
 }
 
-/// Adds the line of a task.
-#[tactic(auto, unfolding(crate::specs::Values::state_value))]
+/// Adds the line of a task's state.
 pub(crate) fn put_state_value(
     out: &mut Vec<u8>,
     t: Task,
@@ -160,20 +200,127 @@ pub(crate) fn put_state_value(
 ) -> Result<(), AllocError>
     ensures { OnOk result (out.new.items ≡ out.old.items ++ spec.state_value t state) }
 {
+    put_text_value(out, Signal::State, t.number, state_word(state))
+}
+
+/// Adds that a wait is for an object: the word for such a wait, and the object's name.
+#[tactic(auto, unfolding(crate::specs::Values::object_wait))]
+fn put_object_wait(
+    out: &mut Vec<u8>,
+    names: &Names,
+    word: &[u8],
+    kind: ObjectKind,
+    object: Object,
+) -> Result<(), AllocError>
+    ensures { OnOk result (out.new.items ≡ out.old.items ++ spec.object_wait names.now word.now kind object) }
+{
+    out.extend_from_slice(word)?;
+    out.push(b':')?;
+    put_named(out, names, kind, usize::from(object.number))
+}
+
+/// Adds what a task waits for, or `-` where it does not wait.
+pub(crate) fn put_wait(
+    out: &mut Vec<u8>,
+    names: &Names,
+    wait: Option<Wait>,
+) -> Result<(), AllocError>
+    ensures { OnOk result (out.new.items ≡ out.old.items ++ spec.wait_text names.now wait) }
+{
+    match wait {
+        None => out.extend_from_slice(b"-"),
+        Some(Wait::Sleep) => out.extend_from_slice(b"slp"),
+        Some(Wait::Delay) => out.extend_from_slice(b"dly"),
+        Some(Wait::Semaphore(s)) => put_object_wait(out, names, b"sem", ObjectKind::Semaphore, s),
+        Some(Wait::Eventflag(f, _, _)) => {
+            put_object_wait(out, names, b"flg", ObjectKind::Eventflag, f)
+        }
+        Some(Wait::Send(d, _)) => put_object_wait(out, names, b"sdtq", ObjectKind::DataQueue, d),
+        Some(Wait::Receive(d)) => put_object_wait(out, names, b"rdtq", ObjectKind::DataQueue, d),
+        Some(Wait::Pool(m)) => put_object_wait(out, names, b"mpf", ObjectKind::Pool, m),
+    }
+}
+
+/// Adds the line of what a task waits for.
+#[tactic(auto, unfolding(crate::specs::Values::text_value))]
+pub(crate) fn put_wait_value(
+    out: &mut Vec<u8>,
+    names: &Names,
+    t: Task,
+    wait: Option<Wait>,
+) -> Result<(), AllocError>
+    ensures { OnOk result (out.new.items ≡ out.old.items ++ spec.wait_value names.now t wait) }
+{
     out.push(b's')?;
-    out.extend_from_slice(state_word(state))?;
-    put_value_end(out, Signal::State, t.number)
+    put_wait(out, names, wait)?;
+    put_value_end(out, Signal::Wait, t.number)
+}
+
+/// Adds the lines of the task at a place.
+#[tactic(auto, unfolding(crate::specs::Values::task_lines))]
+fn put_task(
+    out: &mut Vec<u8>,
+    names: &Names,
+    shown: &Snapshot,
+    index: usize,
+) -> Result<(), AllocError>
+    requires { index < 64 }
+    ensures { OnOk result (out.new.items ≡ out.old.items ++ spec.task_lines names.now shown.now (index + 1)) }
+{
+    let t = Task::from_index(index);
+    put_state_value(out, t, shown.task(t))?;
+    put_wait_value(out, names, t, shown.wait(t))
 }
 
 /// Adds the lines of all tasks.
-fn put_tasks(out: &mut Vec<u8>, shown: &Snapshot) -> Result<(), AllocError>
-    ensures { OnOk result (out.new.items ≡ out.old.items ++ spec.tasks_values shown.now (length shown.now.tasks)) }
+fn put_tasks(out: &mut Vec<u8>, names: &Names, shown: &Snapshot) -> Result<(), AllocError>
+    ensures { OnOk result (out.new.items ≡ out.old.items ++ each (spec.task_lines names.now shown.now) (length shown.now.tasks)) }
 {
     for index in 0..shown.task_count() {
-        let t = Task::from_index(index);
-        put_state_value(out, t, shown.task(t))?;
+        put_task(out, names, shown, index)?;
     }
     Ok(())
+}
+
+/// Adds the line of the object of a kind at a place.
+#[tactic(auto, unfolding(crate::specs::Values::number_line))]
+fn put_number_line(
+    out: &mut Vec<u8>,
+    shown: &Snapshot,
+    resource: Resource,
+    index: usize,
+) -> Result<(), AllocError>
+    requires { index < 32 }
+    ensures { OnOk result (out.new.items ≡ out.old.items ++ spec.number_line shown.now resource (index + 1)) }
+{
+    let o = Object::from_index(index);
+    put_number_value(
+        out,
+        signal_of(resource),
+        o.number,
+        shown.number(resource, o),
+    )
+}
+
+/// Adds the lines of all objects of a kind.
+fn put_numbers(out: &mut Vec<u8>, shown: &Snapshot, resource: Resource) -> Result<(), AllocError>
+    ensures { OnOk result (out.new.items ≡ out.old.items ++ spec.numbers_values shown.now resource) }
+{
+    for index in 0..shown.number_count(resource) {
+        put_number_line(out, shown, resource, index)?;
+    }
+    Ok(())
+}
+
+/// Adds the lines of all objects that have a number.
+#[tactic(auto, unfolding(crate::specs::Values::objects_values))]
+fn put_objects(out: &mut Vec<u8>, shown: &Snapshot) -> Result<(), AllocError>
+    ensures { OnOk result (out.new.items ≡ out.old.items ++ spec.objects_values shown.now) }
+{
+    put_numbers(out, shown, Resource::Semaphore)?;
+    put_numbers(out, shown, Resource::Eventflag)?;
+    put_numbers(out, shown, Resource::DataQueue)?;
+    put_numbers(out, shown, Resource::Pool)
 }
 
 /// Adds the values of all signals.
@@ -186,5 +333,6 @@ pub(crate) fn put_values(
     ensures { OnOk result (out.new.items ≡ out.old.items ++ spec.values_text names.now shown.now) }
 {
     put_processors(out, names, shown)?;
-    put_tasks(out, shown)
+    put_tasks(out, names, shown)?;
+    put_objects(out, shown)
 }

@@ -53,6 +53,7 @@ impl<'a> World<'a> {
         ensures whole { IsSome result ↔ IsWhole self.entry seats.cpus.items seats.clock config.now scripts.now ticks turns }
         ensures run { IfSome result (λ r. IsSmpRun config.now scripts.now ticks turns r.history.records (map (λ v. v.items) r.receipts.items) r.ended) }
         ensures history { IfSome result (λ r. r.history ≡ self.entry) }
+        ensures configured { IfSome result (λ r. r.history.config ≡ config.now) }
     {
         let history = self.history;
         let ended = history.judge(self.spare, &seats, config, scripts, ticks, turns)?;

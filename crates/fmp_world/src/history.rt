@@ -1,6 +1,7 @@
 //! A history that is a run of the machine, kept as the moves that made it.
 ghost use Rattle.std.specs.Prelude.{◌≡◌, ◌+◌, ◌≤◌, ◌<◌, ◌^◌, [], length, IfOk, Some, None, ℕ, IsTrue, true, ◌↔◌, is_some};
 ghost use Rattle.fmp_histories.specs.Histories.{state_after, is_idle, IsQuiet};
+ghost use Rattle.fmp_refinement.specs.Stands.{Stands};
 ghost use Rattle.fmp_world.specs.Kept.{IsKnown};
 ghost use Rattle.fmp_histories.specs.Scripted as scripted;
 ghost use Rattle.fmp_world.specs.Moves as moves;
@@ -89,6 +90,13 @@ impl<'a> History<'a> {
         ensures { result ≡ self.entry.now.records }
     {
         Replay::new(&self.moves, again)
+    }
+
+    /// The kernel at its end.
+    pub fn last(&self) -> &Kernel
+        ensures { Stands result.now (state_after self.now.config self.now.records) }
+    {
+        &self.kernel
     }
 
     /// How many processors there are.

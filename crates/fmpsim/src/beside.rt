@@ -1,7 +1,11 @@
-//! What stands beside a fault line with `--context`: the text is read once more for it.
-use crate::STANDARD_INPUT;
+//! What is told of a fault: its line, why a file cannot be read, and with `--context` the place of a fault. For the place the events, scripts
+//! or trace are read once more; the configuration was kept, since it may come from a pipe.
+use crate::lines::{tell_placed, tell_plainly};
+use crate::texts::STANDARD_INPUT;
 use fmp_config::{Config, ConfigFault, MOST_BYTES as MOST_CONFIG_BYTES, read_config};
-use fmp_context::{TextForm, config_context, question_context, text_advice, text_context};
+use fmp_config_context::{config_context, config_spot, script_hint};
+use fmp_context::{TextForm, question_context, text_advice, text_context, text_spot};
+use fmp_diagnostics::{LineForm, Spot};
 use fmp_partial_check::check_partial;
 use fmp_question::QuestionFault;
 use fmp_scripts::read_scripts;
@@ -14,6 +18,22 @@ use std::io::Read;
 use std::rt::Files;
 use std::{fs, io};
 
+/// How a fault is told.
+#[derive(Clone, Copy, Debug)]
+pub struct Telling {
+    /// The form of its line.
+    pub line: LineForm,
+    /// What the other text is.
+    pub text: TextForm,
+}
+
+/// A fault whose text is at hand: the configuration that was kept, or the other text, which was read once more, with its configuration.
+#[derive(Drop)]
+enum Found {
+    Config(ConfigFault),
+    Text(TextFault, Config, Vec<u8>),
+}
+
 /// A file, read up to a limit. There is none where it cannot be read, or is longer.
 fn whole<R: Files + AllocGlobal>(rt: &R, path: &str, limit: usize) -> Option<Vec<u8>> {
     let file = fs::open(rt, path).ok()?;
@@ -25,8 +45,8 @@ fn whole<R: Files + AllocGlobal>(rt: &R, path: &str, limit: usize) -> Option<Vec
     }
 }
 
-/// What stands beside a fault of the configuration, where it has the fault still.
-fn config_beside(alloc: Global, text: &[u8], fault: &ConfigFault) -> Option<Vec<u8>> {
+/// The fault of the configuration, where it has that still.
+fn config_again(alloc: Global, text: &[u8], fault: &ConfigFault) -> Option<Found> {
     if text.len() > MOST_CONFIG_BYTES {
         return None;
     }
@@ -34,7 +54,7 @@ fn config_beside(alloc: Global, text: &[u8], fault: &ConfigFault) -> Option<Vec<
     if again.kind != fault.kind || again.line != fault.line {
         return None;
     }
-    config_context(alloc, text, &again).ok()
+    Some(Found::Config(again))
 }
 
 /// The first fault of the other text.
@@ -53,27 +73,91 @@ fn is_input(paths: &Paths<'_>, form: TextForm) -> bool {
     paths.text == STANDARD_INPUT && matches!(form, TextForm::Events | TextForm::Scripts)
 }
 
-/// What stands beside a fault of the other text, where it has the fault still.
-fn text_beside<R: Files + AllocGlobal>(
+/// The fault of the other text, where it can be read once more and has that still.
+fn text_again<R: Files + AllocGlobal>(
     rt: &R,
     paths: &Paths<'_>,
     form: TextForm,
+    config: &[u8],
+    fault: TextFault,
+) -> Option<Found> {
+    if fault.kind == TextKind::Memory || fault.line == 0 || is_input(paths, form) {
+        return None;
+    }
+    let config = read_config(rt.alloc(), config).ok()?;
+    let text = whole(rt, paths.text, MOST_BYTES)?;
+    if text_fault(rt.alloc(), form, text.as_slice(), &config)? != fault {
+        return None;
+    }
+    Some(Found::Text(fault, config, text))
+}
+
+/// The fault with its text, where that has it still.
+fn find_again<R: Files + AllocGlobal>(
+    rt: &R,
+    paths: &Paths<'_>,
+    form: TextForm,
+    config: &[u8],
+    fault: &RunFault,
+) -> Option<Found> {
+    match fault {
+        RunFault::Config(fault) => config_again(rt.alloc(), config, fault),
+        RunFault::Text(fault) => text_again(rt, paths, form, config, *fault),
+        _ => None,
+    }
+}
+
+/// Where a fault is that was found again.
+fn spot_in(alloc: Global, form: TextForm, config: &[u8], found: &Found) -> Option<Spot> {
+    if config.len() > MOST_CONFIG_BYTES {
+        return None;
+    }
+    match found {
+        Found::Config(fault) => Some(config_spot(config, fault)),
+        Found::Text(fault, config, text) => {
+            text_spot(alloc, config.names(), form, text.as_slice(), *fault).ok()
+        }
+    }
+}
+
+/// What stands beside a fault of the other text.
+fn text_beside(
+    alloc: Global,
+    form: TextForm,
+    config: &Config,
+    text: &[u8],
     fault: TextFault,
 ) -> Option<Vec<u8>> {
-    let alloc = rt.alloc();
-    if fault.kind == TextKind::Memory {
+    let mut beside = text_context(alloc, config.names(), form, text, fault).ok()?;
+    if matches!(form, TextForm::Scripts) {
+        let hint = script_hint(alloc, config, text, fault).ok()?;
+        beside.extend_from_slice(hint.as_slice()).ok()?;
+    }
+    Some(beside)
+}
+
+/// What stands beside a fault that was found again.
+fn beside(alloc: Global, form: TextForm, config: &[u8], found: &Found) -> Option<Vec<u8>> {
+    if config.len() > MOST_CONFIG_BYTES {
         return None;
     }
-    if is_input(paths, form) || fault.line == 0 {
-        return text_advice(alloc, fault.kind).ok();
+    match found {
+        Found::Config(fault) => config_context(alloc, config, fault).ok(),
+        Found::Text(fault, config, text) => {
+            text_beside(alloc, form, config, text.as_slice(), *fault)
+        }
     }
-    let config = whole(rt, paths.config, MOST_CONFIG_BYTES)?;
-    let config = read_config(alloc, config.as_slice()).ok()?;
-    let text = whole(rt, paths.text, MOST_BYTES)?;
-    if text_fault(alloc, form, text.as_slice(), &config)? != fault {
-        return None;
+}
+
+/// What stands below a fault whose line cannot be shown: of a text from standard input, and of one that is too long.
+fn advice(alloc: Global, paths: &Paths<'_>, form: TextForm, fault: &RunFault) -> Option<Vec<u8>> {
+    match fault {
+        RunFault::Text(fault) if fault.kind == TextKind::Memory => None,
+        RunFault::Text(fault) if fault.line == 0 || is_input(paths, form) => {
+            text_advice(alloc, fault.kind).ok()
+        }
+        _ => None,
     }
-    text_context(alloc, config.names(), form, text.as_slice(), fault).ok()
 }
 
 /// Why a file cannot be read, if it cannot.
@@ -85,42 +169,76 @@ fn cause<R: Files>(rt: &R, path: &str) -> Option<io::Error> {
     }
 }
 
+/// Tells the cause for which the file at a path cannot be opened or read.
+pub fn tell_path<R: Eprint>(rt: &R, path: &str, error: &io::Error) {
+    let _ = eprintln!(rt; "  {path}: {error}");
+}
+
 /// Tells why a file cannot be read, if it cannot.
-fn tell_cause<R: Files + Eprint>(rt: &R, path: &str) {
+pub fn tell_cause<R: Files + Eprint>(rt: &R, path: &str) {
     if let Some(error) = cause(rt, path) {
-        let _ = eprintln!(rt; "  {path}: {error}");
+        tell_path(rt, path, &error);
     }
 }
 
-/// Tells on standard error what stands beside a fault, where that is asked for. It changes nothing else.
-pub fn tell<R: Files + Eprint + AllocGlobal>(rt: &R, paths: &Paths<'_>, fault: &RunFault) {
-    let Some(form) = paths.context else {
-        return;
-    };
-    let text = match fault {
-        RunFault::Config(fault) => match whole(rt, paths.config, MOST_CONFIG_BYTES) {
-            Some(text) => config_beside(rt.alloc(), text.as_slice(), fault),
-            None => None,
-        },
-        RunFault::Text(fault) => text_beside(rt, paths, form, *fault),
-        RunFault::Read => {
-            tell_cause(rt, paths.config);
-            if !is_input(paths, form) {
-                tell_cause(rt, paths.text);
-            }
-            None
-        }
-        _ => None,
-    };
-    let Some(text) = text else {
-        return;
-    };
-    if let Ok(shown) = str::from_utf8(text.as_slice()) {
+/// Tells what stands beside a fault.
+fn tell_beside<R: Eprint>(rt: &R, text: &[u8]) {
+    if let Ok(shown) = str::from_utf8(text) {
         let _ = eprint!(rt; "{shown}");
     }
 }
 
-/// Tells on standard error what stands beside a fault of a question, where that is asked for.
+/// Tells the line of a fault, and gives the fault with its text, where that is asked for and the text has it still.
+fn tell_line<R: Files + Eprint + AllocGlobal>(
+    rt: &R,
+    paths: &Paths<'_>,
+    telling: Telling,
+    config: &[u8],
+    fault: &RunFault,
+) -> Option<Found> {
+    if telling.line == LineForm::Gcc {
+        let found = find_again(rt, paths, telling.text, config, fault);
+        let spot = match &found {
+            Some(found) => spot_in(rt.alloc(), telling.text, config, found),
+            None => None,
+        };
+        tell_placed(rt, paths, fault, spot);
+        return found;
+    }
+    tell_plainly(rt, paths, fault);
+    if paths.context.is_some() {
+        find_again(rt, paths, telling.text, config, fault)
+    } else {
+        None
+    }
+}
+
+/// Tells a fault of a run that has read this configuration: its line, and below it why the other text cannot be read, or with `--context`
+/// the place of the fault.
+pub fn tell<R: Files + Eprint + AllocGlobal>(
+    rt: &R,
+    paths: &Paths<'_>,
+    telling: Telling,
+    config: &[u8],
+    fault: &RunFault,
+) {
+    let found = tell_line(rt, paths, telling, config, fault);
+    if matches!(fault, RunFault::Read) && paths.text != STANDARD_INPUT {
+        tell_cause(rt, paths.text);
+    }
+    if paths.context.is_none() {
+        return;
+    }
+    let text = match &found {
+        Some(found) => beside(rt.alloc(), telling.text, config, found),
+        None => advice(rt.alloc(), paths, telling.text, fault),
+    };
+    if let Some(text) = text {
+        tell_beside(rt, text.as_slice());
+    }
+}
+
+/// Tells what stands beside a fault of a question, where that is asked for.
 pub fn tell_question<R: Eprint + AllocGlobal>(
     rt: &R,
     paths: &Paths<'_>,
@@ -131,9 +249,7 @@ pub fn tell_question<R: Eprint + AllocGlobal>(
     if paths.context.is_none() {
         return;
     }
-    if let Ok(text) = question_context(rt.alloc(), question.as_bytes(), fault, place)
-        && let Ok(shown) = str::from_utf8(text.as_slice())
-    {
-        let _ = eprint!(rt; "{shown}");
+    if let Ok(text) = question_context(rt.alloc(), question.as_bytes(), fault, place) {
+        tell_beside(rt, text.as_slice());
     }
 }

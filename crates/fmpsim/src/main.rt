@@ -1,30 +1,42 @@
 //! fmpsim: reads a configuration and another text from files, or that text from standard input. Writes the trace of the
 //! machine's answers to events or of processors that follow scripts, or what every order of these shows, or whether and where
-//! a trace is what the machine answers, or the waveform of a trace, or a page that shows it.
-//! Or it lists what may be written in these texts.
+//! a trace is what the machine answers, or the waveform of a trace, or a page that shows it. From a configuration alone it
+//! writes the save file by which a viewer shows all of a waveform.
+//! Or it lists what may be written in these texts, or what was read of a configuration.
 #![tactic(auto)]
 
 mod beside;
+mod lines;
 mod output;
+mod progress;
+mod scripts;
+mod texts;
 
+use beside::Telling;
 use clap::error::ErrorKind;
 use fmp_check::Verdict;
 use fmp_colour::ColourSink;
 use fmp_context::TextForm;
+use fmp_diagnostics::{LineForm, line_form, without_option};
 use fmp_explore_command::ExploreRequest;
 use fmp_shrink_command::ShrinkRequest;
 use fmp_smp_command::SmpRequest;
-use fmpsim_cli::{Asked, Paths, Request, Told};
-use fmpsim_commands::{answer, judge, play, search, shrink};
-use fmpsim_explore::QuestionLine;
-use fmpsim_run::{FaultLine, ReadSource, RunFault, Status, WriteSink};
-use output::{Ending, is_coloured, settled, settled_search};
+use fmp_wave::run_save;
+use fmpsim_cli::{Asked, Described, Paths, Request, Told};
+use fmpsim_commands::{answer, judge, search, search_from, shrink};
+use fmpsim_explore::Progress;
+use fmpsim_list::run_list;
+use fmpsim_run::{MemSource, ReadSource, RunFault, Status, WriteSink, run_life};
+use output::{Ending, is_coloured, kept, settled, settled_begun, settled_life, settled_search};
+use progress::ProgressLine;
+use scripts::Misfit;
 use std::io::{Input, IsTerminal, Read, Write};
 use std::process::ExitCode;
-use std::rt::{Env, Files};
+use std::rt::{Clock, Env, Files};
 use std::sync::Wait;
 use std::thread::Threads;
-use std::{env, fs, io};
+use std::{env, io};
+use texts::{both_opened, both_taken, config_alone, trace_read};
 
 /// The paths where no text is at fault.
 const NO_PATHS: Paths<'static> = Paths {
@@ -33,24 +45,20 @@ const NO_PATHS: Paths<'static> = Paths {
     context: None,
 };
 
-/// The path in whose place events or scripts are read from standard input.
-pub const STANDARD_INPUT: &str = "-";
-
 /// Writes what the machine answers, each event's part as it comes.
-fn answered<R, C, E>(
+fn answered<R, E>(
     rt: &R,
-    config: C,
+    config: &[u8],
     events: E,
     told: Told,
     coloured: bool,
 ) -> Result<Status, Ending>
 where
     R: Print + AllocGlobal,
-    C: Read + Drop,
     E: Read + Drop,
 {
     let alloc = rt.alloc();
-    let mut config = ReadSource::new(config);
+    let mut config = MemSource::new(config);
     let mut events = ReadSource::new(events);
     let mut sink = WriteSink::new(alloc, io::writer(rt))?;
     if coloured {
@@ -62,30 +70,73 @@ where
     settled(run, sink.is_closed())
 }
 
-/// The file at a path, opened to be read. The fault is `Read` where it cannot be.
-fn opened<R: Files>(rt: &R, path: &str) -> Result<R::File, RunFault> {
-    fs::open(rt, path).map_err(|_| RunFault::Read)
-}
-
-/// Opens both files, before either is read.
-fn both_opened<R: Files>(rt: &R, paths: &Paths<'_>) -> Result<(R::File, R::File), RunFault> {
-    let config = opened(rt, paths.config)?;
-    let text = opened(rt, paths.text)?;
-    Ok((config, text))
-}
-
-/// Opens both files, or takes the events from standard input.
+/// Reads both texts, and writes what the machine answers.
 fn calls<R: Files + Input + Print + AllocGlobal>(
     rt: &R,
     paths: &Paths<'_>,
     told: Told,
     coloured: bool,
 ) -> Result<Status, Ending> {
-    if paths.text == STANDARD_INPUT {
-        return answered(rt, opened(rt, paths.config)?, rt.reader(), told, coloured);
+    let (config, events) = both_taken(rt, paths)?;
+    let run = answered(rt, config.as_slice(), events, told, coloured);
+    kept(run, config)
+}
+
+/// Writes what the events change of the things with these names, each change as its event comes.
+fn followed<R, E>(
+    rt: &R,
+    config: &[u8],
+    events: E,
+    names: &str,
+    coloured: bool,
+) -> Result<Status, Ending>
+where
+    R: Print + AllocGlobal,
+    E: Read + Drop,
+{
+    let alloc = rt.alloc();
+    let names = names.as_bytes();
+    let mut config = MemSource::new(config);
+    let mut events = ReadSource::new(events);
+    let mut sink = WriteSink::new(alloc, io::writer(rt))?;
+    if coloured {
+        let mut colours = ColourSink::new(sink);
+        let run = run_life(alloc, &mut config, &mut events, names, &mut colours);
+        settled_life(run, colours.below().is_closed())?;
+        return Ok(Status::Done);
     }
-    let (config, events) = both_opened(rt, paths)?;
-    answered(rt, config, events, told, coloured)
+    let run = run_life(alloc, &mut config, &mut events, names, &mut sink);
+    settled_life(run, sink.is_closed())?;
+    Ok(Status::Done)
+}
+
+/// Reads both texts, and writes what changes of the things with these names.
+fn life<R: Files + Input + Print + AllocGlobal>(
+    rt: &R,
+    paths: &Paths<'_>,
+    names: &str,
+    coloured: bool,
+) -> Result<Status, Ending> {
+    let (config, events) = both_taken(rt, paths)?;
+    let run = followed(rt, config.as_slice(), events, names, coloured);
+    kept(run, config)
+}
+
+/// How a run that is asked for some things ends the program. A fault is told, and a name that names nothing.
+fn lived<R: Files + Eprint + AllocGlobal>(
+    rt: &R,
+    paths: &Paths<'_>,
+    line: LineForm,
+    names: &str,
+    run: Result<Status, Ending>,
+) -> Status {
+    if let Err(Ending::Name(index)) = &run {
+        let path = paths.config;
+        let name = names.split(',').nth(*index).unwrap_or("");
+        let _ = eprintln!(rt; "fmpsim: --of: {path} has nothing called '{name}'");
+    }
+    let text = TextForm::Events;
+    ended(rt, paths, Telling { line, text }, run)
 }
 
 /// Writes what is asked of a trace, and judges it.
@@ -96,14 +147,20 @@ fn judged<R: Files + Print + AllocGlobal>(
 ) -> Result<Verdict, Ending> {
     let alloc = rt.alloc();
     let (config, trace) = both_opened(rt, paths)?;
-    let mut config = ReadSource::new(config);
     let mut trace = ReadSource::new(trace);
     let mut sink = WriteSink::new(alloc, io::writer(rt))?;
-    let run = judge(alloc, &mut config, &mut trace, &mut sink, asked);
-    settled(run, sink.is_closed())
+    let run = judge(
+        alloc,
+        &mut MemSource::new(config.as_slice()),
+        &mut trace,
+        &mut sink,
+        asked,
+    );
+    kept(settled(run, sink.is_closed()), config)
 }
 
-/// Writes what is asked of a trace. Of one that is not the machine's there is neither waveform nor page, and that is told.
+/// Writes what is asked of a trace. Of one that is not the machine's there is no waveform, and a page only with its differences: else
+/// that is told.
 fn trace<R: Files + Print + Eprint + AllocGlobal>(
     rt: &R,
     paths: &Paths<'_>,
@@ -117,89 +174,68 @@ fn trace<R: Files + Print + Eprint + AllocGlobal>(
     Ok(Status::of_verdict(verdict))
 }
 
-/// Writes the trace of processors that follow scripts, in threads or in the order of the seed.
-fn played<R, C, S>(
-    rt: &R,
-    config: C,
-    scripts: S,
-    request: &SmpRequest<'_>,
-    coloured: bool,
-) -> Result<Status, Ending>
-where
-    R: Print + AllocGlobal + Threads + Wait + Sync,
-    C: Read + Drop,
-    S: Read + Drop,
-{
+/// Writes GTKWave's save file for a configuration.
+fn saved<R: Files + Print + AllocGlobal>(rt: &R, paths: &Paths<'_>) -> Result<Status, Ending> {
     let alloc = rt.alloc();
-    let mut config = ReadSource::new(config);
-    let mut scripts = ReadSource::new(scripts);
-    let mut trace = WriteSink::new(alloc, io::writer(rt))?;
-    if coloured {
-        let mut colours = ColourSink::new(trace);
-        let run = play(rt, alloc, &mut config, &mut scripts, &mut colours, request);
-        return settled(run, colours.below().is_closed());
-    }
-    let run = play(rt, alloc, &mut config, &mut scripts, &mut trace, request);
-    settled(run, trace.is_closed())
-}
-
-/// Opens both files, or takes the scripts from standard input.
-fn smp<R: Files + Input + Print + AllocGlobal + Threads + Wait + Sync>(
-    rt: &R,
-    paths: &Paths<'_>,
-    request: &SmpRequest<'_>,
-    coloured: bool,
-) -> Result<Status, Ending> {
-    if paths.text == STANDARD_INPUT {
-        return played(
-            rt,
-            opened(rt, paths.config)?,
-            rt.reader(),
-            request,
-            coloured,
-        );
-    }
-    let (config, scripts) = both_opened(rt, paths)?;
-    played(rt, config, scripts, request, coloured)
+    let config = config_alone(rt, paths)?;
+    let mut sink = WriteSink::new(alloc, io::writer(rt))?;
+    let run = run_save(alloc, &mut MemSource::new(config.as_slice()), &mut sink);
+    kept(settled(run, sink.is_closed()), config)?;
+    Ok(Status::Done)
 }
 
 /// Writes whether an order of what scripts ask shows what the request asks.
-fn searched<R, C, S>(
-    rt: &R,
-    config: C,
-    scripts: S,
-    request: &ExploreRequest<'_>,
-) -> Result<Status, Ending>
-where
-    R: Print + AllocGlobal,
-    C: Read + Drop,
-    S: Read + Drop,
-{
-    let alloc = rt.alloc();
-    let mut config = ReadSource::new(config);
-    let mut scripts = ReadSource::new(scripts);
-    let mut output = WriteSink::new(alloc, io::writer(rt))?;
-    let run = search(alloc, &mut config, &mut scripts, &mut output, request);
-    settled_search(run, output.is_closed())
-}
-
-/// Opens both files, or takes the scripts from standard input.
-fn explore<R: Files + Input + Print + AllocGlobal>(
+fn explore<R: Files + Input + Print + Eprint + Clock + AllocGlobal>(
     rt: &R,
     paths: &Paths<'_>,
     request: &ExploreRequest<'_>,
+    line: &mut ProgressLine<'_, R>,
 ) -> Result<Status, Ending> {
-    if paths.text == STANDARD_INPUT {
-        return searched(rt, opened(rt, paths.config)?, rt.reader(), request);
-    }
-    let (config, scripts) = both_opened(rt, paths)?;
-    searched(rt, config, scripts, request)
+    let alloc = rt.alloc();
+    let (config, scripts) = both_taken(rt, paths)?;
+    let mut scripts = ReadSource::new(scripts);
+    let mut output = WriteSink::new(alloc, io::writer(rt))?;
+    let run = search(
+        alloc,
+        &mut MemSource::new(config.as_slice()),
+        &mut scripts,
+        &mut output,
+        request,
+        line,
+    );
+    kept(settled_search(run, output.is_closed()), config)
+}
+
+/// Writes whether one of the orders that go on from the trace at this path does.
+fn explore_from<R: Files + Input + Print + Eprint + Clock + AllocGlobal>(
+    rt: &R,
+    paths: &Paths<'_>,
+    request: &ExploreRequest<'_>,
+    begun: &str,
+    line: &mut ProgressLine<'_, R>,
+) -> Result<Status, Ending> {
+    let alloc = rt.alloc();
+    let (config, scripts) = both_taken(rt, paths)?;
+    let begun = trace_read(rt, begun)?;
+    let mut scripts = ReadSource::new(scripts);
+    let mut output = WriteSink::new(alloc, io::writer(rt))?;
+    let run = search_from(
+        alloc,
+        &mut MemSource::new(config.as_slice()),
+        &mut scripts,
+        begun.as_slice(),
+        &mut output,
+        request,
+        line,
+    );
+    kept(settled_begun(run, output.is_closed()), config)
 }
 
 /// How a run that answers a question ends the program. A fault is told.
 fn replied<R: Files + Eprint + AllocGlobal>(
     rt: &R,
     paths: &Paths<'_>,
+    telling: Telling,
     question: &str,
     run: Result<Status, Ending>,
 ) -> Status {
@@ -207,72 +243,88 @@ fn replied<R: Files + Eprint + AllocGlobal>(
         Err(Ending::Question(fault, place)) => Some((*fault, *place)),
         _ => None,
     };
-    let status = ended(rt, paths, run);
+    let status = ended(rt, paths, telling, run);
     if let Some((fault, place)) = asked {
         beside::tell_question(rt, paths, question, fault, place);
     }
     status
 }
 
+/// Tells what is wrong with the trace, at this path, with which a search was to begin.
+fn tell_begun<R: Files + Eprint>(rt: &R, path: &str, line: LineForm, run: &Result<Status, Ending>) {
+    match run {
+        Err(Ending::NoTrace) => {
+            lines::tell_plainly(rt, &NO_PATHS, &RunFault::Read);
+            beside::tell_cause(rt, path);
+        }
+        Err(Ending::LongTrace) => {
+            let _ = eprintln!(rt; "fmpsim: {path}: too long");
+        }
+        Err(Ending::Stray(number)) => lines::tell_stray(rt, line, path, *number),
+        _ => {}
+    }
+}
+
 /// How a search ends the program. A fault is told.
-fn explored<R: Files + Input + Print + Eprint + AllocGlobal>(
+fn explored<R: Files + Input + Print + Eprint + Clock + AllocGlobal>(
     rt: &R,
     request: &ExploreRequest<'_>,
+    line: LineForm,
+    is_terminal: bool,
 ) -> Status {
     let paths = Paths {
         config: request.config,
         text: request.scripts,
         context: request.context.then_some(TextForm::Scripts),
     };
-    let run = explore(rt, &paths, request);
-    replied(rt, &paths, request.question, run)
+    let telling = Telling {
+        line,
+        text: TextForm::Scripts,
+    };
+    let mut progress = ProgressLine::new(rt, is_terminal);
+    let run = match request.from {
+        Some(begun) => explore_from(rt, &paths, request, begun, &mut progress),
+        None => explore(rt, &paths, request, &mut progress),
+    };
+    progress.end();
+    tell_begun(rt, request.from.unwrap_or(""), line, &run);
+    replied(rt, &paths, telling, request.question, run)
 }
 
 /// Writes the events that are needed to show what the request asks.
-fn shortened<R, C, E>(
-    rt: &R,
-    config: C,
-    events: E,
-    request: &ShrinkRequest<'_>,
-) -> Result<Status, Ending>
-where
-    R: Print + AllocGlobal,
-    C: Read + Drop,
-    E: Read + Drop,
-{
-    let alloc = rt.alloc();
-    let mut config = ReadSource::new(config);
-    let mut events = ReadSource::new(events);
-    let mut output = WriteSink::new(alloc, io::writer(rt))?;
-    let run = shrink(alloc, &mut config, &mut events, &mut output, request);
-    settled_search(run, output.is_closed())
-}
-
-/// Opens both files, or takes the events from standard input.
-fn shortened_from<R: Files + Input + Print + AllocGlobal>(
+fn shortened<R: Files + Input + Print + AllocGlobal>(
     rt: &R,
     paths: &Paths<'_>,
     request: &ShrinkRequest<'_>,
 ) -> Result<Status, Ending> {
-    if paths.text == STANDARD_INPUT {
-        return shortened(rt, opened(rt, paths.config)?, rt.reader(), request);
-    }
-    let (config, events) = both_opened(rt, paths)?;
-    shortened(rt, config, events, request)
+    let alloc = rt.alloc();
+    let (config, events) = both_taken(rt, paths)?;
+    let mut events = ReadSource::new(events);
+    let mut output = WriteSink::new(alloc, io::writer(rt))?;
+    let run = shrink(
+        alloc,
+        &mut MemSource::new(config.as_slice()),
+        &mut events,
+        &mut output,
+        request,
+    );
+    kept(settled_search(run, output.is_closed()), config)
 }
 
 /// How leaving events out ends the program. A fault is told, and where the answers to the events do not show what is asked.
 fn shrunk<R: Files + Input + Print + Eprint + AllocGlobal>(
     rt: &R,
     request: &ShrinkRequest<'_>,
+    line: LineForm,
 ) -> Status {
     let paths = Paths {
         config: request.config,
         text: request.events,
         context: request.context.then_some(TextForm::Events),
     };
-    let run = shortened_from(rt, &paths, request);
-    let status = replied(rt, &paths, request.question, run);
+    let run = shortened(rt, &paths, request);
+    let text = TextForm::Events;
+    let status = replied(rt, &paths, Telling { line, text }, request.question, run);
     if status == Status::Different {
         let path = paths.text;
         let _ = eprintln!(rt; "fmpsim: {path}: the answers to these events do not show it");
@@ -296,41 +348,82 @@ fn list<R: Print + Eprint + AllocGlobal>(rt: &R, name: Option<&str>) -> Result<S
     match fmp_help::about(rt.alloc(), name.as_bytes())? {
         Some(text) => written(rt, text.as_slice()),
         None => {
+            let near = fmp_help::near_word(rt.alloc(), name.as_bytes())?;
             let _ = eprintln!(rt; "fmpsim: nothing is called {name}: see fmpsim list");
+            if let Some(Ok(near)) = near.map(|near| str::from_utf8(near)) {
+                let _ = eprintln!(rt; "  near: {near}");
+            }
             Ok(Status::Usage)
         }
     }
 }
 
-/// Tells a fault on standard error, and how it ends the program.
-fn failed<R: Eprint>(rt: &R, paths: &Paths<'_>, fault: &RunFault) -> Status {
-    let line = FaultLine {
-        config: paths.config,
-        text: paths.text,
-        fault,
+/// Writes what was read of a configuration.
+fn configured<R: Files + Print + AllocGlobal>(rt: &R, paths: &Paths<'_>) -> Result<Status, Ending> {
+    let alloc = rt.alloc();
+    let config = config_alone(rt, paths)?;
+    let mut output = WriteSink::new(alloc, io::writer(rt))?;
+    let run = run_list(alloc, &mut MemSource::new(config.as_slice()), &mut output);
+    kept(settled(run, output.is_closed()), config)?;
+    Ok(Status::Done)
+}
+
+/// How telling what was read of a configuration ends the program. A fault is told.
+fn described<R: Files + Print + Eprint + AllocGlobal>(
+    rt: &R,
+    request: &Described<'_>,
+    line: LineForm,
+) -> Status {
+    // No other text is read, so that of its forms any will do.
+    let text = TextForm::Events;
+    let paths = Paths {
+        config: request.config,
+        text: "",
+        context: request.context.then_some(text),
     };
-    let _ = eprintln!(rt; "{line}");
+    ended(rt, &paths, Telling { line, text }, configured(rt, &paths))
+}
+
+/// Tells a fault that is of no text on standard error, and how it ends the program.
+fn failed<R: Eprint>(rt: &R, paths: &Paths<'_>, fault: &RunFault) -> Status {
+    lines::tell_plainly(rt, paths, fault);
     fault.status()
+}
+
+/// Tells that the file at a path cannot be opened, and how that ends the program.
+fn unopened<R: Eprint>(rt: &R, paths: &Paths<'_>, path: &str, error: &io::Error) -> Status {
+    let status = failed(rt, paths, &RunFault::Read);
+    beside::tell_path(rt, path, error);
+    status
 }
 
 /// How a run ends the program. A fault is told.
 fn ended<R: Files + Eprint + AllocGlobal>(
     rt: &R,
     paths: &Paths<'_>,
+    telling: Telling,
     run: Result<Status, Ending>,
 ) -> Status {
     match run {
         Ok(status) => status,
-        Err(Ending::Unread) => Status::Device,
+        Err(Ending::Unread | Ending::NoTrace) => Status::Device,
+        Err(Ending::LongTrace | Ending::Stray(_)) => Status::Faulty,
+        Err(Ending::Name(_)) => Status::Usage,
         Err(Ending::Fault(fault)) => {
             let status = failed(rt, paths, &fault);
-            beside::tell(rt, paths, &fault);
+            if matches!(fault, RunFault::Read) {
+                beside::tell_cause(rt, paths.config);
+            }
             status
         }
+        Err(Ending::Faulty(fault, config)) => {
+            beside::tell(rt, paths, telling, config.as_slice(), &fault);
+            fault.status()
+        }
+        Err(Ending::NoConfig(error)) => unopened(rt, paths, paths.config, &error),
+        Err(Ending::NoText(error)) => unopened(rt, paths, paths.text, &error),
         Err(Ending::Question(fault, place)) => {
-            let number = place.saturating_add(1);
-            let line = QuestionLine { fault, number };
-            let _ = eprintln!(rt; "{line}");
+            lines::tell_question(rt, telling.line, fault, place);
             Status::Faulty
         }
     }
@@ -346,12 +439,21 @@ fn status_of(error: &clap::Error) -> Status {
 }
 
 /// Tells help, or what is wrong with the command line, and how that ends the program.
-fn refused<R: Files + Print + Eprint + AllocGlobal>(rt: &R, error: &clap::Error) -> Status {
+fn refused<R: Files + Print + Eprint + AllocGlobal>(
+    rt: &R,
+    error: &clap::Error,
+    line: LineForm,
+) -> Status {
+    // No text is read, so that of their forms any will do.
+    let text = TextForm::Events;
     match status_of(error) {
         Status::Memory => failed(rt, &NO_PATHS, &RunFault::Memory),
         status => match error.print(rt) {
             Ok(()) => status,
-            Err(error) => ended(rt, &NO_PATHS, Err(Ending::of_write(&error))),
+            Err(error) => {
+                let run = Err(Ending::of_write(&error));
+                ended(rt, &NO_PATHS, Telling { line, text }, run)
+            }
         },
     }
 }
@@ -362,48 +464,105 @@ fn uncoloured<R: Eprint>(rt: &R) -> Status {
     Status::Usage
 }
 
+/// Tells that the word behind `--diagnostics` is none of those for it.
+fn unformed<R: Eprint>(rt: &R) -> Status {
+    let _ = eprintln!(rt; "fmpsim: --diagnostics: wanted plain or gcc, as in --diagnostics=gcc");
+    Status::Usage
+}
+
+/// How a run of processors that follow scripts ends the program. A fault is told.
+fn scripted<R: Env + Files + Input + Print + Eprint + AllocGlobal + Threads + Wait + Sync>(
+    rt: &R,
+    request: &SmpRequest<'_>,
+    line: LineForm,
+    is_terminal: bool,
+) -> Status {
+    let Some(coloured) = is_coloured(rt, request.colour, is_terminal) else {
+        return uncoloured(rt);
+    };
+    if let Some(misfit) = Misfit::of_request(request) {
+        return misfit.tell(rt);
+    }
+    let paths = Paths {
+        config: request.config,
+        text: request.scripts,
+        context: request.context.then_some(TextForm::Scripts),
+    };
+    let telling = Telling {
+        line,
+        text: TextForm::Scripts,
+    };
+    let run = scripts::smp(rt, &paths, request, coloured);
+    replied(rt, &paths, telling, request.find.unwrap_or(""), run)
+}
+
 /// The words of the command line, in their order.
 fn words_of<R: Env + AllocGlobal>(rt: &R) -> io::Result<Vec<String>> {
     Ok(env::args(rt)?.collect(rt.alloc())?)
 }
 
-/// Does what the words ask for, at standard output that is a terminal or not.
-fn execute<R: Env + Files + Input + Print + Eprint + AllocGlobal + Threads + Wait + Sync>(
-    rt: &R,
-    words: &[String],
-    is_terminal: bool,
-) -> Status {
-    match fmpsim_cli::parse(rt.alloc(), words) {
-        Ok(Request::Calls(paths, told, colour)) => match is_coloured(rt, colour, is_terminal) {
-            Some(coloured) => ended(rt, &paths, calls(rt, &paths, told, coloured)),
-            None => uncoloured(rt),
-        },
-        Ok(Request::Trace(paths, asked)) => ended(rt, &paths, trace(rt, &paths, asked)),
-        Ok(Request::Smp(request)) => {
-            let Some(coloured) = is_coloured(rt, request.colour, is_terminal) else {
-                return uncoloured(rt);
-            };
-            let paths = Paths {
-                config: request.config,
-                text: request.scripts,
-                context: request.context.then_some(TextForm::Scripts),
-            };
-            ended(rt, &paths, smp(rt, &paths, &request, coloured))
-        }
-        Ok(Request::Explore(request)) => explored(rt, &request),
-        Ok(Request::Shrink(request)) => shrunk(rt, &request),
-        Ok(Request::List(name)) => ended(rt, &NO_PATHS, list(rt, name)),
-        Err(error) => refused(rt, &error),
+/// What the text is of which this is asked.
+fn traced_form(asked: Asked) -> TextForm {
+    match asked {
+        Asked::Partial => TextForm::Partial,
+        _ => TextForm::Trace,
     }
 }
 
-/// Does what the command line asks for, at standard output that is a terminal or not.
-fn run<R: Env + Files + Input + Print + Eprint + AllocGlobal + Threads + Wait + Sync>(
+/// Does what the words ask for, at standard output and standard error that are terminals or not. Fault lines have this form.
+fn execute<R: Env + Files + Input + Print + Eprint + Clock + AllocGlobal + Threads + Wait + Sync>(
+    rt: &R,
+    words: &[String],
+    line: LineForm,
+    is_terminal: bool,
+    is_told_at_terminal: bool,
+) -> Status {
+    let events = Telling {
+        line,
+        text: TextForm::Events,
+    };
+    match fmpsim_cli::parse(rt.alloc(), words) {
+        Ok(Request::Calls(paths, told, colour)) => match is_coloured(rt, colour, is_terminal) {
+            Some(coloured) => {
+                let run = calls(rt, &paths, told, coloured);
+                ended(rt, &paths, events, run)
+            }
+            None => uncoloured(rt),
+        },
+        Ok(Request::Life(paths, names, colour)) => match is_coloured(rt, colour, is_terminal) {
+            Some(coloured) => lived(rt, &paths, line, names, life(rt, &paths, names, coloured)),
+            None => uncoloured(rt),
+        },
+        Ok(Request::Trace(paths, asked)) => {
+            let run = trace(rt, &paths, asked);
+            let text = traced_form(asked);
+            ended(rt, &paths, Telling { line, text }, run)
+        }
+        Ok(Request::Save(paths)) => ended(rt, &paths, events, saved(rt, &paths)),
+        Ok(Request::Smp(request)) => scripted(rt, &request, line, is_terminal),
+        Ok(Request::Explore(request)) => explored(rt, &request, line, is_told_at_terminal),
+        Ok(Request::Shrink(request)) => shrunk(rt, &request, line),
+        Ok(Request::List(name)) => ended(rt, &NO_PATHS, events, list(rt, name)),
+        Ok(Request::Describe(request)) => described(rt, &request, line),
+        Err(error) => refused(rt, &error, line),
+    }
+}
+
+/// Does what the command line asks for, at standard output and standard error that are terminals or not.
+fn run<R: Env + Files + Input + Print + Eprint + Clock + AllocGlobal + Threads + Wait + Sync>(
     rt: &R,
     is_terminal: bool,
+    is_told_at_terminal: bool,
 ) -> Status {
     match words_of(rt) {
-        Ok(words) => execute(rt, words.as_slice(), is_terminal),
+        Ok(mut words) => {
+            let line = line_form(words.as_slice());
+            if line == LineForm::Other {
+                return unformed(rt);
+            }
+            without_option(&mut words);
+            execute(rt, words.as_slice(), line, is_terminal, is_told_at_terminal)
+        }
         Err(error) if error.kind() == io::ErrorKind::InvalidData => {
             let _ = eprintln!(rt; "fmpsim: a word of the command line is not UTF-8");
             Status::Usage
@@ -415,5 +574,6 @@ fn run<R: Env + Files + Input + Print + Eprint + AllocGlobal + Threads + Wait + 
 /// The program, which ends with the exit status of what it did.
 fn main(rt: HostRuntime) -> ExitCode {
     let is_terminal = rt.stdout().is_terminal();
-    ExitCode::from(run(&rt, is_terminal).code())
+    let is_told_at_terminal = rt.stderr().is_terminal();
+    ExitCode::from(run(&rt, is_terminal, is_told_at_terminal).code())
 }

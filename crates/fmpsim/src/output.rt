@@ -2,7 +2,8 @@
 use fmp_question::QuestionFault;
 use fmpsim_cli::Colour;
 use fmpsim_explore::ExploreFault;
-use fmpsim_run::RunFault;
+use fmpsim_explore_from::FromFault;
+use fmpsim_run::{LifeFault, RunFault};
 use std::alloc::AllocError;
 use std::env::VarError;
 use std::rt::Env;
@@ -13,10 +14,24 @@ use std::{env, io};
 pub enum Ending {
     /// This is told.
     Fault(RunFault),
+    /// This is told of a run that has read this configuration.
+    Faulty(RunFault, Vec<u8>),
+    /// The configuration cannot be opened, for this cause.
+    NoConfig(io::Error),
+    /// The other text cannot be opened, for this cause.
+    NoText(io::Error),
     /// Nobody reads the output any more, as behind `head`. Nothing is told of that.
     Unread,
-    /// The question about every order has this fault, at the byte of this number from 0.
+    /// The question has this fault, at the byte of this number from 0.
     Question(QuestionFault, usize),
+    /// The trace with which a search begins cannot be read.
+    NoTrace,
+    /// It is too long.
+    LongTrace,
+    /// Its line of this number, from 1, is the first that no order has there.
+    Stray(u32),
+    /// The name of this number, from 0, names nothing in the configuration.
+    Name(usize),
 }
 
 impl From<RunFault> for Ending {
@@ -32,6 +47,15 @@ impl From<AllocError> for Ending {
 }
 
 impl Ending {
+    /// That of a trace with which a search was to begin, where this happened when it was read.
+    pub fn of_trace(fault: RunFault) -> Ending {
+        if matches!(fault, RunFault::Read) {
+            Ending::NoTrace
+        } else {
+            Ending::Fault(fault)
+        }
+    }
+
     /// That of a text which could not be written.
     pub fn of_write(error: &io::Error) -> Ending {
         if matches!(error.kind(), io::ErrorKind::BrokenPipe) {
@@ -39,6 +63,15 @@ impl Ending {
         } else {
             Ending::Fault(RunFault::Write)
         }
+    }
+}
+
+/// What became of a run that has read this configuration, which is kept for what stands beside a fault.
+pub fn kept<T: Drop>(run: Result<T, Ending>, config: Vec<u8>) -> Result<T, Ending> {
+    match run {
+        Ok(done) => Ok(done),
+        Err(Ending::Fault(fault)) => Err(Ending::Faulty(fault, config)),
+        Err(ending) => Err(ending),
     }
 }
 
@@ -60,6 +93,25 @@ pub fn settled_search<T: Drop>(
         Ok(done) => Ok(done),
         Err(ExploreFault::Run(fault)) => settled(Err(fault), is_closed),
         Err(ExploreFault::Question(fault, place)) => Err(Ending::Question(fault, place)),
+    }
+}
+
+/// What became of a search that begins where a trace ends, likewise.
+pub fn settled_begun<T: Drop>(search: Result<T, FromFault>, is_closed: bool) -> Result<T, Ending> {
+    match search {
+        Ok(done) => Ok(done),
+        Err(FromFault::Explore(fault)) => settled_search(Err(fault), is_closed),
+        Err(FromFault::Long) => Err(Ending::LongTrace),
+        Err(FromFault::Stray(line)) => Err(Ending::Stray(line)),
+    }
+}
+
+/// What became of a run that is asked for some things, likewise.
+pub fn settled_life<T: Drop>(run: Result<T, LifeFault>, is_closed: bool) -> Result<T, Ending> {
+    match run {
+        Ok(done) => Ok(done),
+        Err(LifeFault::Run(fault)) => settled(Err(fault), is_closed),
+        Err(LifeFault::Name(index)) => Err(Ending::Name(index)),
     }
 }
 

@@ -12,7 +12,7 @@ use Rattle.std.proofs.lemmas.Result.{IfOk-weaker}
 use Rattle.clap.specs.declared.error.Error.{Error}
 use Rattle.fmpsim_cli.specs.declared.Request.{Request}
 use Rattle.fmpsim_cli.specs.declared.Request.TheVariants as request
-use Rattle.fmpsim_cli.specs.Cli.{AsksFor, IsCalls, IsCheck, IsView, IsWave, calls_line, check_line, choice_rule, flag_rule, found_by, rows_in, view_line, wave_line}
+use Rattle.fmpsim_cli.specs.Cli.{AsksFor, AsksList, IsCalls, IsCheck, IsView, IsWave, calls_line, check_line, choice_rule, flag_rule, found_by, list_line, rows_in, view_line, wave_line}
 
 -- a parse of a command line that is known
 pub rows_found : (a line : App) (words : List Text) (m : ArgMatches) → a ≡ line → is_simple line ≡ true → HasMatchesOf a words m → rows_in m ≡ found_by line words
@@ -36,11 +36,14 @@ calls_asked r word words named asks = IfOk-weaker r _ _ go asks
   where
     go : (x : Request) → IsCalls (found_by calls_line words) x → AsksFor word words x
     go (request.Calls p t c) h = (named, h)
+    go (request.Life p s c) h = (named, h)
     go (request.Trace p a) h = absurd h
+    go (request.Save p) h = absurd h
     go (request.Smp x) h = absurd h
     go (request.Explore x) h = absurd h
     go (request.Shrink x) h = absurd h
     go (request.List x) h = absurd h
+    go (request.Describe x) h = absurd h
 
 -- what `check` is asked for, behind its name
 pub check_asked : (r : Result Request Error) (word : Option Text) (words : List Text) → word ≡ Some (codes "check")
@@ -49,11 +52,14 @@ check_asked r word words named asks = IfOk-weaker r _ _ go asks
   where
     go : (x : Request) → IsCheck (found_by check_line words) x → AsksFor word words x
     go (request.Calls p t c) h = absurd h
+    go (request.Life p s c) h = absurd h
     go (request.Trace p a) h = inl (named, h)
+    go (request.Save p) h = absurd h
     go (request.Smp x) h = absurd h
     go (request.Explore x) h = absurd h
     go (request.Shrink x) h = absurd h
     go (request.List x) h = absurd h
+    go (request.Describe x) h = absurd h
 
 -- what `wave` is asked for, behind its name
 pub wave_asked : (r : Result Request Error) (word : Option Text) (words : List Text) → word ≡ Some (codes "wave")
@@ -62,11 +68,14 @@ wave_asked r word words named asks = IfOk-weaker r _ _ go asks
   where
     go : (x : Request) → IsWave (found_by wave_line words) x → AsksFor word words x
     go (request.Calls p t c) h = absurd h
+    go (request.Life p s c) h = absurd h
     go (request.Trace p a) h = inr (inl (named, h))
+    go (request.Save p) h = (named, h)
     go (request.Smp x) h = absurd h
     go (request.Explore x) h = absurd h
     go (request.Shrink x) h = absurd h
     go (request.List x) h = absurd h
+    go (request.Describe x) h = absurd h
 
 -- what `view` is asked for, behind its name
 pub view_asked : (r : Result Request Error) (word : Option Text) (words : List Text) → word ≡ Some (codes "view")
@@ -75,8 +84,27 @@ view_asked r word words named asks = IfOk-weaker r _ _ go asks
   where
     go : (x : Request) → IsView (found_by view_line words) x → AsksFor word words x
     go (request.Calls p t c) h = absurd h
+    go (request.Life p s c) h = absurd h
     go (request.Trace p a) h = inr (inr (named, h))
+    go (request.Save p) h = absurd h
     go (request.Smp x) h = absurd h
     go (request.Explore x) h = absurd h
     go (request.Shrink x) h = absurd h
     go (request.List x) h = absurd h
+    go (request.Describe x) h = absurd h
+
+-- what `list` is asked for, behind its name
+pub list_asked : (r : Result Request Error) (word : Option Text) (words : List Text) → word ≡ Some (codes "list")
+    → IfOk r (AsksList (found_by list_line words)) → IfOk r (AsksFor word words)
+list_asked r word words named asks = IfOk-weaker r _ _ go asks
+  where
+    go : (x : Request) → AsksList (found_by list_line words) x → AsksFor word words x
+    go (request.Calls p t c) h = absurd h.2
+    go (request.Life p s c) h = absurd h.2
+    go (request.Trace p a) h = absurd h.2
+    go (request.Save p) h = absurd h.2
+    go (request.Smp x) h = absurd h.2
+    go (request.Explore x) h = absurd h.2
+    go (request.Shrink x) h = absurd h.2
+    go (request.List x) h = (named, h)
+    go (request.Describe x) h = (named, h)

@@ -4,18 +4,18 @@ ghost use Rattle.fmp_devices.specs.Devices.{IsKnown, bytes_of};
 ghost use Rattle.fmp_judging.specs.Faults.{failed_write, is_thread_fault};
 ghost use Rattle.fmp_judging.specs.Texts.{Answered, CountsReads, FirstConfigFault};
 ghost use Rattle.fmp_judging.specs.Traces.{Checked, FirstTraceFault, IsOwn, IsYes};
-ghost use Rattle.fmp_view.specs.Runs.{LeavesShown, Shown};
+ghost use Rattle.fmp_view.specs.Runs.{Contrasted, LeavesContrast, LeavesShown, Shown};
 ghost use Rattle.fmp_wave.specs.Runs.{Drawn, LeavesDrawn};
 ghost use Rattle.fmpsim_run.specs.Checks.{IsCheckBegun, verdict_text};
 ghost use Rattle.fmpsim_partial.specs.Partials.{CheckedPartly, FirstPartialFault, IsPartialBegun, IsPartlyOwn, verdict_text as partial_text};
 ghost use Rattle.fmpsim_run.specs.Reports.{IsReported, IsReportBegun};
-ghost use Rattle.fmpsim_run.specs.Scripted.{Played};
+ghost use Rattle.fmpsim_smp.specs.Scripted.{Played};
 ghost use Rattle.fmp_check.specs.declared.comparing.Shown.{Shown as AnyShown};
 ghost use Rattle.fmp_world.specs.declared.finishing.Ended.{Ended as AnyEnded};
 
 use fmp_check::Verdict;
 use fmp_devices::{Sink, Source};
-use fmp_view::run_view;
+use fmp_view::{run_differences, run_view};
 use fmp_wave::run_wave;
 use fmpsim_cli::Asked;
 use fmpsim_partial::run_partial;
@@ -71,6 +71,15 @@ pub fn judge<R: Source, S: Source, W: Sink>(
         → IfErr result (LeavesShown (bytes_of (R.left config.old)) (bytes_of (S.left trace.old)) (bytes_of (W.written output.old)) (bytes_of (W.written output.new))) }
     ensures page_none_held { asked ≡ Asked.Page → W.buffered output.old ≡ [] → result ≢ Err RunFault.Write → W.buffered output.new ≡ [] }
 
+    // The page of what the machine answers to the events of any trace, beside the lines that differ.
+    ensures contrast { asked ≡ Asked.DifferencesPage → IsKnown (R.left config.old) → IsKnown (S.left trace.old) → IsKnown (W.written output.old)
+        → IfOk result (Contrasted (bytes_of (R.left config.old)) (bytes_of (S.left trace.old)) (bytes_of (W.written output.old)) (bytes_of (W.written output.new))) }
+    ensures contrast_same { asked ≡ Asked.DifferencesPage → IsKnown (R.left config.old) → IsKnown (S.left trace.old) → IsKnown (W.written output.old)
+        → IfOk result (λ verdict. verdict ≡ Verdict.Yes → Shown (bytes_of (R.left config.old)) (bytes_of (S.left trace.old)) (bytes_of (W.written output.old)) (bytes_of (W.written output.new)) Verdict.Yes) }
+    ensures contrast_left { asked ≡ Asked.DifferencesPage → IsKnown (R.left config.old) → IsKnown (S.left trace.old) → IsKnown (W.written output.old)
+        → IfErr result (LeavesContrast (bytes_of (R.left config.old)) (bytes_of (S.left trace.old)) (bytes_of (W.written output.old)) (bytes_of (W.written output.new))) }
+    ensures contrast_none_held { asked ≡ Asked.DifferencesPage → W.buffered output.old ≡ [] → result ≢ Err RunFault.Write → W.buffered output.new ≡ [] }
+
     // Both texts were read to their ends, and nothing that was written is held back.
     ensures known { IsKnown (W.written output.old) → IsKnown (W.written output.new) }
     ensures passed { asked ≢ Asked.Waveform → asked ≢ Asked.Page → OnOk result (W.buffered output.new ≡ []) }
@@ -91,7 +100,7 @@ pub fn judge<R: Source, S: Source, W: Sink>(
     ensures partial_fault { asked ≡ Asked.Partial → IsKnown (R.left config.old) → IsKnown (S.left trace.old) → IfErr result (FirstPartialFault (bytes_of (R.left config.old)) (bytes_of (S.left trace.old))) }
 
     // After a fault that is no failed write nothing is out, but of a waveform or a page perhaps a beginning.
-    ensures unwritten { asked ≢ Asked.Waveform → asked ≢ Asked.Page → IsKnown (W.written output.old)
+    ensures unwritten { asked ≢ Asked.Waveform → asked ≢ Asked.Page → asked ≢ Asked.DifferencesPage → IsKnown (W.written output.old)
         → IfErr result (λ fault. fault ≢ RunFault.Write → bytes_of (W.written output.new) ≡ bytes_of (W.written output.old)) }
 
     // No thread was started.
@@ -107,5 +116,6 @@ pub fn judge<R: Source, S: Source, W: Sink>(
         Asked::Differences(shown) => run_report(alloc, config, trace, output, shown),
         Asked::Waveform => run_wave(alloc, config, trace, output),
         Asked::Page => run_view(alloc, config, trace, output),
+        Asked::DifferencesPage => run_differences(alloc, config, trace, output),
     }
 }

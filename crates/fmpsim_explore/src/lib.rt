@@ -15,4 +15,6 @@ pub use fault::{ExploreFault, QuestionLine};
 pub use finding::Finding;
 pub use fmp_orders::Rules;
 pub use fmp_question::QuestionFault;
+pub use fmp_search::Progress;
 pub use run::{question_from, run_explore};
+pub use telling::{never, not_within, trace_along};

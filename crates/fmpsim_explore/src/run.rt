@@ -15,6 +15,7 @@ use fmp_judging::{RunFault, texts_from};
 use fmp_names::Names;
 use fmp_orders::Rules;
 use fmp_question::{Question, ReadFault, read_question};
+use fmp_search::Progress;
 use std::alloc::Global;
 
 /// The question of a text, or its first fault.
@@ -33,14 +34,15 @@ pub fn question_from(alloc: Global, names: &Names, text: &[u8]) -> Result<Questi
 /// what the question asks.
 ///
 /// It looks at orders of at most so many lines, and has room for so many places, each of which takes 24 bytes. Where the room does not do it
-/// says for how many lines it did, and all of it was used.
-pub fn run_explore<R: Source, S: Source, W: Sink>(
+/// says for how many lines it did, and all of it was used. It tells how far it has come.
+pub fn run_explore<R: Source, S: Source, W: Sink, P: Progress>(
     alloc: Global,
     config: &mut R,
     scripts: &mut S,
     output: &mut W,
     question: &[u8],
     rules: Rules,
+    progress: &mut P,
     turns: u32,
     places: u32,
 ) -> Result<Finding, ExploreFault>
@@ -83,10 +85,20 @@ pub fn run_explore<R: Source, S: Source, W: Sink>(
         Ok(asked) => asked,
         Err(fault) => return Err(fault),
     };
-    let (finding, text) = match found(alloc, &machine, &list, rules, &asked, turns, places - 1) {
+    let (finding, text) = match found(
+        alloc,
+        &machine,
+        &list,
+        rules,
+        &asked,
+        progress,
+        turns,
+        places - 1,
+    ) {
         Ok(found) => found,
         Err(_) => return Err(ExploreFault::Run(RunFault::Memory)),
     };
+    progress.end();
     match write_out(output, text.as_slice()) {
         Ok(()) => Ok(finding),
         Err(_) => Err(ExploreFault::Run(RunFault::Write)),

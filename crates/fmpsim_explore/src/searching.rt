@@ -13,16 +13,17 @@ use fmp_machine::Config;
 use fmp_orders::{Rules, places_answer};
 use fmp_question::Question;
 use fmp_scripts::Scripts;
-use fmp_search::{Answer, explore};
+use fmp_search::{Answer, Progress, explore};
 use std::alloc::{AllocError, Global};
 
 /// What is known of all runs over places, with room for so many besides the first.
-fn answered(
+fn answered<P: Progress>(
     alloc: Global,
     config: &Config,
     scripts: &Scripts,
     rules: Rules,
     question: &Question,
+    progress: &mut P,
     turns: u32,
     more: u32,
 ) -> Result<Answer, AllocError>
@@ -32,17 +33,28 @@ fn answered(
     let mut walker = Walker::new(config, scripts, rules, question)?;
     let mut base = Walker::new(config, scripts, rules, question)?;
     let mut other = Walker::new(config, scripts, rules, question)?;
-    explore(alloc, &mut walker, &mut base, &mut other, turns, more)
+    let mut trunk = Walker::new(config, scripts, rules, question)?;
+    explore(
+        alloc,
+        &mut walker,
+        &mut base,
+        &mut other,
+        &mut trunk,
+        progress,
+        turns,
+        more,
+    )
 }
 
 /// What is known of all orders, and the text that tells it. There is room for so many places besides the
 /// first. The error is want of memory.
-pub(crate) fn found(
+pub(crate) fn found<P: Progress>(
     alloc: Global,
     config: &Config,
     scripts: &Scripts,
     rules: Rules,
     question: &Question,
+    progress: &mut P,
     turns: u32,
     more: u32,
 ) -> Result<(Finding, Vec<u8>), AllocError>
@@ -53,7 +65,9 @@ pub(crate) fn found(
     let names = config.names();
     names.validity();
     places_answer();
-    match answered(alloc, config, scripts, rules, question, turns, more)? {
+    match answered(
+        alloc, config, scripts, rules, question, progress, turns, more,
+    )? {
         Answer::Found(steps) => {
             let text = trace_along(alloc, config, scripts, rules, question, &steps)?;
             Ok((Finding::Shown, text))

@@ -15,7 +15,7 @@ use itoa::Buffer;
 use std::alloc::{AllocError, Global};
 
 /// The trace of what happens along these steps, which can be made one after the other.
-pub(crate) fn trace_along(
+pub fn trace_along(
     alloc: Global,
     config: &Config,
     scripts: &Scripts,
@@ -41,14 +41,14 @@ pub(crate) fn trace_along(
 }
 
 /// The text that no order shows it.
-pub(crate) fn never(alloc: Global) -> Result<Vec<u8>, AllocError>
+pub fn never(alloc: Global) -> Result<Vec<u8>, AllocError>
     ensures { IfOk result (λ text. text.items ≡ codes "never\n") }
 {
     Vec::from_slice(alloc, b"never\n")
 }
 
 /// The text that no order of at most so many lines does.
-pub(crate) fn not_within(alloc: Global, turns: u32) -> Result<Vec<u8>, AllocError>
+pub fn not_within(alloc: Global, turns: u32) -> Result<Vec<u8>, AllocError>
     ensures { IfOk result (λ text. text.items ≡ codes "not within " ++ decimal turns ++ codes "\n") }
 {
     let mut buffer = Buffer::new();

@@ -1,5 +1,5 @@
 -- How a run over a configuration and events ends.
-use Rattle.std.proofs.Common.{◌≡◌, ℕ, false, List, Result, Ok, Err, IfErr, OnOk, ap, sym, refl, inl, inr}
+use Rattle.std.proofs.Common.{◌≡◌, ◌∙◌, ℕ, false, List, ◌++◌, take, Result, Ok, Err, IfErr, OnOk, ap, sym, refl, inl, inr}
 use Rattle.std.proofs.lemmas.Bool.{false≢true}
 use Rattle.fmp_headline.proofs.Along.{headline_throughout}
 use Rattle.fmp_codes.specs.Records.{AreOn}
@@ -68,6 +68,11 @@ states_told config_text event_text old new c says valid all =
       all.text,
     )
 
+-- what is written of a prefix of the events, in other words
+pub prefix_as : (d : Detail) (writing : Writing) (c : Setup) → ((es : List Event) → detail_of d c es ≡ writing c es) → (events : List Event) (old new : List ℕ)
+    → IsPrefixOut (detail_of d) c events old new → IsPrefixOut writing c events old new
+prefix_as d writing c same events old new (n, text) = (n, text ∙ ap (λ (bytes : List ℕ). old ++ bytes) (same (take n events)))
+
 module _ (config_text event_text old : List ℕ) where
   -- a fault of the configuration, or before there is one
   pub nothing_out : (writing : Writing) (fault : RunFault) → is_text fault ≡ false → is_write fault ≡ false → LeavesWritten writing config_text event_text old old fault
@@ -90,17 +95,22 @@ module _ (config_text event_text old : List ℕ) where
 
   -- a fault behind a right configuration
   module _ (c : Setup) (says : SaysConfig config_text c) where
-    pub leaves_out : (d : Detail) (new : List ℕ) (fault : RunFault) → is_config fault ≡ false → Leaves d c event_text (reading_by_line c.names event_text) old new fault
-        → LeavesWritten (detail_of d) config_text event_text old new fault
-    leaves_out d new (run.Config fault) config left = absurd (false≢true (sym config))
-    leaves_out d new (run.Text fault) config (inl left) = (c, says, inl left)
-    leaves_out d new (run.Text fault) config (inr left) = (c, says, inr (left.0, left.1.0))
-    leaves_out d new run.Read config left = inr (c, says, left)
-    leaves_out d new run.Write config left = (detail_of d c (reading_by_line c.names event_text).events, record { config = c; says = says; prints = refl }, left)
-    leaves_out d new run.Memory config (inl none) = inl none
-    leaves_out d new run.Memory config (inr left) = inr (c, says, left.0)
-    leaves_out d new run.Start config left = inr (c, says, left)
-    leaves_out d new run.Disagree config left = inr (c, says, left)
+    pub leaves_out : (d : Detail) (writing : Writing) → ((es : List Event) → detail_of d c es ≡ writing c es) → (new : List ℕ) (fault : RunFault) → is_config fault ≡ false
+        → Leaves d c event_text (reading_by_line c.names event_text) old new fault → LeavesWritten writing config_text event_text old new fault
+    leaves_out d writing same new (run.Config fault) config left = absurd (false≢true (sym config))
+    leaves_out d writing same new (run.Text fault) config (inl left) =
+        (c, says, inl (record { first = left.first; text = left.text ∙ ap (λ (bytes : List ℕ). old ++ bytes) (same (reading_by_line c.names event_text).events) }))
+    leaves_out d writing same new (run.Text fault) config (inr left) = (c, says, inr (left.0, prefix_as d writing c same _ old new left.1.0))
+    leaves_out d writing same new run.Read config left = inr (c, says, prefix_as d writing c same _ old new left)
+    leaves_out d writing same new run.Write config left = (
+      detail_of d c (reading_by_line c.names event_text).events,
+      record { config = c; says = says; prints = same (reading_by_line c.names event_text).events },
+      left,
+    )
+    leaves_out d writing same new run.Memory config (inl none) = inl none
+    leaves_out d writing same new run.Memory config (inr left) = inr (c, says, prefix_as d writing c same _ old new left.0)
+    leaves_out d writing same new run.Start config left = inr (c, says, prefix_as d writing c same _ old new left)
+    leaves_out d writing same new run.Disagree config left = inr (c, says, prefix_as d writing c same _ old new left)
 
     pub first_out : (fault : RunFault) → FirstEventFault (reading_by_line c.names event_text) fault → FirstTextFault config_text event_text fault
     first_out (run.Config fault) first = tt
@@ -115,7 +125,7 @@ module _ (config_text event_text old : List ℕ) where
     pub leaves_result : {T : Type 0} (d : Detail) (new : List ℕ) (r : Result T RunFault) → IfErr r (λ fault. is_config fault ≡ false)
         → IfErr r (Leaves d c event_text (reading_by_line c.names event_text) old new) → IfErr r (LeavesWritten (detail_of d) config_text event_text old new)
     leaves_result d new (Ok done) config left = tt
-    leaves_result d new (Err fault) config left = leaves_out d new fault config left
+    leaves_result d new (Err fault) config left = leaves_out d (detail_of d) (λ es. refl) new fault config left
 
     pub first_result : {T : Type 0} (r : Result T RunFault) → IfErr r (FirstEventFault (reading_by_line c.names event_text)) → IfErr r (FirstTextFault config_text event_text)
     first_result (Ok done) first = tt
@@ -173,7 +183,7 @@ module _ (config_text event_text : List ℕ) (c : Setup) (events : List Event) (
       absurd (let told = rw read at first in cc)
   text_right names same valid fault (inr memory) = memory
 
-  events_right : (names : NameLists) → names ≡ c.names → AreValid names → (fault : RunFault) → is_config fault ≡ false → FirstEventFault (reading_by_line names event_text) fault
+  pub events_right : (names : NameLists) → names ≡ c.names → AreValid names → (fault : RunFault) → is_config fault ≡ false → FirstEventFault (reading_by_line names event_text) fault
       → IsNoFaultOfText fault
   events_right names same valid (run.Config fault) config first = absurd (false≢true (sym config))
   events_right names same valid (run.Text fault) config first = text_right names same valid fault first

@@ -1,5 +1,5 @@
 -- How a run ends whose sink passed on what it held back.
-use Rattle.std.proofs.Common.{◌≡◌, ◌⊎◌, ◌∙◌, ℕ, ◌+◌, ◌≤◌, Bool, true, false, cond, List, Result, Ok, Err, IfErr, OnOk, refl, sym, subst, arith, inl, inr}
+use Rattle.std.proofs.Common.{◌≡◌, ◌⊎◌, ◌∙◌, ℕ, ◌+◌, false, cond, List, Result, Ok, Err, IfErr, OnOk, refl, sym, arith, inl, inr}
 use Rattle.std.proofs.lemmas.Bool.{false≢true}
 use Rattle.std.proofs.lemmas.List.{append-nil}
 use Rattle.fmp_setup.specs.Setup.{Setup}
@@ -11,7 +11,7 @@ use Rattle.fmp_judging.specs.Faults.{failed_read, is_config}
 use Rattle.fmp_judging.specs.Texts.{FlushFails}
 use Rattle.fmpsim_run.specs.declared.stream.Detail.{Detail}
 use Rattle.fmpsim_run.specs.Details.{detail_of}
-use Rattle.fmpsim_run.specs.Runs.{IsPrefixOut, IsStopped}
+use Rattle.fmpsim_run.specs.Runs.{IsPrefixOut}
 use Rattle.fmpsim_run.specs.Streams.{IsAllOut, Leaves}
 use Rattle.fmpsim_run.proofs.Streaming.{all_out_begun}
 use Rattle.fmpsim_run.proofs.Traces.{all_begun, prefix_begun}

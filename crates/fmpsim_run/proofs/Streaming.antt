@@ -16,7 +16,7 @@ use Rattle.fmp_text.specs.declared.fault.TextFault.{TextFault}
 use Rattle.fmp_text.specs.Events.{Reading, faultless, reading_by_line, with_events}
 use Rattle.fmp_codes.specs.declared.records.Record.{Record}
 use Rattle.fmp_names.specs.Names.{NameLists}
-use Rattle.fmpsim_run.proofs.Traces.{all_begun, begun, boot_begun, detail_more, detail_none, entry_behind, prefix_begun, state_more}
+use Rattle.fmpsim_run.proofs.Traces.{all_begun, begun, boot_begun, detail_more, detail_none, entry_behind, prefix_begun, state_more, told_again}
 use Rattle.fmpsim_run.specs.declared.stream.Answering.{Answering}
 use Rattle.fmpsim_run.specs.declared.stream.Detail.{Detail}
 use Rattle.fmpsim_run.specs.declared.stream.Detail.TheVariants as detail
@@ -24,7 +24,7 @@ use Rattle.fmp_judging.specs.declared.fault.RunFault.{RunFault}
 use Rattle.fmp_judging.specs.declared.fault.RunFault.TheVariants as run
 use Rattle.fmp_devices.specs.Devices.{BeginsWith}
 use Rattle.fmpsim_run.specs.Runs.{IsPrefixOut}
-use Rattle.fmpsim_run.specs.Details.{behind_line, detail_of, entry_text}
+use Rattle.fmpsim_run.specs.Details.{boot_text, detail_of, entry_text, told_in}
 use Rattle.fmp_trace.specs.Lines.{most_line_bytes}
 use Rattle.fmpsim_run.specs.Room.{HasLineRoom}
 use Rattle.fmpsim_run.specs.Streams.{IsAllOut, IsAmple, Leaves, Streams}
@@ -33,24 +33,27 @@ module _ (d : Detail) (tells : Bool) (c : Setup) (text : List ℕ) (whole : Read
   -- one event was answered, and its entry written
   pub stream_step : (a b : Answering) (between : Feed) (written out remaining : List ℕ) (event : Event) → Streams d tells c text whole old a written remaining
       → ahead c.names a.feed remaining ≡ with_events (event ∷ []) (ahead c.names between remaining) → IsEndOf a.feed.rest between.rest → between.dropped ≡ a.feed.dropped
-      → b.detail ≡ a.detail → b.feed ≡ between → (a.detail ≡ detail.Line → vec_capacity a.line ≤ vec_capacity b.line)
+      → ((m : State) → Stands a.kernel m → b.detail ≡ told_in a.detail c.names (step numbered m event).0) → b.feed ≡ between → (a.detail ≡ detail.Line → vec_capacity a.line ≤ vec_capacity b.line)
       → ((m : State) → Stands a.kernel m → Stands b.kernel (step numbered m event).0) → b.count ≡ a.count + 1
       → (IsTrue tells → (m : State) → Stands a.kernel m → out ≡ written ++ entry_text a.detail c.names (a.count + 1) (step numbered m event))
       → Streams d tells c text whole old b out remaining
   stream_step a b between written out remaining event s next end dropped same feed grows state count line =
       let rest = ahead c.names b.feed remaining in
+      let before = replay numbered (booted c) s.given in
+      let next_state = (step numbered before event).0 in
       record {
-        detail = same ∙ s.detail;
         given = s.given ++ event ∷ [];
+        detail = same before s.stands ∙ ap (λ (x : Detail). told_in x c.names next_state) s.detail ∙ told_again d c.names before next_state
+            ∙ ap (told_in d c.names) (sym (state_more c s.given event));
         reading = s.reading ∙ ap (with_events s.given) (rw (← feed) at next)
             ∙ ap (λ (xs : List Event). record { events = xs; fault = rest.fault }) (sym (append_assoc s.given (event ∷ []) rest.events));
         short = λ kept fits. rw feed (end_short 32768 a.feed.rest between.rest remaining end (s.short (sym dropped ∙ ap (λ (f : Feed). f.dropped) (sym feed) ∙ kept) fits));
-        room = λ lines. omega (arith, s.room lines, grows (s.detail ∙ lines));
+        room = λ lines. omega (arith, s.room lines, grows (s.detail ∙ ap (λ (x : Detail). told_in x c.names before) lines));
         stands = rw (state_more c s.given event) (state _ s.stands);
         count = rw (count, s.count, length-append) refl;
         text = λ told.
-            line told _ s.stands ∙ ap (λ x. written ++ entry_text x c.names (a.count + 1) (step numbered (replay numbered (booted c) s.given) event)) s.detail
-            ∙ ap (λ i. written ++ entry_text d c.names (i + 1) (step numbered (replay numbered (booted c) s.given) event)) s.count
+            line told _ s.stands ∙ ap (λ (x : Detail). written ++ entry_text x c.names (a.count + 1) (step numbered before event)) s.detail
+            ∙ ap (λ i. written ++ entry_text (told_in d c.names before) c.names (i + 1) (step numbered before event)) s.count
             ∙ ap (λ xs. xs ++ entry_behind d c s.given event) (s.text told) ∙ append_assoc old (detail_of d c s.given) (entry_behind d c s.given event)
             ∙ ap (λ xs. old ++ xs) (sym (detail_more d c s.given event));
       }
@@ -59,8 +62,8 @@ module _ (d : Detail) (tells : Bool) (c : Setup) (text : List ℕ) (whole : Read
   pub stream_push : (a b : Answering) (piece written remaining rest : List ℕ) → Streams d tells c text whole old a written remaining → a.feed.ended ≡ false
       → a.feed.dropped ≡ false → remaining ≡ piece ++ rest → b.detail ≡ a.detail → b.feed ≡ pushed a.feed piece → b.kernel ≡ a.kernel → b.count ≡ a.count → b.line ≡ a.line → Streams d tells c text whole old b written rest
   stream_push a b piece written remaining rest s unended undropped split detail feed kernel count line = record {
-    detail = detail ∙ s.detail;
     given = s.given;
+    detail = detail ∙ s.detail;
     reading = s.reading ∙ ap (with_events s.given) (ap (ahead c.names a.feed) split ∙ ahead_pushed c.names a.feed piece rest unended ∙ ap (λ f. ahead c.names f rest) (sym feed));
     short = λ kept fits. rw feed (pushed_short 32768 a.feed piece rest (ap (λ (f : Feed). f.dropped) (sym feed) ∙ kept) (rw split at (s.short undropped fits)));
     room = λ lines. rw line (s.room lines);
@@ -73,8 +76,8 @@ module _ (d : Detail) (tells : Bool) (c : Setup) (text : List ℕ) (whole : Read
   pub stream_close : (a b : Answering) (written remaining rest : List ℕ) → Streams d tells c text whole old a written remaining → a.feed.ended ≡ false
       → remaining ≡ [] → rest ≡ [] → b.detail ≡ a.detail → b.feed ≡ closed a.feed → b.kernel ≡ a.kernel → b.count ≡ a.count → b.line ≡ a.line → Streams d tells c text whole old b written rest
   stream_close a b written remaining rest s unended none no_rest detail feed kernel count line = record {
-    detail = detail ∙ s.detail;
     given = s.given;
+    detail = detail ∙ s.detail;
     reading = s.reading ∙ ap (with_events s.given) (ap (ahead c.names a.feed) none ∙ ahead_closed c.names a.feed rest unended ∙ ap (λ f. ahead c.names f rest) (sym feed));
     short = λ kept fits. rw (feed, no_rest) (rw none at (s.short (ap (λ (f : Feed). f.dropped) (sym feed) ∙ kept) fits));
     room = λ lines. rw line (s.room lines);
@@ -87,8 +90,8 @@ module _ (d : Detail) (tells : Bool) (c : Setup) (text : List ℕ) (whole : Read
   pub stream_same : (a b : Answering) (written remaining : List ℕ) → Streams d tells c text whole old a written remaining
       → ahead c.names a.feed remaining ≡ ahead c.names b.feed remaining → IsEndOf a.feed.rest b.feed.rest → b.feed.dropped ≡ a.feed.dropped → b.detail ≡ a.detail → b.kernel ≡ a.kernel → b.count ≡ a.count → b.line ≡ a.line → Streams d tells c text whole old b written remaining
   stream_same a b written remaining s same end dropped detail kernel count line = record {
-    detail = detail ∙ s.detail;
     given = s.given;
+    detail = detail ∙ s.detail;
     reading = s.reading ∙ ap (with_events s.given) same;
     short = λ kept fits. end_short 32768 a.feed.rest b.feed.rest remaining end (s.short (sym dropped ∙ kept) fits);
     room = λ lines. rw line (s.room lines);
@@ -101,8 +104,8 @@ module _ (d : Detail) (tells : Bool) (c : Setup) (text : List ℕ) (whole : Read
   pub stream_passed : (a : Answering) (written out remaining : List ℕ) → (IsTrue tells → out ≡ written) → Streams d tells c text whole old a written remaining
       → Streams d tells c text whole old a out remaining
   stream_passed a written out remaining same s = record {
-    detail = s.detail;
     given = s.given;
+    detail = s.detail;
     reading = s.reading;
     short = s.short;
     room = s.room;
@@ -174,11 +177,11 @@ measure_falls old false limit taken later is fits moves =
     rw is (omega arith)
 
 -- a run begins with all of the text ahead, and what is written at boot
-pub stream_start : (d : Detail) (tells : Bool) (c : Setup) (text old written : List ℕ) (a : Answering) → a.detail ≡ d → a.feed ≡ new_feed → Stands a.kernel (booted c) → a.count ≡ 0 → HasLineRoom d (vec_capacity a.line)
-    → (IsTrue tells → written ≡ old ++ behind_line d c.names (booted c)) → Streams d tells c text (reading_by_line c.names text) old a written text
+pub stream_start : (d : Detail) (tells : Bool) (c : Setup) (text old written : List ℕ) (a : Answering) → a.detail ≡ told_in d c.names (booted c) → a.feed ≡ new_feed → Stands a.kernel (booted c) → a.count ≡ 0 → HasLineRoom d (vec_capacity a.line)
+    → (IsTrue tells → written ≡ old ++ boot_text d c.names (booted c)) → Streams d tells c text (reading_by_line c.names text) old a written text
 stream_start d tells c text old written a detail feed stands count room out = record {
-  detail = detail;
   given = [];
+  detail = detail;
   reading = sym (ap (λ f. ahead c.names f text) feed ∙ ahead_new c.names text);
   short = λ kept fits. rw feed fits;
   room = room;
@@ -189,7 +192,7 @@ stream_start d tells c text old written a detail feed stands count room out = re
 
 -- what is left where what is written at boot was not written, or not whole
 pub start_leaves : (d : Detail) (c : Setup) (text : List ℕ) (whole : Reading) (old new : List ℕ) (fault : RunFault) → (fault ≡ run.Memory → new ≡ old)
-    → (fault ≡ run.Write → BeginsWith old (behind_line d c.names (booted c)) new) → (fault ≡ run.Memory) ⊎ (fault ≡ run.Write) → Leaves d c text whole old new fault
+    → (fault ≡ run.Write → BeginsWith old (boot_text d c.names (booted c)) new) → (fault ≡ run.Memory) ⊎ (fault ≡ run.Write) → Leaves d c text whole old new fault
 start_leaves d c text whole old new fault memory write (inl is) = rw is (inl (memory is))
 start_leaves d c text whole old new fault memory write (inr is) = rw is (boot_begun d c whole.events old new (write is))
 
@@ -221,6 +224,9 @@ module _ (names : NameLists) (c : Setup) (same : names ≡ c.names) where
   named_same a between found is gives =
       let given = subst (λ (o : Option Event). Gives names a (Ok o) between) is gives in
       subst (λ (l : NameLists). Gives l a (Ok None) between) same given
+
+  pub named_detail : (d : Detail) (kept : Detail) (m : State) → kept ≡ told_in d names m → kept ≡ told_in d c.names m
+  named_detail d kept m e = e ∙ ap (λ (l : NameLists). told_in d l m) same
 
   pub named_entry : (d : Detail) (out written : List ℕ) (n : ℕ) (did : State × Record) → out ≡ written ++ entry_text d names n did → out ≡ written ++ entry_text d c.names n did
   named_entry d out written n did e = e ∙ ap (λ l. written ++ entry_text d l n did) same

@@ -1,5 +1,6 @@
--- What a run writes that tells the state after each event, too.
-use Rattle.std.specs.Prelude.{◌≡◌, ℕ, ◌+◌, List, [], ◌∷◌, ◌++◌}
+-- What a run writes that tells the state after each event, too, or what of some things changed.
+use Rattle.std.specs.Prelude.{◌≡◌, ℕ, ◌+◌, List, [], ◌∷◌, ◌++◌, map}
+use Rattle.std.specs.List.{flat_map}
 use Rattle.fmp_codes.specs.declared.records.Event.{Event}
 use Rattle.fmp_codes.specs.declared.records.Record.{Record}
 use Rattle.fmp_text.specs.TextGrammar.{SpellsText}
@@ -11,21 +12,36 @@ use Rattle.fmp_machine.specs.Step.{answers, step}
 use Rattle.fmp_safety.specs.Runs.{IsSafeThroughout}
 use Rattle.fmp_headline.specs.Headline.{HeadlineThroughout}
 use Rattle.fmp_trace.specs.Lines.{line_text}
+use Rattle.fmp_life.specs.Lives.{renewed, told_since}
 use Rattle.fmp_states.specs.States.{state_text}
 use Rattle.fmpsim_run.specs.declared.stream.Detail.{Detail}
 use Rattle.fmpsim_run.specs.declared.stream.Detail.TheVariants as detail
 use Rattle.fmp_judging.specs.Texts.{SaysConfig}
+use Rattle.fmpsim_run.specs.Lives.{life_since, with_changes}
 use Rattle.fmpsim_run.specs.Runs.{LeavesWritten, Writing, trace_of}
 use Rattle.fmp_judging.specs.declared.fault.RunFault.{RunFault}
 
--- what is written of a state, at boot and behind the line of an event that led to it
-abbrev pub behind_line : Detail → NameLists → State → List ℕ
-behind_line detail.Line lists m = []
-behind_line detail.State lists m = state_text lists m
+-- what is written of the state at boot
+abbrev pub boot_text : Detail → NameLists → State → List ℕ
+boot_text detail.Line lists m = []
+boot_text detail.State lists m = state_text lists m
+boot_text (detail.Life seen) lists m = flat_map (told_since lists m) seen
+
+-- what is written of an event that led to this state, by its line
+abbrev pub finished : Detail → NameLists → List ℕ → State → List ℕ
+finished detail.Line lists line m = line
+finished detail.State lists line m = line ++ state_text lists m
+finished (detail.Life seen) lists line m = with_changes line (flat_map (told_since lists m) seen)
 
 -- what is written of an event in line n, by what was done
 abbrev pub entry_text : Detail → NameLists → ℕ → State × Record → List ℕ
-entry_text d lists n did = line_text lists n did.1 ++ behind_line d lists did.0
+entry_text d lists n did = finished d lists (line_text lists n did.1) did.0
+
+-- what is kept in mind of what was told of a state
+abbrev pub told_in : Detail → NameLists → State → Detail
+told_in detail.Line lists m = detail.Line
+told_in detail.State lists m = detail.State
+told_in (detail.Life seen) lists m = detail.Life (map (renewed lists m) seen)
 
 -- the lines of the events from line n on, each with the state that its event led to
 abbrev pub states_from : NameLists → ℕ → State → List Event → List ℕ
@@ -40,6 +56,7 @@ states_of config events = state_text config.names (booted config) ++ states_from
 abbrev pub detail_of : Detail → Writing
 detail_of detail.Line = trace_of
 detail_of detail.State = states_of
+detail_of (detail.Life seen) = life_since seen
 
 -- The output is the state at boot, and the trace of the one text's machine over the other's events, with the state after each. Every
 -- prefix of these leads to a safe state, and the headline holds there.

@@ -8,7 +8,9 @@ use Rattle.fmp_check.specs.declared.comparing.Shown.{Shown}
 use Rattle.fmp_check.specs.declared.comparing.Shown.TheVariants.{First, Each}
 use Rattle.fmp_check.specs.Checking.{Judges}
 use Rattle.fmp_check.specs.Differences.{Contrasts}
+use Rattle.fmp_codes.specs.declared.records.Record.{Record}
 use Rattle.fmp_judging.specs.declared.fault.RunFault.{RunFault}
+use Rattle.fmpsim_run.specs.Before.{state_before}
 use Rattle.fmpsim_run.specs.Checks.{verdict_text}
 use Rattle.fmp_devices.specs.Devices.{BeginsWith}
 use Rattle.fmp_judging.specs.Texts.{SaysConfig}
@@ -19,12 +21,23 @@ head_text First verdict = verdict_text verdict
 head_text Each Yes = []
 head_text Each (No n) = codes "--- trace\n+++ machine\n"
 
--- the verdict on a trace and the lines in which it differs, by the answers of the one text's machine to the events of the other
+-- what is told of the state of the machine where the first line that differs is shown: the one before it
+abbrev pub state_shown : Shown → Setup → List Record → Verdict → List ℕ
+state_shown First c records (No n) = state_before c records n
+state_shown shown c records verdict = []
+
+-- a text that prints records was held against the answers to their events, and this is told below the verdict
+pub record Tells (shown : Shown) (c : Setup) (text : List ℕ) (verdict : Verdict) (told : List ℕ) : Type 0 where
+  pub lines : List ℕ
+  pub contrasts : Contrasts shown c text verdict lines
+  pub tells : told ≡ state_shown shown c contrasts.records verdict ++ lines
+
+-- the verdict on a trace and what is told of the line or the lines in which it differs, by the answers of the one text's machine to the events of the other
 pub record Compared (shown : Shown) (config_text trace_text : List ℕ) (verdict : Verdict) (lines : List ℕ) : Type 0 where
   pub config : Setup
   pub says : SaysConfig config_text config
   pub judges : Judges config trace_text verdict
-  pub contrasts : Contrasts shown config trace_text verdict lines
+  pub told : Tells shown config trace_text verdict lines
 
 -- the report with this verdict was written after old, all of it
 abbrev pub IsReported : Shown → List ℕ → List ℕ → List ℕ → List ℕ → Verdict → Type 0

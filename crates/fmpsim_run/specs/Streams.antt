@@ -15,7 +15,7 @@ use Rattle.fmpsim_run.specs.declared.stream.Detail.{Detail}
 use Rattle.fmpsim_run.specs.declared.stream.Detail.TheVariants as detail
 use Rattle.fmp_devices.specs.Devices.{BeginsWith}
 use Rattle.fmpsim_run.specs.Runs.{HasShortLines, IsOutBefore, IsPrefixOut}
-use Rattle.fmpsim_run.specs.Details.{detail_of}
+use Rattle.fmpsim_run.specs.Details.{detail_of, told_in}
 use Rattle.fmpsim_run.specs.Room.{HasLineRoom}
 
 -- The room that a run takes before it reads an event is enough for all that it tells: no states, and no line of the text is long.
@@ -26,8 +26,8 @@ pub record IsAmple (d : Detail) (text : List ℕ) : Type 0 where
 -- The events given so far were answered, and what is ahead gives the others, where these bytes of the text are still to come.
 -- What was written is told, or it is not.
 pub record Streams (d : Detail) (tells : Bool) (config : Setup) (event_text : List ℕ) (whole : Reading) (old : List ℕ) (a : Answering) (written remaining : List ℕ) : Type 0 where
-  pub detail : a.detail ≡ d
   pub given : List Event
+  pub detail : a.detail ≡ told_in d config.names (replay numbered (booted config) given)
   pub reading : whole ≡ with_events given (ahead config.names a.feed remaining)
   pub short : a.feed.dropped ≡ false → HasShortLines event_text → HasShortLines (a.feed.rest ++ remaining)
   pub room : HasLineRoom d (vec_capacity a.line)

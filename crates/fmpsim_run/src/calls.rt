@@ -91,7 +91,7 @@ fn answer_from_boot<S: Source, W: Sink>(
 }
 
 /// Answers the events of a text from boot on, and passes on what the sink holds back, also where the text has a fault.
-fn answer_text<S: Source, W: Sink>(
+pub(crate) fn answer_text<S: Source, W: Sink>(
     alloc: Global,
     detail: Detail,
     config: &Config,

@@ -3,9 +3,7 @@ ghost use Rattle.std.specs.Prelude.{◌≡◌, ◌≢◌, ℕ, ◌+◌, ◌-◌,
 ghost use Rattle.fmp_devices.specs.Devices.{IsKnown, bytes_of};
 ghost use Rattle.fmp_judging.specs.Faults.{failed_write, is_thread_fault};
 ghost use Rattle.fmp_judging.specs.Texts.{Answered, CountsReads, FirstConfigFault};
-ghost use Rattle.fmp_world.specs.declared.finishing.Ended.{Ended};
-ghost use Rattle.fmpsim_run.specs.Scripted.{Played};
-ghost use Rattle.fmp_judging.specs.Traces.{Checked, IsYes, FirstTraceFault};
+ghost use Rattle.fmp_judging.specs.Traces.{Checked, IsOwn, IsYes, FirstTraceFault};
 ghost use Rattle.fmpsim_run.specs.Checks.{IsCheckBegun, verdict_text};
 
 use arrayvec::ArrayString;
@@ -58,9 +56,8 @@ pub fn run_check<R: Source, S: Source, W: Sink>(
     ensures answers { IsKnown (R.left config.old) → IsKnown (S.left trace.old) → (event_text : List ℕ) → Answered (bytes_of (R.left config.old)) event_text (bytes_of (S.left trace.old))
         → IsYes result }
 
-    // So is one of processors that follow scripts, as `run_threads` and `run_seeded` write it.
-    ensures plays { IsKnown (R.left config.old) → IsKnown (S.left trace.old) → (script_text : List ℕ) (ticks turns : ℕ) (ended : Ended)
-        → Played (bytes_of (R.left config.old)) script_text ticks turns (bytes_of (S.left trace.old)) ended → IsYes result }
+    // So is any that is the machine's own, as those of processors that follow scripts.
+    ensures own { IsKnown (R.left config.old) → IsKnown (S.left trace.old) → IsOwn (bytes_of (R.left config.old)) (bytes_of (S.left trace.old)) → IsYes result }
 
     // A fault of a text is its first one.
     ensures config_fault { IsKnown (R.left config.old) → IfErr result (FirstConfigFault (bytes_of (R.left config.old))) }

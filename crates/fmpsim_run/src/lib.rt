@@ -1,20 +1,20 @@
 //! The runs of the program: texts in, a text out, through devices that can fail.
 //!
-//! A run reads a [`Source`] to its end and writes to a [`Sink`]; contracts speak of their bytes where these are known. [`run_calls`] and [`run_states`] answer each event as its line comes,
-//! on the kernel; [`run_check`] and [`run_report`] judge a trace by the plain machine; [`run_threads`] and [`run_seeded`] have
-//! processors follow scripts. Devices are in `fmp_devices`; how texts are read and judged, and what a run's faults are, in
-//! `fmp_judging`.
+//! A run reads a [`Source`] to its end and writes to a [`Sink`]; contracts speak of their bytes where these are known. [`run_calls`], [`run_states`] and [`run_life`] answer each event as its
+//! line comes, on the kernel; [`run_check`] and [`run_report`] judge a trace by the plain machine. The runs of processors that follow
+//! scripts are in `fmpsim_smp`. Devices are in `fmp_devices`; how texts are read and judged, and what a run's faults are, in `fmp_judging`.
 //!
 //! Each contract says what is written where all went well, which fault is told and that it is the first one, what is out after
 //! a fault, and which calls of the devices failed. Begin at `answered` of [`run_calls`], which is the headline: `IsAnswered` in
 //! `specs/Runs`.
 #![tactic(auto)]
 
+mod before;
 mod calls;
 mod check;
+mod lives;
 mod report;
 mod stream;
-mod threads;
 
 pub use calls::{run_calls, run_states};
 pub use check::run_check;
@@ -23,5 +23,5 @@ pub use fmp_devices::{
     write_all, write_out,
 };
 pub use fmp_judging::{FaultLine, Judged, RunFault, Status, config_from, judged_texts};
+pub use lives::{LifeFault, run_life};
 pub use report::run_report;
-pub use threads::{run_seeded, run_threads, status_of_end};

@@ -3,23 +3,45 @@ ghost use Rattle.std.specs.Prelude.{◌≡◌, ◌≢◌, ℕ, ◌+◌, ◌-◌,
 ghost use Rattle.fmp_codes.specs.declared.records.Event.{Event as AnyEvent};
 ghost use Rattle.fmp_check.specs.Checking.{Judges, PrintsAnswers};
 ghost use Rattle.fmp_check.specs.Differences.{Contrasts};
-ghost use Rattle.fmp_world.specs.declared.finishing.Ended.{Ended};
-ghost use Rattle.fmp_judging.specs.Traces.{IsFirstOfTrace, IsYes, FirstTraceFault};
+ghost use Rattle.fmp_judging.specs.Traces.{IsFirstOfTrace, IsOwn, IsYes, FirstTraceFault};
 ghost use Rattle.fmp_devices.specs.Devices.{BeginsWith, IsKnown, bytes_of};
 ghost use Rattle.fmp_judging.specs.Faults.{failed_read, failed_write, is_config, is_write, is_thread_fault};
-ghost use Rattle.fmpsim_run.specs.Reports.{Compared, IsReported, IsReportBegun, head_text, verdict_in};
+ghost use Rattle.fmpsim_run.specs.Reports.{Compared, IsReported, IsReportBegun, Tells, head_text, verdict_in};
 ghost use Rattle.fmp_judging.specs.Texts.{Answered, CountsReads, FirstConfigFault};
-ghost use Rattle.fmpsim_run.specs.Scripted.{Played};
 
+use crate::before::put_state_before;
 use crate::check::text_of;
 use fmp_check::{Comparison, Shown, Verdict, compare_lines};
 use fmp_devices::{Failed, Sink, Source, read_up_to, write_all, write_out};
 use fmp_judging::{RunFault, config_from};
 use fmp_machine::Config;
-use std::alloc::Global;
+use std::alloc::{AllocError, Global};
 
 /// What a unified diff begins with. Its names are fixed, so that no path can break its form.
 const HEADER: &[u8] = b"--- trace\n+++ machine\n";
+
+/// The same comparison, with the machine's state before the line that differs told above it. The error is want of memory.
+fn with_state(
+    alloc: Global,
+    config: &Config,
+    trace: &[u8],
+    found: Comparison,
+) -> Result<Comparison, AllocError>
+    requires { Contrasts Shown.First config.now trace.now found.verdict found.lines.items }
+    ensures verdict { IfOk result (λ more. more.verdict ≡ found.verdict) }
+    ensures told { IfOk result (λ more. Tells Shown.First config.now trace.now more.verdict more.lines.items) }
+{
+    let Verdict::No(n) = found.verdict else {
+        return Ok(found);
+    };
+    let mut lines = Vec::new(alloc);
+    put_state_before(&mut lines, config, trace, n)?;
+    lines.extend_from_slice(found.lines.as_slice())?;
+    Ok(Comparison {
+        verdict: found.verdict,
+        lines,
+    })
+}
 
 /// Reads a trace to its end, and compares it.
 fn comparison_from<S: Source>(
@@ -29,7 +51,7 @@ fn comparison_from<S: Source>(
     shown: Shown,
 ) -> Result<Comparison, RunFault>
     requires { S.failures source.old < 2 ^ 64 - 1 }
-    ensures lines { IsKnown (S.left source.old) → IfOk result (λ found. Contrasts shown config.now (bytes_of (S.left source.old)) found.verdict found.lines.items) }
+    ensures told { IsKnown (S.left source.old) → IfOk result (λ found. Tells shown config.now (bytes_of (S.left source.old)) found.verdict found.lines.items) }
     ensures verdict { IsKnown (S.left source.old) → IfOk result (λ found. Judges config.now (bytes_of (S.left source.old)) found.verdict) }
     ensures answers { IsKnown (S.left source.old) → (events : List AnyEvent) → PrintsAnswers config.now (bytes_of (S.left source.old)) events → IsYes (verdict_in result) }
     ensures read { IsKnown (S.left source.old) → OnOk result (bytes_of (S.left source.new) ≡ []) }
@@ -39,9 +61,13 @@ fn comparison_from<S: Source>(
     ensures count { S.failures source.new ≡ S.failures source.old + (if failed_read result then 1 else 0) }
 {
     let text = read_up_to(alloc, source, fmp_text::MOST_BYTES)?;
-    match compare_lines(alloc, config, text.as_slice(), shown) {
-        Ok(found) => Ok(found),
-        Err(fault) => Err(RunFault::Text(fault)),
+    let found = match compare_lines(alloc, config, text.as_slice(), shown) {
+        Ok(found) => found,
+        Err(fault) => return Err(RunFault::Text(fault)),
+    };
+    match shown {
+        Shown::First => Ok(with_state(alloc, config, text.as_slice(), found)?),
+        Shown::Each => Ok(found),
     }
 }
 
@@ -58,8 +84,7 @@ fn compared<R: Source, S: Source>(
     ensures compared { IsKnown (R.left config.old) → IsKnown (S.left trace.old) → IfOk result (λ found. Compared shown (bytes_of (R.left config.old)) (bytes_of (S.left trace.old)) found.verdict found.lines.items) }
     ensures answers { IsKnown (R.left config.old) → IsKnown (S.left trace.old) → (event_text : List ℕ) → Answered (bytes_of (R.left config.old)) event_text (bytes_of (S.left trace.old))
         → IsYes (verdict_in result) }
-    ensures plays { IsKnown (R.left config.old) → IsKnown (S.left trace.old) → (script_text : List ℕ) (ticks turns : ℕ) (ended : Ended)
-        → Played (bytes_of (R.left config.old)) script_text ticks turns (bytes_of (S.left trace.old)) ended → IsYes (verdict_in result) }
+    ensures own { IsKnown (R.left config.old) → IsKnown (S.left trace.old) → IsOwn (bytes_of (R.left config.old)) (bytes_of (S.left trace.old)) → IsYes (verdict_in result) }
     ensures config_read { IsKnown (R.left config.old) → OnOk result (bytes_of (R.left config.new) ≡ []) }
     ensures trace_read { IsKnown (S.left trace.old) → OnOk result (bytes_of (S.left trace.new) ≡ []) }
 
@@ -109,8 +134,8 @@ fn write_report<W: Sink>(
 
 /// Reads a configuration and a trace, and writes where the trace is not what the machine answers to its events.
 ///
-/// With `Shown::First` that is the verdict, as `run_check` writes it, and under a `no` the first line that differs and the
-/// machine's own. With `Shown::Each` it is a unified diff without context that makes the machine's trace of this one, which
+/// With `Shown::First` that is the verdict, as `run_check` writes it, and under a `no` the machine's state before the first line that
+/// differs, that line, and the machine's own. With `Shown::Each` it is a unified diff without context that makes the machine's trace of this one, which
 /// is empty where they are the same. docs/FORMATS.md has both forms.
 pub fn run_report<R: Source, S: Source, W: Sink>(
     alloc: Global,
@@ -139,9 +164,8 @@ pub fn run_report<R: Source, S: Source, W: Sink>(
     ensures answers { IsKnown (R.left config.old) → IsKnown (S.left trace.old) → (event_text : List ℕ) → Answered (bytes_of (R.left config.old)) event_text (bytes_of (S.left trace.old))
         → IsYes result }
 
-    // So are those of processors that follow scripts, as `run_threads` and `run_seeded` write them.
-    ensures plays { IsKnown (R.left config.old) → IsKnown (S.left trace.old) → (script_text : List ℕ) (ticks turns : ℕ) (ended : Ended)
-        → Played (bytes_of (R.left config.old)) script_text ticks turns (bytes_of (S.left trace.old)) ended → IsYes result }
+    // So are all that are the machine's own, as those of processors that follow scripts.
+    ensures own { IsKnown (R.left config.old) → IsKnown (S.left trace.old) → IsOwn (bytes_of (R.left config.old)) (bytes_of (S.left trace.old)) → IsYes result }
 
     // A fault of a text is its first one.
     ensures config_fault { IsKnown (R.left config.old) → IfErr result (FirstConfigFault (bytes_of (R.left config.old))) }

@@ -1,5 +1,5 @@
 //! Answering each event as it comes.
-ghost use Rattle.std.specs.Prelude.{◌≡◌, ◌≢◌, ◌⊎◌, ◌≤◌, ◌+◌, ◌-◌, ◌^◌, ◌<◌, ◌++◌, ℕ, Bool, List, [], true, false, IsTrue, OnOk, IfOk, IfErr, Err, Ok, length, vec_capacity, if◌then◌else◌};
+ghost use Rattle.std.specs.Prelude.{◌≡◌, ◌≢◌, ◌⊎◌, ◌≤◌, ◌+◌, ◌-◌, ◌^◌, ◌<◌, ◌++◌, ℕ, Bool, List, [], true, false, IsTrue, OnOk, IfOk, IfErr, Err, Ok, length, map, vec_capacity, if◌then◌else◌};
 ghost use Rattle.fmp_codes.specs.Records.{processor_of};
 ghost use Rattle.fmp_feed.specs.Feed.{IsDone, IsWanting, new_feed};
 ghost use Rattle.fmp_refinement.specs.Stands.{Stands};
@@ -10,7 +10,10 @@ ghost use Rattle.fmp_machine.specs.Step.{step as step_of};
 ghost use Rattle.fmp_setup.specs.Valid.{IsValid};
 ghost use Rattle.fmp_text.specs.Events.{Reading};
 ghost use Rattle.fmp_text.specs.Limits.{most_bytes, most_events};
-ghost use Rattle.fmpsim_run.specs.Details.{behind_line, entry_text};
+ghost use Rattle.fmpsim_run.specs.Details.{boot_text, entry_text, finished, told_in};
+ghost use Rattle.fmpsim_run.specs.Lives.{with_changes};
+ghost use Rattle.std.specs.List.{flat_map};
+ghost use Rattle.fmp_life.specs.Lives.{renewed, told_since};
 ghost use Rattle.fmp_devices.specs.Devices.{BeginsWith, IsKnown, bytes_of};
 ghost use Rattle.fmp_judging.specs.Faults.{failed_read, failed_write, is_config, is_read, is_write, is_thread_fault};
 ghost use Rattle.fmpsim_run.specs.Runs.{FirstEventFault};
@@ -22,6 +25,7 @@ use fmp_devices::{Failed, Sink, Source, write_all};
 use fmp_feed::EventFeed;
 use fmp_judging::RunFault;
 use fmp_kernel::Kernel;
+use fmp_life::Life;
 use fmp_machine::Config;
 use fmp_states::put_state;
 use fmp_text::Names;
@@ -29,27 +33,67 @@ use fmp_trace::trace_line;
 use std::alloc::{AllocError, Global};
 
 /// What is written of an event.
-#[derive(Clone, Copy, Debug, PartialEq, Eq)]
+#[derive(Drop)]
 pub(crate) enum Detail {
     /// Its line of the trace.
     Line,
     /// That, and the state behind it.
     State,
+    /// Both its line and those of some things, where what is told of one of these is not what was told before.
+    Life(Life),
 }
 
-/// Adds what is told of a state, at boot and behind the line of an event that led to it.
-fn put_behind(
-    detail: Detail,
+/// Adds what is told at boot, and keeps in mind what is.
+fn put_boot(
+    detail: &mut Detail,
     names: &Names,
     kernel: &Kernel,
     line: &mut Vec<u8>,
 ) -> Result<(), AllocError>
-    ensures ok { (m : State) → Stands kernel.now m → OnOk result (line.new.items ≡ line.old.items ++ behind_line detail names.now m) }
-    ensures nothing { detail ≡ Detail.Line → (result ≡ Ok tt) × (line.new ≡ line.old) }
+    ensures ok { (m : State) → Stands kernel.now m → OnOk result (line.new.items ≡ line.old.items ++ boot_text detail.old names.now m) }
+    ensures told { (m : State) → Stands kernel.now m → OnOk result (detail.new ≡ told_in detail.old names.now m) }
+    ensures nothing { detail.old ≡ Detail.Line → (result ≡ Ok tt) × (line.new ≡ line.old) }
 {
     match detail {
         Detail::Line => Ok(()),
         Detail::State => put_state(line, names, kernel),
+        Detail::Life(life) => life.put_changes(line, names, kernel),
+    }
+}
+
+/// Adds the lines of things of which something changed, or takes the line away where there are none.
+fn put_life(
+    life: &mut Life,
+    names: &Names,
+    kernel: &Kernel,
+    line: &mut Vec<u8>,
+) -> Result<(), AllocError>
+    ensures ok { (m : State) → Stands kernel.now m → OnOk result (line.new.items ≡ with_changes line.old.items (flat_map (told_since names.now m) life.old)) }
+    ensures told { (m : State) → Stands kernel.now m → OnOk result (life.new ≡ map (renewed names.now m) life.old) }
+{
+    let bytes = line.len();
+    life.put_changes(line, names, kernel)?;
+    if line.len() == bytes {
+        line.clear();
+    }
+    Ok(())
+}
+
+/// Makes of the line of an event all that is told of it, and keeps in mind what is.
+fn put_behind(
+    detail: &mut Detail,
+    names: &Names,
+    kernel: &Kernel,
+    line: &mut Vec<u8>,
+) -> Result<(), AllocError>
+    ensures ok { (m : State) → Stands kernel.now m → OnOk result (line.new.items ≡ finished detail.old names.now line.old.items m) }
+    ensures told { (m : State) → Stands kernel.now m → OnOk result (detail.new ≡ told_in detail.old names.now m) }
+    ensures nothing { detail.old ≡ Detail.Line → (result ≡ Ok tt) × (line.new ≡ line.old) }
+{
+    match detail {
+        Detail::Line => Ok(()),
+        Detail::State => put_state(line, names, kernel),
+        Detail::Life(life) => put_life(life, names, kernel, line),
     }
 }
 
@@ -108,27 +152,28 @@ impl Answering {
         self.feed.ended()
     }
 
-    /// Writes what is told before the first event: the state at boot, where states are told.
+    /// Writes what is told before the first event: the state at boot, or the lines of things, where these are told.
     pub(crate) fn begin<W: Sink>(&mut self, names: &Names, trace: &mut W) -> Result<(), RunFault>
         requires calls { W.failures trace.old < 2 ^ 64 - 1 }
-        ensures same { (self.new.detail ≡ self.old.detail) × (self.new.feed ≡ self.old.feed) × (self.new.kernel ≡ self.old.kernel) × (self.new.count ≡ self.old.count) }
+        ensures detail { (m : State) → Stands self.old.kernel m → OnOk result (self.new.detail ≡ told_in self.old.detail names.now m) }
+        ensures same { (self.new.feed ≡ self.old.feed) × (self.new.kernel ≡ self.old.kernel) × (self.new.count ≡ self.old.count) }
         ensures line { self.old.detail ≡ Detail.Line → vec_capacity self.old.line ≤ vec_capacity self.new.line }
         ensures known { IsKnown (W.written trace.old) → IsKnown (W.written trace.new) }
         ensures ok { IsKnown (W.written trace.old) → (m : State) → Stands self.old.kernel m
-            → OnOk result (bytes_of (W.written trace.new) ≡ bytes_of (W.written trace.old) ++ behind_line self.old.detail names.now m) }
+            → OnOk result (bytes_of (W.written trace.new) ≡ bytes_of (W.written trace.old) ++ boot_text self.old.detail names.now m) }
         ensures memory { IsKnown (W.written trace.old) → result ≡ Err RunFault.Memory → bytes_of (W.written trace.new) ≡ bytes_of (W.written trace.old) }
         ensures write { IsKnown (W.written trace.old) → (m : State) → Stands self.old.kernel m → result ≡ Err RunFault.Write
-            → BeginsWith (bytes_of (W.written trace.old)) (behind_line self.old.detail names.now m) (bytes_of (W.written trace.new)) }
+            → BeginsWith (bytes_of (W.written trace.old)) (boot_text self.old.detail names.now m) (bytes_of (W.written trace.new)) }
         ensures kinds { IfErr result (λ fault. (fault ≡ RunFault.Memory) ⊎ (fault ≡ RunFault.Write)) }
         ensures no_thread_fault { IfErr result (λ fault. is_thread_fault fault ≡ false) }
         ensures writes { W.failures trace.new ≡ W.failures trace.old + (if failed_write result then 1 else 0) }
     {
         self.line.clear();
-        put_behind(self.detail, names, &self.kernel, &mut self.line)?;
+        put_boot(&mut self.detail, names, &self.kernel, &mut self.line)?;
         Ok(write_all(trace, self.line.as_slice())?)
     }
 
-    /// Answers one event, and writes its line with what is told behind it.
+    /// Answers one event, and writes what is told of it.
     fn answer<W: Sink>(
         &mut self,
         names: &Names,
@@ -138,7 +183,7 @@ impl Answering {
         requires calls { W.failures trace.old < 2 ^ 64 - 1 }
         requires counts { self.old.count < 2 ^ 32 - 1 }
         requires on { (processor_of event).number ≤ length self.old.kernel.processors }
-        ensures detail { self.new.detail ≡ self.old.detail }
+        ensures detail { (m : State) → Stands self.old.kernel m → OnOk result (self.new.detail ≡ told_in self.old.detail names.now (step_of numbered m event).0) }
         ensures feed { self.new.feed ≡ self.old.feed }
         ensures stands { (m : State) → Stands self.old.kernel m → Stands self.new.kernel (step_of numbered m event).0 }
         ensures processors { length self.new.kernel.processors ≡ length self.old.kernel.processors }
@@ -160,7 +205,7 @@ impl Answering {
         few_told(&self.told);
         self.count += 1;
         trace_line(self.count, &self.told, names, &mut self.line)?;
-        put_behind(self.detail, names, &self.kernel, &mut self.line)?;
+        put_behind(&mut self.detail, names, &self.kernel, &mut self.line)?;
         Ok(write_all(trace, self.line.as_slice())?)
     }
 

@@ -17,5 +17,6 @@ returns c =
       drift = subst (λ (o : Option (List ℕ)). IsDrift o c.in_ok-drift.drift) (c.get_str.ensures ∙ first_value-rows f (codes "drift")) c.in_ok-drift.ensures;
       turns = c.in_ok-bounds.ensures.turns;
       places = c.in_ok-bounds.ensures.places;
+      from = c.get_str-from.ensures ∙ first_value-rows f (codes "from");
       context = flag_read f (codes "context") c.get_flag-context.result c.get_flag-context.ensures.none c.get_flag-context.ensures.value c.get_flag-context.ensures.other;
     }

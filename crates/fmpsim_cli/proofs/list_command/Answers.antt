@@ -5,4 +5,5 @@ use Rattle.fmpsim_cli.proofs.list_command.Goals as goal
 pub returns : goal.returns
 returns c =
     let start_is : app_of c.in_ok-start.start ≡ new_app (codes "list") = search rules in
-    c.in_ok-one.ensures.shape c.name-name.ensures.local ∙ ap₂ with_rule start_is c.name-name.ensures.rule
+    let one_is = c.in_ok-one.ensures.shape c.name-name.ensures.local ∙ ap₂ with_rule start_is c.name-name.ensures.rule in
+    c.in_ok-two.ensures.shape c.context-context.ensures.kind.local ∙ ap₂ with_rule one_is c.context-context.ensures.rule

@@ -7,4 +7,5 @@ returns c =
     let start_is : app_of c.in_ok-start.start ≡ new_app (codes "wave") = search rules in
     let one_is = c.in_ok-one.ensures.shape c.path-config.ensures.kind.optional.local ∙ ap₂ with_rule start_is c.path-config.ensures.rule in
     let two_is = c.in_ok-two.ensures.shape c.path-trace.ensures.kind.optional.local ∙ ap₂ with_rule one_is c.path-trace.ensures.rule in
-    c.in_ok-three.ensures.shape c.context-context.ensures.kind.local ∙ ap₂ with_rule two_is c.context-context.ensures.rule
+    let three_is = c.in_ok-three.ensures.shape c.in_ok-save.ensures.0 ∙ ap₂ with_rule two_is c.in_ok-save.ensures.1 in
+    c.in_ok-four.ensures.shape c.context-context.ensures.kind.local ∙ ap₂ with_rule three_is c.context-context.ensures.rule

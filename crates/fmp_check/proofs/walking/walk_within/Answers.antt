@@ -1,5 +1,6 @@
 use Rattle.std.proofs.Common.{◌≡◌, ◌<◌, ◌≤◌, ◌+◌, ◌^◌, ◌++◌, [], ◌∷◌, false, true, Some, refl, sym, ap, subst, ◌∙◌, arith}
 use Rattle.fmp_bytes.proofs.Cutting.{shorter}
+use Rattle.fmp_codes.specs.declared.records.Record.{Record}
 use Rattle.fmp_machine.specs.Boot.{booted}
 use Rattle.fmp_bytes.specs.Bytes.{pieces_of}
 use Rattle.fmp_machine.specs.Arrivals.{State, numbered}
@@ -70,10 +71,13 @@ loop-line-preserved g c =
     let after = c.in-Some.after.now in
     let told : event_of names line ≡ Some event = rw named at (c.in_ok-own.ensures.told c.if-not-own.false) in
     let state_too : c.play.new.self.plain.state ≡ (step numbered w event).0 = state_is ∙ ap (behind w) told in
-    let saw : c.watch.new.self ≡ g.W.Watcher.watched c.loop-line.watcher names n event (step numbered w event).0 =
+    let said = c.play.new.self.told in
+    let answer : said ≡ (step numbered w event).1 = c.in_ok-own.ensures.answer c.if-not-own.false in
+    let saw : c.watch.new.self ≡ g.W.Watcher.watched c.loop-line.watcher names n (step numbered w event).1 (step numbered w event).0 =
     c.in_ok-watch.ensures
-    ∙ ap (λ (lists : NameLists). g.W.Watcher.watched c.loop-line.watcher lists n event c.machine.result.now) named
-    ∙ ap (g.W.Watcher.watched c.loop-line.watcher names n event) (c.machine.ensures ∙ state_too) in
+    ∙ ap (λ (lists : NameLists). g.W.Watcher.watched c.loop-line.watcher lists n said c.machine.result.now) named
+    ∙ ap (g.W.Watcher.watched c.loop-line.watcher names n said) (c.machine.ensures ∙ state_too)
+    ∙ ap (λ (r : Record). g.W.Watcher.watched c.loop-line.watcher names n r (step numbered w event).0) answer in
     let few : n ≤ most_events = c.if-number-gt-MOST_EVENTS.false in
     let own = is_own c.args.config.now c.names-names.ensures.valid (subst AreValid named c.validity.ensures) w n few c.loop-line.invariant.goes line (rw named at test) in
     record {

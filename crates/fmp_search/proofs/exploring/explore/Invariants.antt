@@ -1,6 +1,7 @@
 use Rattle.std.proofs.Common.{◌≡◌, ◌≤◌, ◌+◌, length}
 use Rattle.fmp_search.specs.Answers.{Explored}
 use Rattle.fmp_search.specs.Growth.{AreBefore}
+use Rattle.fmp_search.specs.Trees.{StandsAt}
 use Rattle.fmp_search.proofs.exploring.explore.Given as goal
 
 abbrev pub invariant-loop-depth : goal.invariant-loop-depth
@@ -14,3 +15,5 @@ invariant-loop-depth g l =
     × (g.W.Space.origin l.other ≡ q)
     × AreBefore nodes l.begin 0
     × (l.store.most ≡ l.fn.most)
+    × (g.W.Space.origin l.trunk ≡ q)
+    × StandsAt g.W.Space.after q nodes l.stem (g.W.Space.place l.trunk) (g.W.Space.room l.trunk)

@@ -1,6 +1,7 @@
 use Rattle.std.proofs.Common.{◌≡◌}
 use Rattle.fmp_search.specs.Answers.{Explored}
 use Rattle.fmp_search.specs.Growth.{AreBefore}
+use Rattle.fmp_search.specs.Trees.{StandsAt}
 use Rattle.fmp_search.proofs.layer.open_layer.Given as goal
 
 abbrev pub invariant-loop-at : goal.invariant-loop-at
@@ -12,3 +13,4 @@ invariant-loop-at g l =
     × (g.W.Space.origin l.other ≡ q)
     × AreBefore l.store.nodes.items l.at 0
     × (l.store.most ≡ l.fn.store.most)
+    × StandsAt g.W.Space.after q l.store.nodes.items l.fn.front.stem (g.W.Space.place l.fn.trunk) (g.W.Space.room l.fn.trunk)

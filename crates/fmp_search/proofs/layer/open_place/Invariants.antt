@@ -1,6 +1,7 @@
 use Rattle.std.proofs.Common.{◌≡◌}
 use Rattle.fmp_search.specs.Answers.{Explored}
 use Rattle.fmp_search.specs.Growth.{Extends, AreTried, AreBefore}
+use Rattle.fmp_search.specs.Trees.{StandsAt}
 use Rattle.fmp_search.proofs.layer.open_place.Given as goal
 
 abbrev pub invariant-loop-step : goal.invariant-loop-step
@@ -16,3 +17,4 @@ invariant-loop-step g l =
     × (g.W.Space.origin l.other ≡ q)
     × AreBefore nodes l.fn.at l.step
     × (l.store.most ≡ l.fn.store.most)
+    × StandsAt after q nodes l.fn.front.stem (g.W.Space.place l.fn.trunk) (g.W.Space.room l.fn.trunk)

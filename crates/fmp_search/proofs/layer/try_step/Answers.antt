@@ -4,7 +4,8 @@ use Rattle.fmp_search.specs.declared.nodes.Node.{Node}
 use Rattle.fmp_search.specs.Runs.{Goes}
 use Rattle.fmp_search.specs.Growth.{AreBefore}
 use Rattle.fmp_search.proofs.Apart.{before_more}
-use Rattle.fmp_search.proofs.Trees.{made}
+use Rattle.fmp_search.specs.Trees.{StandsAt}
+use Rattle.fmp_search.proofs.Trees.{made, stands_more}
 use Rattle.fmp_search.proofs.Layers.{is-shortest}
 use Rattle.fmp_search.proofs.Growth.{stepped, leads_there, depth_there, step_there}
 use Rattle.fmp_search.proofs.layer.try_step.Goals as goal
@@ -55,3 +56,11 @@ returns-clause-steps g c =
 pub returns-clause-fills : goal.returns-clause-fills
 returns-clause-fills g c =
     subst (λ (ns : List Node). AreBefore ns c.args.at (c.args.step + 1)) (sym c.in_ok-push-2.ensures.more) (before_more c.args.store.now.nodes.items _ c.requires.before)
+
+pub returns-clause-trunk : goal.returns-clause-trunk
+returns-clause-trunk g c =
+    let q = g.W.Space.origin c.args.walker.now in
+    let place = g.W.Space.place c.args.trunk.now in
+    let room = g.W.Space.room c.args.trunk.now in
+    subst (λ (ns : List Node). StandsAt g.W.Space.after q ns c.args.front.stem place room) (sym {A = List Node} c.in_ok-push-2.ensures.more)
+    (stands_more g.W.Space.after q c.args.store.now.nodes.items _ c.args.front.stem place room c.requires.trunk)

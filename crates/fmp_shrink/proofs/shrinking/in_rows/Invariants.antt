@@ -1,4 +1,4 @@
-use Rattle.std.proofs.Common.{◌-◌, length}
+use Rattle.std.proofs.Common.{◌-◌}
 use Rattle.fmp_codes.specs.Records.{AreOn}
 use Rattle.fmp_shrink.specs.Shrinking.{IsLeft}
 use Rattle.fmp_shrink.proofs.shrinking.in_rows.Given as goal

@@ -4,7 +4,7 @@ use Rattle.fmp_smp.specs.Seeds.{IsInOrderOf}
 use Rattle.fmp_smp.proofs.Following.{Carries, carries, follows_at_first}
 use Rattle.fmp_smp.proofs.Seating.{seated_at_first}
 use Rattle.fmp_smp.proofs.Turning.{ordered_in_turn}
-use Rattle.fmp_smp.proofs.Wholes.{judged_history, whole_at_end}
+use Rattle.fmp_smp.proofs.Wholes.{judged_config, judged_history, whole_at_end}
 use Rattle.fmp_smp.proofs.seeded.run_seeded.Goals as goal
 
 pub loop-alloc-init : goal.loop-alloc-init
@@ -54,3 +54,8 @@ pub returns-clause-ticked : goal.returns-clause-ticked
 returns-clause-ticked c =
     let valid : IsValid c.args.config.now = search rules in
     ordered_in_turn c.args.seed c.args.config.now c.args.scripts.now c.args.ticks _ valid (returns-clause-order c)
+
+pub returns-clause-configured : goal.returns-clause-configured
+returns-clause-configured c =
+    let is : c.finish-run.result ≡ Some c.unwrap.result = search rules in
+    judged_config c.finish-run.result c.unwrap.result c.args.config.now c.finish-run.ensures.configured is

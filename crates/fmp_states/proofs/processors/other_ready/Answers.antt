@@ -12,7 +12,7 @@ loop-index-init c = c.new-others.ensures.items ∙ sym (ready_none listed c.args
 pub loop-index-preserved : goal.loop-index-preserved
 loop-index-preserved c =
     let k = c.args.kernel.now in
-    let tasks = c.as_slice.ensures.value ∙ c.ready-tasks.ensures.lists ∙ ap (λ (n : Pri). listed.ready k.order k.tasks c.args.p n) c.new.ensures.value in
-    c.in_ok-add_others.ensures
+    let tasks = ap (λ (n : Pri). listed.ready k.order k.tasks c.args.p n) c.new.ensures.value in
+    c.in_ok-add_ready.ensures
     ∙ ap₂ ◌++◌ c.loop-index.invariant (ap₂ without_running (ap (λ (x : Processor). x.running) c.processor-running.ensures.lists) tasks)
     ∙ sym (ready_more listed k c.args.p c.loop-index.index)

@@ -14,15 +14,16 @@ use Rattle.fmp_view.proofs.run.show.Goals as goal
 pub returns-in_err-write_all-clause-begun : goal.returns-in_err-write_all-clause-begun
 returns-in_err-write_all-clause-begun g c = λ tell records prints.
     let config = c.args.config.now in
-    let text = c.args.text.now in
+    let trace = c.args.trace.now in
+    let given = c.args.given.now in
     let old = bytes_of (g.W.Sink.written c.args.page.now) in
     let new = bytes_of (g.W.Sink.written c.write_all.new.sink) in
-    let start = start_of config text in
+    let start = start_of config trace given in
     let events = rest_of config (at_boot config) (events_of records) in
     let begun : BeginsWith old start new =
     subst (λ (xs : List ℕ). BeginsWith old xs new) (c.piece.ensures ∙ c.in_ok-showing.ensures.piece) (c.in_err-write_all.ensures.err tell) in
-    let whole : BeginsWith old (page_of config text (events_of records)) new =
-    subst (λ (xs : List ℕ). BeginsWith old xs new) (page_is config text (events_of records)) (begun_first old start events new begun) in
+    let whole : BeginsWith old (page_of config trace given (events_of records)) new =
+    subst (λ (xs : List ℕ). BeginsWith old xs new) (page_is config trace given (events_of records)) (begun_first old start events new begun) in
     on_err c.from_residual-in_err-write_all.result _ whole
 
 pub loop-line-init : goal.loop-line-init
@@ -31,7 +32,7 @@ loop-line-init g c =
     let old = bytes_of (g.W.Sink.written c.args.page.now) in
     record {
       so_far = λ records prints.
-          rw (c.names-names.ensures.value, c.in_ok-showing.ensures.before) (begins config (is_some (g.W.Sink.written c.args.page.now)) c.args.text.now old (bytes_of (g.W.Sink.written c.write_all.new.sink)) records prints
+          rw (c.names-names.ensures.value, c.in_ok-showing.ensures.before) (begins config (is_some (g.W.Sink.written c.args.page.now)) c.args.text.now c.args.trace.now c.args.given.now old (bytes_of (g.W.Sink.written c.write_all.new.sink)) records prints
           (λ tell. c.in_ok-write_all.ensures.ok tell ∙ ap (λ (xs : List ℕ). old ++ xs) (c.piece.ensures ∙ c.in_ok-showing.ensures.piece)));
       known = c.write_all.ensures.known;
       same = c.in_ok-showing.ensures.after ∙ sym c.in_ok-showing.ensures.before;

@@ -12,7 +12,7 @@ abbrev pub invariant-loop-line : goal.invariant-loop-line
 invariant-loop-line g l = record {
   so_far : (records : List Record) → PrintsWithin l.config.names l.text records
       → SoFar l.config l.names (is_some (g.W.Sink.written l.fn.page)) l.number l.showing.before l.rest (bytes_of (g.W.Sink.written l.fn.page)) (bytes_of (g.W.Sink.written l.page))
-      (page_of l.config l.text (events_of records));
+      (page_of l.config l.trace l.given (events_of records));
   known : IsKnown (g.W.Sink.written l.fn.page) → IsKnown (g.W.Sink.written l.page);
   same : l.showing.after ≡ l.showing.before;
   events : l.showing.before.events + 1 ≡ l.number;

@@ -5,10 +5,13 @@ use Rattle.fmp_orders.specs.Places.{Place, after}
 use Rattle.fmp_explore.specs.Walked.{origin_of}
 use Rattle.fmpsim_explore.proofs.searching.answered.Goals as goal
 
--- all three begin where all runs do
+-- all four begin where all runs do
 pub explore-requires-clause-origins : goal.explore-requires-clause-origins
-explore-requires-clause-origins c =
-    (ap origin_of (c.in_ok-base.ensures ∙ sym c.in_ok-walker.ensures), ap origin_of (c.in_ok-other.ensures ∙ sym c.in_ok-walker.ensures))
+explore-requires-clause-origins g c = (
+  ap origin_of (c.in_ok-base.ensures ∙ sym c.in_ok-walker.ensures),
+  ap origin_of (c.in_ok-other.ensures ∙ sym c.in_ok-walker.ensures),
+  ap origin_of (c.in_ok-trunk.ensures ∙ sym c.in_ok-walker.ensures),
+)
 
 pub returns : goal.returns
-returns c = subst (λ (w : Place). IfOk c.explore.result (λ answer. Says after is_seen w c.args.turns c.args.more answer)) (ap origin_of c.in_ok-walker.ensures) c.explore.ensures
+returns g c = subst (λ (w : Place). IfOk c.explore.result (λ answer. Says after is_seen w c.args.turns c.args.more answer)) (ap origin_of c.in_ok-walker.ensures) c.explore.ensures

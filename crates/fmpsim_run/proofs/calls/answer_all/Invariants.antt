@@ -1,4 +1,4 @@
-use Rattle.std.proofs.Common.{◌≡◌, ◌+◌, ◌-◌, ◌≤◌, ◌<◌, ℕ, List, [], Bool, IsTrue, true, cond, length}
+use Rattle.std.proofs.Common.{◌≡◌, ◌+◌, ◌-◌, ◌≤◌, ℕ, List, [], Bool, IsTrue, true, cond, length}
 use Rattle.fmp_devices.specs.Devices.{IsKnown, bytes_of}
 use Rattle.fmp_feed.specs.Feed.{IsDone, IsWanting}
 use Rattle.fmp_text.specs.Events.{Reading}

@@ -6,7 +6,7 @@ returns-in_err-found-clause-answers g c = λ tells tells_too event_text answered
     let p = err_from_is_err_and c.from_residual.result c.from_residual.ensures.1 in
     rw (p.1, p.2) (c.in_err-found.ensures.answers tells tells_too event_text answered)
 
-pub returns-in_err-found-clause-plays : goal.returns-in_err-found-clause-plays
-returns-in_err-found-clause-plays g c = λ tells tells_too script_text ticks turns ended played.
+pub returns-in_err-found-clause-own : goal.returns-in_err-found-clause-own
+returns-in_err-found-clause-own g c = λ tells tells_too own.
     let p = err_from_is_err_and c.from_residual.result c.from_residual.ensures.1 in
-    rw (p.1, p.2) (c.in_err-found.ensures.plays tells tells_too script_text ticks turns ended played)
+    rw (p.1, p.2) (c.in_err-found.ensures.own tells tells_too own)

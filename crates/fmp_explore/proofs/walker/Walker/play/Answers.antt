@@ -1,4 +1,4 @@
-use Rattle.std.proofs.Common.{◌<◌, ◌∙◌, arith, refl, sym, subst}
+use Rattle.std.proofs.Common.{◌<◌, ◌∙◌, refl, sym, subst}
 use Rattle.fmp_explore.specs.Walked.{Walked}
 use Rattle.fmp_explore.proofs.Bounds.{roomy_less}
 use Rattle.fmp_explore.proofs.Going.{went_is, counted_le}

@@ -14,3 +14,6 @@ returns-clause-run c =
     let kept : IsRunOf w.config w.records × Scripted w.config w.scripts w.records × (length w.records ≤ w.turns) = (known.run, known.scripted, known.within) in
     run_of w a.seats.cpus.items a.seats.clock a.config.now a.scripts.now a.ticks a.turns _ c.in_ok-ended.ended kept
     (subst IsValid whole.config known.valid) whole c.in_ok-ended.ensures.quiet c.receipts_of.ensures
+
+pub returns-clause-configured : goal.returns-clause-configured
+returns-clause-configured c = (c.in_ok-ended.ensures.whole.0 refl).config

@@ -1,6 +1,11 @@
 use Rattle.std.proofs.Common.{true, refl, ap, Err, ◌∙◌}
 use Rattle.std.proofs.lemmas.Result.{err_from_is_err_and}
-use Rattle.fmpsim_run.proofs.Streaming.{named_begins, named_entry, named_next, named_same, stream_same, stream_step, step_leaves}
+use Rattle.fmpsim_run.proofs.Streaming.{named_begins, named_detail, named_entry, named_next, named_same, stream_same, stream_step, step_leaves}
+use Rattle.fmp_machine.specs.Arrivals.{numbered}
+use Rattle.fmp_machine.specs.Boot.{booted}
+use Rattle.fmp_machine.specs.Step.{replay}
+use Rattle.fmpsim_run.specs.Details.{told_in}
+use Rattle.fmpsim_run.specs.declared.stream.Detail.{Detail}
 use Rattle.fmpsim_run.proofs.stream.Answering.answer_next.Goals as goal
 
 pub returns-in_ok-answer-in-Some-clause-streams : goal.returns-in_ok-answer-in-Some-clause-streams
@@ -8,7 +13,7 @@ returns-in_ok-answer-in-Some-clause-streams g c = λ d tells text whole old rema
     let names = c.names-names.ensures.value in
     let next = named_next _ c.args.config.now names c.args.self.now.feed c.next.new.self _ c.in-Some.event c.in-Some.is c.in-Ok.ensures.gives in
     stream_step d tells c.args.config.now text whole old c.args.self.now c.answer.new.self c.next.new.self _ _ remaining c.in-Some.event before (next remaining)
-    c.in-Ok.ensures.rest c.next.ensures.same.2 c.answer.ensures.detail c.answer.ensures.feed c.answer.ensures.line c.answer.ensures.stands c.answer.ensures.count
+    c.in-Ok.ensures.rest c.next.ensures.same.2 (λ m stands. named_detail _ c.args.config.now names _ _ _ (c.in_ok-answer-in-Some.ensures.detail m stands)) c.answer.ensures.feed c.answer.ensures.line c.answer.ensures.stands c.answer.ensures.count
     (λ told m stands. named_entry _ c.args.config.now names _ _ _ _ _ (c.in_ok-answer-in-Some.ensures.ok (known told) m stands))
 
 pub returns-in-None-clause-streams : goal.returns-in-None-clause-streams
@@ -24,4 +29,4 @@ returns-in_err-answer-in-Some-clause-leaves g c = λ known d text whole old rema
     let failed = c.in_err-answer-in-Some.ensures in
     rw (p.1, p.2)
     (step_leaves d true c.args.config.now text whole old c.args.self.now c.next.new.self _ _ remaining c.in-Some.event c.in_err-answer-in-Some.field-0.0 refl before (next remaining)
-    (λ is. failed.memory known (ap Err is)) (λ lines room is. failed.room (before.detail ∙ lines) room (ap Err is)) (λ m stands is. named_begins _ c.args.config.now names _ _ _ _ _ (failed.write known m stands (ap Err is))) failed.kinds)
+    (λ is. failed.memory known (ap Err is)) (λ lines room is. failed.room (before.detail ∙ ap (λ (x : Detail). told_in x c.args.config.now.names (replay numbered (booted c.args.config.now) before.given)) lines) room (ap Err is)) (λ m stands is. named_begins _ c.args.config.now names _ _ _ _ _ (failed.write known m stands (ap Err is))) failed.kinds)

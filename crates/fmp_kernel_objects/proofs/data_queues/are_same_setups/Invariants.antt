@@ -1,6 +1,0 @@
-use Rattle.std.proofs.Common.{◌≡◌, ℕ, ◌<◌, slice_index_or}
-use Rattle.fmp_dtq.specs.DataQueue.{DataQueue}
-use Rattle.fmp_kernel_objects.proofs.data_queues.are_same_setups.Given as goal
-
-abbrev pub invariant-loop-at : goal.invariant-loop-at
-invariant-loop-at l = (k : ℕ) (d e : DataQueue) → k < l.at → (slice_index_or l.queues k d).setup ≡ (slice_index_or l.others k e).setup

@@ -1,0 +1,1 @@
+mod Counted  -- One object or one function more.

@@ -1,0 +1,15 @@
+//! What was read of a configuration, as a text: a line for its processors, its timer and its limits, for each class, for each object with its
+//! number and name, and for each function.
+//!
+//! [`listing_text`] makes it. `specs/Listing` says it as a function of what the configuration says, `Fields` what stands behind an object's
+//! name, and `Classes` how classes are told. docs/FORMATS.md has its form.
+//!
+//! A field has the name that the static API gives it, and fields stand in the order of the statement that creates the object.
+#![tactic(auto)]
+
+mod classes;
+mod fields;
+mod functions;
+mod listing;
+
+pub use listing::listing_text;

@@ -1,0 +1,3 @@
+pub mod Seeing  -- How many steps may have been seen behind one event more.
+pub mod Answering  -- What is seen in the answers to a list of events.
+pub mod Short  -- A question that was read has no more steps than there may be.

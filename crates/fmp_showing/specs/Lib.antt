@@ -1,0 +1,1 @@
+pub mod Seen  -- How many steps of a question may have been seen.

@@ -1,0 +1,194 @@
+//! Processors that follow scripts: their trace on standard output, and who waits at the end on standard error.
+ghost use Rattle.std.specs.Prelude.{◌-◌, ◌<◌, ◌^◌};
+
+use crate::output::{Ending, kept, settled_search};
+use crate::texts::both_taken;
+use fmp_colour::ColourSink;
+use fmp_smp_command::{Seeds, SmpRequest};
+use fmpsim_cli::Paths;
+use fmpsim_commands::{Played, play, seek, seek_shown};
+use fmpsim_explore::ExploreFault;
+use fmpsim_run::{MemSource, ReadSource, Sink, Source, Status, WriteSink};
+use fmpsim_seeds::status_of_found as status_of_shown;
+use fmpsim_smp::{SeedFound, status_of_found};
+use std::alloc::Global;
+use std::io;
+use std::io::{Input, Read};
+use std::rt::Files;
+use std::sync::Wait;
+use std::thread::Threads;
+
+/// What is told of a run beside its trace.
+#[derive(Drop)]
+struct Outcome {
+    status: Status,
+    /// The seed that was found.
+    seed: Option<u64>,
+    /// A line for each task that waits at the end.
+    waiting: Vec<u8>,
+}
+
+impl Outcome {
+    /// That of one run.
+    fn of_run(played: Played) -> Outcome {
+        Outcome {
+            status: played.status,
+            seed: None,
+            waiting: played.waiting,
+        }
+    }
+
+    /// That of the runs of many seeds, which end the program so.
+    fn of_seeds(alloc: Global, found: Option<SeedFound>, status: Status) -> Outcome {
+        match found {
+            Some(found) => Outcome {
+                status,
+                seed: Some(found.seed),
+                waiting: found.waiting,
+            },
+            None => Outcome {
+                status,
+                seed: None,
+                waiting: Vec::new(alloc),
+            },
+        }
+    }
+
+    /// Tells it on standard error: the seed, and then the tasks.
+    fn tell<R: Eprint>(&self, rt: &R) {
+        if let Some(seed) = self.seed {
+            let _ = eprintln!(rt; "fmpsim: seed {seed}");
+        }
+        if let Ok(waiting) = str::from_utf8(self.waiting.as_slice()) {
+            for line in waiting.lines() {
+                let _ = eprintln!(rt; "fmpsim: {line}");
+            }
+        }
+    }
+}
+
+/// What is wrong with a request for the runs of seeds.
+#[derive(Clone, Copy, Debug)]
+pub enum Misfit {
+    /// The word behind `--seeds` is none of those for it, or it stands beside `--seed`.
+    Seeds,
+    /// A question is asked, and no seeds are given.
+    Question,
+}
+
+impl Misfit {
+    /// That of a request, if there is one.
+    pub fn of_request(request: &SmpRequest<'_>) -> Option<Misfit> {
+        match request.seeds {
+            Seeds::Range(_, _) if request.seed.is_none() => None,
+            Seeds::Unasked if request.find.is_none() => None,
+            Seeds::Unasked => Some(Misfit::Question),
+            Seeds::Range(_, _) | Seeds::Other => Some(Misfit::Seeds),
+        }
+    }
+
+    /// Tells it on standard error, and how it ends the program.
+    pub fn tell<R: Eprint>(self, rt: &R) -> Status {
+        let _ = match self {
+            Misfit::Seeds => eprintln!(rt;
+                "fmpsim: --seeds: wanted two numbers as in 0..999, the second not below the first, and no --seed"
+            ),
+            Misfit::Question => eprintln!(rt;
+                "fmpsim: --find: wanted --seeds too, as in --seeds 0..999"
+            ),
+        };
+        Status::Usage
+    }
+}
+
+/// Writes the trace of the first seed whose run is looked for: that shows what is asked, or at whose end a task waits.
+fn sought<R: Source, S: Source, W: Sink>(
+    alloc: Global,
+    config: &mut R,
+    scripts: &mut S,
+    trace: &mut W,
+    request: &SmpRequest<'_>,
+    first: u64,
+    last: u64,
+) -> Result<Outcome, ExploreFault>
+    requires config_calls { R.failures config.old < 2 ^ 64 - 1 }
+    requires script_calls { S.failures scripts.old < 2 ^ 64 - 1 }
+    requires trace_calls { W.failures trace.old < 2 ^ 64 - 1 }
+{
+    if let Some(question) = request.find {
+        let question = question.as_bytes();
+        let found = seek_shown(
+            alloc, config, scripts, trace, question, request, first, last,
+        )?;
+        let status = status_of_shown(&found);
+        return Ok(Outcome::of_seeds(alloc, found, status));
+    }
+    let found = seek(alloc, config, scripts, trace, request, first, last)?;
+    let status = status_of_found(&found);
+    Ok(Outcome::of_seeds(alloc, found, status))
+}
+
+/// Writes the trace of what is asked for: of one run, or of the first of many that is looked for.
+fn made<R: AllocGlobal + Threads + Wait + Sync, S: Read + Drop, W: Sink>(
+    rt: &R,
+    config: &[u8],
+    scripts: S,
+    trace: &mut W,
+    request: &SmpRequest<'_>,
+) -> Result<Outcome, ExploreFault>
+    requires { W.failures trace.old < 2 ^ 64 - 1 }
+{
+    let alloc = rt.alloc();
+    let mut config = MemSource::new(config);
+    let mut scripts = ReadSource::new(scripts);
+    if let Seeds::Range(first, last) = request.seeds {
+        return sought(
+            alloc,
+            &mut config,
+            &mut scripts,
+            trace,
+            request,
+            first,
+            last,
+        );
+    }
+    let played = play(rt, alloc, &mut config, &mut scripts, trace, request)?;
+    Ok(Outcome::of_run(played))
+}
+
+/// Writes the trace, in colours or not, and tells the rest of it.
+fn told<R, S>(
+    rt: &R,
+    config: &[u8],
+    scripts: S,
+    request: &SmpRequest<'_>,
+    coloured: bool,
+) -> Result<Status, Ending>
+where
+    R: Print + Eprint + AllocGlobal + Threads + Wait + Sync,
+    S: Read + Drop,
+{
+    let mut trace = WriteSink::new(rt.alloc(), io::writer(rt))?;
+    let run = if coloured {
+        let mut colours = ColourSink::new(trace);
+        let run = made(rt, config, scripts, &mut colours, request);
+        settled_search(run, colours.below().is_closed())?
+    } else {
+        let run = made(rt, config, scripts, &mut trace, request);
+        settled_search(run, trace.is_closed())?
+    };
+    run.tell(rt);
+    Ok(run.status)
+}
+
+/// Reads both texts, and has processors follow the scripts.
+pub fn smp<R: Files + Input + Print + Eprint + AllocGlobal + Threads + Wait + Sync>(
+    rt: &R,
+    paths: &Paths<'_>,
+    request: &SmpRequest<'_>,
+    coloured: bool,
+) -> Result<Status, Ending> {
+    let (config, scripts) = both_taken(rt, paths)?;
+    let run = told(rt, config.as_slice(), scripts, request, coloured);
+    kept(run, config)
+}

@@ -1,0 +1,19 @@
+use Rattle.std.proofs.Common.{◌∙◌, IfOk, ap, subst, sym}
+use Rattle.fmp_search.specs.Guides.{SaysAlong}
+use Rattle.fmp_orders.specs.Laws.{is_seen}
+use Rattle.fmp_orders.specs.Places.{Place, after}
+use Rattle.fmp_explore.specs.Walked.{origin_of}
+use Rattle.fmpsim_explore_from.proofs.searching.answered_along.Goals as goal
+
+-- all four begin where all runs do
+pub explore_along-requires-clause-origins : goal.explore_along-requires-clause-origins
+explore_along-requires-clause-origins g c = (
+  ap origin_of (c.in_ok-base.ensures ∙ sym c.in_ok-walker.ensures),
+  ap origin_of (c.in_ok-other.ensures ∙ sym c.in_ok-walker.ensures),
+  ap origin_of (c.in_ok-trunk.ensures ∙ sym c.in_ok-walker.ensures),
+)
+
+pub returns : goal.returns
+returns g c =
+    subst (λ (w : Place). IfOk c.explore_along.result (λ answer. SaysAlong after is_seen w c.args.choices.now c.args.turns c.args.more answer)) (ap origin_of c.in_ok-walker.ensures)
+    c.explore_along.ensures

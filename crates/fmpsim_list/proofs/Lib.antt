@@ -1,0 +1,1 @@
+mod Ended  -- A text that says a configuration has no fault.

@@ -1,0 +1,1 @@
+pub mod Runs  -- What a run that lists a configuration does.
