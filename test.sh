@@ -14,7 +14,7 @@ passed=0 failed=0 proved=
 
 # What is run of a program beside the cases: the function of this name, in the file of this name in tests/program.
 subjects=(examples texts_at_fault reports contexts diagnostics states lives colours waves views lists help_texts completions command_lines paths pipes
-    host_tests devices_that_fail scripts seeds searches shrinking processors greatest_texts long_lines little_memory refused_growth player
+    host_tests devices_that_fail scripts seeds random_events searches shrinking processors greatest_texts long_lines little_memory refused_growth player
     from_toppers from_log from_trace installing pages)
 
 # add NAME COMMAND..: runs a command that counts for itself, and adds what its last line says. That line is passed on behind its name.

@@ -37,6 +37,7 @@ complete -c fmpsim -n '__fish_seen_subcommand_from explore' -l prompt -d 'Takes 
 complete -c fmpsim -n '__fish_seen_subcommand_from explore' -l drift -x -d 'How many ticks more than another a processor may have taken, 1 to 1000000'
 complete -c fmpsim -n '__fish_seen_subcommand_from explore' -l places -x -d 'For how many places there is room, 1 to 100000000, or else for 1000000'
 complete -c fmpsim -n '__fish_seen_subcommand_from explore' -l from -r -d 'Begins where this trace ends, and not at boot'
+complete -c fmpsim -n '__fish_seen_subcommand_from explore' -l layer -r -d 'Writes there the traces from which longer orders go on, one a file'
 complete -c fmpsim -n '__fish_seen_subcommand_from explore' -l context -d 'Shows below a fault its line, its place and what is wanted there'
 complete -c fmpsim -n '__fish_seen_subcommand_from explore' -l help -d 'Print help'
 complete -c fmpsim -n __fish_use_subcommand -f -a shrink -d 'Leaves out the events that are not needed to show something'

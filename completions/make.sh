@@ -51,7 +51,7 @@ for_fish() {
         [ "$command" = help ] || while IFS=$'\t' read -r option value about; do
             case $value in
                 -) value= ;;
-                TRACE) value=' -r' ;;
+                TRACE | DIR) value=' -r' ;;
                 *) value=' -x' ;;
             esac
             echo "complete -c fmpsim -n '__fish_seen_subcommand_from $command' -l $option$value -d '$about'"
@@ -78,7 +78,7 @@ for_zsh() {
         [ "$command" = help ] && continue
         echo "        words,$command)"
         echo '            _arguments \'
-        options "$command" | sed -E "s/^([a-z]+)\t-\t(.*)$/                '--\1[\2]' \\\\/; s/^([a-z]+)\tTRACE\t(.*)$/                '--\1=[\2]:TRACE:_files' \\\\/; s/^([a-z]+)\t([A-Z]+)\t(.*)$/                '--\1=[\3]:\2:' \\\\/"
+        options "$command" | sed -E "s/^([a-z]+)\t-\t(.*)$/                '--\1[\2]' \\\\/; s/^([a-z]+)\tTRACE\t(.*)$/                '--\1=[\2]:TRACE:_files' \\\\/; s/^([a-z]+)\tDIR\t(.*)$/                '--\1=[\2]:DIR:_files -\\/' \\\\/; s/^([a-z]+)\t([A-Z]+)\t(.*)$/                '--\1=[\3]:\2:' \\\\/"
         echo "                '--diagnostics=[$(about_diagnostics)]:FORM:(plain gcc)' \\"
         if [ "$command" = list ]; then
             echo "                '1:name:{ compadd -- \${(f)\"\$(fmpsim list 2> /dev/null | grep -oE \"^[A-Za-z][A-Za-z0-9_]*\")\"}; _files }' ;;"

@@ -20,6 +20,7 @@ searches() {
     unwritten explore "$folder/machine.cfg" "$folder/scripts.txt" --ticks 0 --turns 100 --find E_PAR
     unwritten explore "$folder/machine.cfg" "$folder/scripts.txt" --ticks 0 --turns 100 --find 'end & waits sem'
     begins_behind
+    leaves_traces
     tells_how_far
     # no room for a table of a hundred million places
     memory=400000 run 4 /dev/null <(echo fmpsim: want of memory) \
@@ -106,6 +107,51 @@ begins_behind() {
     run 0 <(echo never) /dev/null "${words[@]}" --turns 100 --find 'end & waits sem' --from begun.txt
     # what must not come before came at the first line: that is no fault of the trace
     run 0 <(echo never) /dev/null "${words[@]}" --turns 100 --find 'wai_sem(BUFFER) E_OK without wai_sem(FLASH) E_OK' --from begun.txt
+}
+
+# leaves_traces: a search that came to its last line leaves the trace of each place that was found there, and what is answered from each of
+# them is joined to what is so of all orders.
+leaves_traces() {
+    local folder=$top/examples/explore-lock-order words file
+    words=(explore "$folder/machine.cfg" "$folder/scripts.txt" --ticks 0 --find)
+    rm -rf layer
+    run 6 <(echo not within 2) /dev/null "${words[@]}" 'end & waits sem' --turns 2 --layer layer
+    # each task has both semaphores, or each has one
+    left_traces layer 3 '1 P1 READER wai_sem(FLASH) E_OK' '2 P1 READER wai_sem(BUFFER) E_OK'
+    left_traces layer 3 '1 P1 READER wai_sem(FLASH) E_OK' '2 P2 WRITER wai_sem(BUFFER) E_OK'
+    left_traces layer 3 '1 P2 WRITER wai_sem(BUFFER) E_OK' '2 P2 WRITER wai_sem(FLASH) E_OK'
+    for file in layer/*.trace; do
+        run 0 <(echo yes) /dev/null check "$folder/machine.cfg" "$file"
+        run 0 <(echo never) /dev/null "${words[@]}" E_PAR --turns 100 --from "$file"
+        if grep -q READER "$file" && grep -q WRITER "$file"; then
+            run 5 "$folder/trace.txt" /dev/null "${words[@]}" 'end & waits sem' --turns 100 --from "$file"
+        else
+            run 0 <(echo never) /dev/null "${words[@]}" 'end & waits sem' --turns 100 --from "$file"
+        fi
+    done
+    # a file that is there is not written over, and the answer stands before that
+    run 3 <(echo not within 1) <(printf 'fmpsim: write failed\n  layer/1.trace: File exists (os error 17)\n') \
+        "${words[@]}" E_PAR --turns 1 --layer layer
+    left_traces layer 3 '1 P1 READER wai_sem(FLASH) E_OK' '2 P1 READER wai_sem(BUFFER) E_OK'
+    # the folders before it are made, and where nothing is to be gone on from it stays empty
+    run 0 <(echo never) /dev/null "${words[@]}" E_PAR --turns 100 --layer new/layer
+    run 5 "$folder/trace.txt" /dev/null "${words[@]}" 'end & waits sem' --turns 4 --layer new/layer
+    run 6 <(echo not within 1) /dev/null "${words[@]}" E_PAR --turns 100 --places 3 --layer new/layer
+    [ -d new/layer ] && [ -z "$(ls -A new/layer)" ]
+    count "$([ $? = 0 ] && echo yes || echo no)" '# nothing is left in a new folder'
+    : > file
+    run 3 /dev/null <(printf 'fmpsim: write failed\n  file/layer: Not a directory (os error 20)\n') "${words[@]}" E_PAR --turns 1 --layer file/layer
+    refused "${words[@]}" E_PAR --turns 1 --layer new/layer --from /dev/null
+}
+
+# left_traces FOLDER N LINE..: the folder has so many files, 1.trace and so on, and one of them is the trace of these lines.
+left_traces() {
+    local well=no number
+    for ((number = 1; number <= $2; number++)); do
+        printf '%s\n' "${@:3}" | cmp -s - "$1/$number.trace" && well=yes
+    done
+    [ "$(ls "$1" | wc -l)" = "$2" ] || well=no
+    count "$well" '# a trace is left:' "${@:3}"
 }
 
 # strays LINE WORD..: the trace on standard input has this line, and no order of the scripts has it there.

@@ -38,10 +38,12 @@ explore_line = with_rule
     (with_rule
     (with_rule
     (with_rule
+    (with_rule
     (with_rule wanted_line (flag_rule (codes "prompt")))
     (value_rule (codes "drift")))
     (value_rule (codes "places")))
     (value_rule (codes "from")))
+    (value_rule (codes "layer")))
     (flag_rule (codes "context"))
 
 -- what clap finds in the words of that command line, by the ids of the arguments
@@ -83,4 +85,5 @@ pub record Asks (rows : List Row) (r : ExploreRequest) : Type 0 where
   pub turns : IsNumberWithin 1 1000000 (text_of (codes "turns") rows) (Some r.bounds.turns)
   pub places : IsPlaces (first_of (codes "places") rows) r.bounds.places
   pub from : option_map (λ t. t.now) r.from ≡ first_of (codes "from") rows
+  pub layer : option_map (λ t. t.now) r.layer ≡ first_of (codes "layer") rows
   pub context : IsFlag (one_of (codes "context") rows) r.context

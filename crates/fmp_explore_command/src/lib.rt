@@ -49,6 +49,11 @@ With `--from TRACE` only the orders are gone through that go on from those lines
 have to be lines of an order of these scripts. Lines count from 1 with those of TRACE, also for
 --turns, and the trace that is written begins with them.
 
+With `--layer DIR` a search that ends at its --turns leaves there what is to be gone on from, each
+in a trace of its own: DIR/1.trace, DIR/2.trace and so on. An order shows it only where one that
+goes on from one of them does, by no more lines: so several machines may search, each --from some
+of them, and where all say `never`, no order does.
+
 On standard output is the trace of a shortest order that shows it, `never`, or `not within N`: no
 order of at most N lines does.
 
@@ -63,6 +68,8 @@ Exit status:
 
 const WRONG_NUMBER: &str =
     "--ticks is `any` or a number from 0 to 1000000, --turns and --drift are numbers from 1 to 1000000, and --places is one from 1 to 100000000";
+
+const TWO_BEGINNINGS: &str = "--layer writes traces for --from, and does not go with it";
 
 /// What the command line of `fmpsim explore` asks for.
 #[derive(Clone, Copy, Debug)]
@@ -81,6 +88,8 @@ pub struct ExploreRequest<'a> {
     pub bounds: Bounds,
     /// The path of the trace where the orders begin. Without it they begin at boot.
     pub from: Option<&'a str>,
+    /// The path of the folder for the traces from which to go on. Without it none are written.
+    pub layer: Option<&'a str>,
     /// Whether what stands beside a fault is to be shown.
     pub context: bool,
 }
@@ -188,6 +197,12 @@ pub fn explore_command<'a>(alloc: Global) -> Result<Command<'a>, AllocError>
         "TRACE",
         "Begins where this trace ends, and not at boot",
     );
+    let layer = value(
+        alloc,
+        "layer",
+        "DIR",
+        "Writes there the traces from which longer orders go on, one a file",
+    );
     let context = flag(
         alloc,
         "context",
@@ -198,8 +213,9 @@ pub fn explore_command<'a>(alloc: Global) -> Result<Command<'a>, AllocError>
     let two = one.arg(drift)?;
     let three = two.arg(places)?;
     let four = three.arg(from)?;
-    let five = four.arg(context)?;
-    Ok(five)
+    let five = four.arg(layer)?;
+    let six = five.arg(context)?;
+    Ok(six)
 }
 
 /// The value of an option, or nothing.
@@ -231,6 +247,7 @@ fn request_of<'a>(matches: &ArgMatches<'a>) -> Option<ExploreRequest<'a>>
     let drift = drift_in(matches.get_str("drift"))?;
     let bounds = bounds_of(matches)?;
     let from = matches.get_str("from");
+    let layer = matches.get_str("layer");
     let context = matches.get_flag("context");
     Some(ExploreRequest {
         config,
@@ -241,6 +258,7 @@ fn request_of<'a>(matches: &ArgMatches<'a>) -> Option<ExploreRequest<'a>>
         drift,
         bounds,
         from,
+        layer,
         context,
     })
 }
@@ -252,8 +270,11 @@ pub fn parse_explore<'a>(alloc: Global, words: &'a [String]) -> Result<ExploreRe
 {
     let mut command = explore_command(alloc)?;
     let matches = command.try_get_matches_from_mut(words)?;
-    match request_of(&matches) {
-        Some(request) => Ok(request),
-        None => Err(command.error(ErrorKind::ValueValidation, WRONG_NUMBER)?),
+    let Some(request) = request_of(&matches) else {
+        return Err(command.error(ErrorKind::ValueValidation, WRONG_NUMBER)?);
+    };
+    if request.from.is_some() && request.layer.is_some() {
+        return Err(command.error(ErrorKind::ArgumentConflict, TWO_BEGINNINGS)?);
     }
+    Ok(request)
 }

@@ -1,63 +1,59 @@
 //! The least ticks left of each processor of a booted kernel, event by event, worked out by hand: a timed wait, an alarm and
 //! the phase of a cyclic handler begin with one tick more than their time, and a new period with its ticks.
-use fmp_codes::{Call, Event, Proc, TaskCall, TimeCall};
-use fmp_config::read_config;
+use crate::played::{boot, events_of, happens};
+use fmp_codes::{Event, Proc};
 use fmp_kernel::Kernel;
-use std::alloc::Global;
+use std::alloc::{AllocError, Global};
 use std::process::Abort;
 use std::test::Fail;
 
-/// What happens on a processor, and the least ticks left of both processors afterwards.
-#[derive(Clone, Copy)]
-struct Row {
-    on: Proc,
-    /// A call, or else a tick.
-    call: Option<Call>,
-    due: [Option<u64>; 2],
-}
-
-/// A call on a processor.
-fn call(on: Proc, call: Call, due: [Option<u64>; 2]) -> Row {
-    Row {
-        on,
-        call: Some(call),
-        due,
+/// The least ticks left of a processor, or -1 where nothing counts.
+fn due(kernel: &Kernel, p: Proc) -> i64 {
+    match kernel.next_due(p) {
+        Some(left) => i64::try_from(left).unwrap_or(i64::MAX),
+        None => -1,
     }
 }
 
-/// A tick of a processor.
-fn tick(on: Proc, due: [Option<u64>; 2]) -> Row {
-    Row {
-        on,
-        call: None,
-        due,
+/// Adds a line with the least ticks left of both processors.
+fn add_dues(alloc: Global, shown: &mut String, kernel: &Kernel) -> Result<(), AllocError> {
+    let (here, there) = (due(kernel, Proc::new(1)), due(kernel, Proc::new(2)));
+    shown.push_str(format!(in alloc; "{here} {there}\n")?.as_str())
+}
+
+/// Adds the least ticks left of a kernel, and those after each event.
+fn add_played(
+    alloc: Global,
+    shown: &mut String,
+    kernel: &mut Kernel,
+    events: &[Event],
+) -> Result<(), AllocError> {
+    add_dues(alloc, shown, kernel)?;
+    for event in events {
+        happens(kernel, *event);
+        add_dues(alloc, shown, kernel)?;
     }
+    Ok(())
 }
 
-/// The least ticks left of both processors.
-fn due(kernel: &Kernel) -> [Option<u64>; 2] {
-    [kernel.next_due(Proc::new(1)), kernel.next_due(Proc::new(2))]
+/// Adds the least ticks left at boot and after each event of a text.
+fn add_told(alloc: Global, shown: &mut String, machine: &str, events: &str) -> Result<(), Fail> {
+    let events = events_of(alloc, machine, events)?;
+    let mut kernel = boot(alloc, machine)?;
+    Ok(add_played(alloc, shown, &mut kernel, events.as_slice())?)
 }
 
-/// Plays the rows on the machine of a configuration, which has this least ticks left at boot.
-fn play(
+/// Asserts the least ticks left at boot and after each event of a text.
+fn are_told(
     rt: &impl Abort,
     alloc: Global,
     machine: &str,
-    at_boot: [Option<u64>; 2],
-    rows: &[Row],
+    events: &str,
+    dues: &str,
 ) -> Result<(), Fail> {
-    let config = read_config(alloc, machine.as_bytes())?;
-    let mut kernel = Kernel::boot(&config)?;
-    assert!(rt; due(&kernel) == at_boot);
-    for (index, row) in rows.iter().enumerate() {
-        assert!(rt; row.on.index() < kernel.processors());
-        kernel.step(match row.call {
-            Some(call) => Event::Call(row.on, call),
-            None => Event::Tick(row.on),
-        });
-        assert!(rt; due(&kernel) == row.due, "after row {index}");
-    }
+    let mut shown = String::new(alloc);
+    add_told(alloc, &mut shown, machine, events)?;
+    assert_eq!(rt; shown.as_str(), dues);
     Ok(())
 }
 
@@ -70,33 +66,45 @@ CLASS(C1) {
 CLASS(C2) { CRE_CYC(CY, {TA_NULL, 0, h, 4, 1}); }
 ";
 
+/// Of the ticks, the first leaves the wait 1 tick and the alarm 3. The second ends the wait, and leaves the cyclic handler 1 tick. At the
+/// third this is due, and its next period begins. At the last one the alarm is due, and counts no more. The last call is a wait
+/// without a time.
+const LOCAL_EVENTS: &str = "\
+P1 dly_tsk(1)
+P1 sta_alm(AL, 3)
+P1 sta_cyc(CY)
+P1 tick
+P1 mig_tsk(T1, 2)
+P2 tick
+P2 tick
+P2 ret_hdr
+P1 msta_alm(AL, 0, 2)
+P2 tick
+P1 msta_cyc(CY, 1)
+P1 stp_cyc(CY)
+P1 slp_tsk()
+";
+
+const LOCAL_DUES: &str = "\
+-1 -1
+2 -1
+2 -1
+2 2
+1 2
+3 1
+3 1
+3 4
+3 4
+-1 1
+-1 3
+2 -1
+-1 -1
+-1 -1
+";
+
 #[test]
 fn next_due_of_each_processor(rt: HostRuntime) -> Result<(), Fail> {
-    let (here, there) = (Proc::new(1), Proc::new(2));
-    let rows = [
-        call(here, Call::Task(TaskCall::DlyTsk(1)), [Some(2), None]),
-        call(here, Call::Time(TimeCall::StaAlm(1, 3)), [Some(2), None]),
-        call(here, Call::Time(TimeCall::StaCyc(1)), [Some(2), Some(2)]),
-        // The wait has 1 tick left, and the alarm 3.
-        tick(here, [Some(1), Some(2)]),
-        call(here, Call::Task(TaskCall::MigTsk(1, 2)), [Some(3), Some(1)]),
-        // The wait is over, and the cyclic handler has 1 tick left. Then it is due, and its next period begins.
-        tick(there, [Some(3), Some(1)]),
-        tick(there, [Some(3), Some(4)]),
-        call(there, Call::RetHdr, [Some(3), Some(4)]),
-        call(
-            here,
-            Call::Time(TimeCall::MstaAlm(1, 0, 2)),
-            [None, Some(1)],
-        ),
-        // The alarm is due, and counts no more.
-        tick(there, [None, Some(3)]),
-        call(here, Call::Time(TimeCall::MstaCyc(1, 1)), [Some(2), None]),
-        call(here, Call::Time(TimeCall::StpCyc(1)), [None, None]),
-        // A wait without a time.
-        call(here, Call::Task(TaskCall::SlpTsk), [None, None]),
-    ];
-    play(&rt, rt.alloc(), LOCAL, [None, None], &rows)
+    are_told(&rt, rt.alloc(), LOCAL, LOCAL_EVENTS, LOCAL_DUES)
 }
 
 const GLOBAL: &str = "
@@ -106,17 +114,25 @@ CLASS(C2) { CRE_TSK(T2, {TA_ACT, 0, m, 5, 64, NULL}); }
 CLASS(CM) { CRE_CYC(CY, {TA_STA, 0, h, 9, 4}); }
 ";
 
+/// The tick elsewhere does not count. At the last one the wait is over, and the cyclic handler has 3 ticks left.
+const GLOBAL_EVENTS: &str = "\
+P2 dly_tsk(1)
+P2 tick
+P1 tick
+P1 tick
+P1 tslp_tsk(1)
+";
+
+const GLOBAL_DUES: &str = "\
+5 -1
+2 -1
+2 -1
+1 -1
+3 -1
+2 -1
+";
+
 #[test]
 fn next_due_of_the_master(rt: HostRuntime) -> Result<(), Fail> {
-    let (master, other) = (Proc::new(1), Proc::new(2));
-    let rows = [
-        call(other, Call::Task(TaskCall::DlyTsk(1)), [Some(2), None]),
-        // Ticks elsewhere do not count.
-        tick(other, [Some(2), None]),
-        tick(master, [Some(1), None]),
-        // The wait is over, and the cyclic handler has 3 ticks left.
-        tick(master, [Some(3), None]),
-        call(master, Call::Task(TaskCall::TslpTsk(1)), [Some(2), None]),
-    ];
-    play(&rt, rt.alloc(), GLOBAL, [Some(5), None], &rows)
+    are_told(&rt, rt.alloc(), GLOBAL, GLOBAL_EVENTS, GLOBAL_DUES)
 }

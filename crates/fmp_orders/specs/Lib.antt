@@ -4,3 +4,4 @@ pub mod Shown  -- When an order shows what a question asks.
 pub mod Places  -- What a run is going on from: the places of all orders, which forget how they were come to.
 pub mod Laws  -- Runs over places are these histories.
 pub mod Begun  -- Orders that go on from a history, the steps of the runs that do, and what an answer over these runs says.
+pub mod Joined  -- Orders from which all go on that show a question, and how what is known of those that go on from each is joined.

@@ -7,6 +7,7 @@ ghost use Rattle.fmp_setup.specs.Setup.{Setup};
 ghost use Rattle.fmp_setup.specs.Valid.{IsValid};
 ghost use Rattle.fmp_question.specs.declared.question.Step.{Step};
 ghost use Rattle.fmp_orders.specs.Begun.{BegunAnswer};
+ghost use Rattle.fmp_orders.specs.Joined.{RootsAnswer};
 ghost use Rattle.fmp_orders.specs.Laws.{RunsAreOrders, PlacesAnswer};
 ghost use Rattle.fmp_orders.specs.Orders.{IsOrder};
 
@@ -29,4 +30,11 @@ pub fn places_answer()
 pub fn begun_answer()
     ensures { (c : Setup) (scripts : List Steps) (rules : Rules) (question : List Step) (begun : List Record) → IsValid c → IsOrder c scripts rules begun
         → BegunAnswer c scripts rules question begun }
+{}
+
+/// Where runs over places are joined by some of them, what is told along these joins all orders: what is known of the orders that go on from each is
+/// known of all.
+#[tactic(auto, using(crate::proofs::Behind::roots_answer))]
+pub fn roots_answer()
+    ensures { (c : Setup) (scripts : List Steps) (rules : Rules) (question : List Step) → IsValid c → RootsAnswer c scripts rules question }
 {}

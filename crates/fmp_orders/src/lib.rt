@@ -5,5 +5,5 @@
 mod laws;
 mod rules;
 
-pub use laws::{begun_answer, places_answer, runs_are_orders};
+pub use laws::{begun_answer, places_answer, roots_answer, runs_are_orders};
 pub use rules::Rules;

@@ -1,6 +1,6 @@
 //! What becomes of the values of a data queue, and of the tasks that wait for it. The answers are worked out by hand from the
 //! rules of docs/PROFILE.md.
-use crate::waiting::{HIGH, LOW, MIDDLE, T1, T2, T3, T4, T5, are, waits};
+use crate::waiting::{HIGH, LOW, MIDDLE, are, number_of, pri, task, waits};
 use fmp_codes::{Pri, Task};
 use fmp_dtq::{Dtq, Forced, Received, Sent};
 use fmp_machine::{DataQueueSetup, Order};
@@ -15,17 +15,22 @@ enum Command {
     Send(i64),
     Force(i64),
     Receive,
-    WaitToSend(Task, Pri),
-    WaitToReceive(Task, Pri),
-    StopSending(Task),
-    StopReceiving(Task),
+    WaitToSend(u8, u8),
+    WaitToReceive(u8, u8),
+    StopSending(u8),
+    StopReceiving(u8),
 }
 
 #[derive(Clone, Copy, Debug, PartialEq, Eq)]
 enum Answer {
-    Sent(Sent),
-    Forced(Forced),
-    Received(i64, Option<Task>),
+    Kept,
+    /// The oldest value is lost.
+    Lost(i64),
+    To(u8),
+    Full,
+    Refused,
+    /// The value, and the number of the task whose wait to send ends, or 0.
+    Received(i64, u8),
     Nothing,
     Waits,
     Waited(bool),
@@ -43,109 +48,85 @@ const BY_PRIORITY: DataQueueSetup = DataQueueSetup {
 
 const BY_PRIORITY_ROWS: [Row; 27] = [
     (Command::Receive, Answer::Nothing, 0, &[], &[]),
-    (Command::Send(1), Answer::Sent(Sent::Kept), 1, &[], &[]),
-    (Command::Send(2), Answer::Sent(Sent::Kept), 2, &[], &[]),
-    (Command::Send(3), Answer::Sent(Sent::Full), 2, &[], &[]),
-    (Command::WaitToSend(T5, MIDDLE), Answer::Waits, 2, &[5], &[]),
-    (Command::WaitToSend(T4, LOW), Answer::Waits, 2, &[5, 4], &[]),
+    (Command::Send(1), Answer::Kept, 1, &[], &[]),
+    (Command::Send(2), Answer::Kept, 2, &[], &[]),
+    (Command::Send(3), Answer::Full, 2, &[], &[]),
+    (Command::WaitToSend(5, MIDDLE), Answer::Waits, 2, &[5], &[]),
+    (Command::WaitToSend(4, LOW), Answer::Waits, 2, &[5, 4], &[]),
     (
-        Command::WaitToSend(T3, MIDDLE),
+        Command::WaitToSend(3, MIDDLE),
         Answer::Waits,
         2,
         &[5, 3, 4],
         &[],
     ),
     (
-        Command::WaitToSend(T4, HIGH),
+        Command::WaitToSend(4, HIGH),
         Answer::Waits,
         2,
         &[4, 5, 3],
         &[],
     ),
     (
-        Command::WaitToSend(T5, MIDDLE),
+        Command::WaitToSend(5, MIDDLE),
         Answer::Waits,
         2,
         &[4, 3, 5],
         &[],
     ),
+    (Command::Receive, Answer::Received(1, 4), 2, &[3, 5], &[]),
     (
-        Command::Receive,
-        Answer::Received(1, Some(T4)),
-        2,
-        &[3, 5],
-        &[],
-    ),
-    (
-        Command::StopSending(T4),
+        Command::StopSending(4),
         Answer::Waited(false),
         2,
         &[3, 5],
         &[],
     ),
-    (Command::StopSending(T3), Answer::Waited(true), 2, &[5], &[]),
-    (Command::Receive, Answer::Received(2, Some(T5)), 2, &[], &[]),
-    (Command::Receive, Answer::Received(104, None), 1, &[], &[]),
+    (Command::StopSending(3), Answer::Waited(true), 2, &[5], &[]),
+    (Command::Receive, Answer::Received(2, 5), 2, &[], &[]),
+    (Command::Receive, Answer::Received(104, 0), 1, &[], &[]),
+    (Command::Force(8), Answer::Kept, 2, &[], &[]),
+    (Command::Force(9), Answer::Lost(105), 2, &[], &[]),
+    (Command::Receive, Answer::Received(8, 0), 1, &[], &[]),
+    (Command::Receive, Answer::Received(9, 0), 0, &[], &[]),
+    (Command::WaitToReceive(2, LOW), Answer::Waits, 0, &[], &[2]),
     (
-        Command::Force(8),
-        Answer::Forced(Forced::Kept(None)),
-        2,
-        &[],
-        &[],
-    ),
-    (
-        Command::Force(9),
-        Answer::Forced(Forced::Kept(Some(105))),
-        2,
-        &[],
-        &[],
-    ),
-    (Command::Receive, Answer::Received(8, None), 1, &[], &[]),
-    (Command::Receive, Answer::Received(9, None), 0, &[], &[]),
-    (Command::WaitToReceive(T2, LOW), Answer::Waits, 0, &[], &[2]),
-    (
-        Command::WaitToReceive(T1, HIGH),
+        Command::WaitToReceive(1, HIGH),
         Answer::Waits,
         0,
         &[],
         &[2, 1],
     ),
     (
-        Command::WaitToReceive(T3, HIGH),
+        Command::WaitToReceive(3, HIGH),
         Answer::Waits,
         0,
         &[],
         &[2, 1, 3],
     ),
     (
-        Command::WaitToReceive(T2, HIGH),
+        Command::WaitToReceive(2, HIGH),
         Answer::Waits,
         0,
         &[],
         &[1, 3, 2],
     ),
     (
-        Command::StopReceiving(T3),
+        Command::StopReceiving(3),
         Answer::Waited(true),
         0,
         &[],
         &[1, 2],
     ),
     (
-        Command::StopReceiving(T3),
+        Command::StopReceiving(3),
         Answer::Waited(false),
         0,
         &[],
         &[1, 2],
     ),
-    (Command::Send(5), Answer::Sent(Sent::To(T1)), 0, &[], &[2]),
-    (
-        Command::Force(6),
-        Answer::Forced(Forced::To(T2)),
-        0,
-        &[],
-        &[],
-    ),
+    (Command::Send(5), Answer::To(1), 0, &[], &[2]),
+    (Command::Force(6), Answer::To(2), 0, &[], &[]),
     (Command::Receive, Answer::Nothing, 0, &[], &[]),
 ];
 
@@ -156,59 +137,42 @@ const WITHOUT_ROOM: DataQueueSetup = DataQueueSetup {
 };
 
 const WITHOUT_ROOM_ROWS: [Row; 11] = [
-    (Command::Send(1), Answer::Sent(Sent::Full), 0, &[], &[]),
-    (
-        Command::Force(1),
-        Answer::Forced(Forced::Refused),
-        0,
-        &[],
-        &[],
-    ),
-    (Command::WaitToSend(T4, LOW), Answer::Waits, 0, &[4], &[]),
-    (
-        Command::WaitToSend(T1, HIGH),
-        Answer::Waits,
-        0,
-        &[4, 1],
-        &[],
-    ),
-    (
-        Command::Force(1),
-        Answer::Forced(Forced::Refused),
-        0,
-        &[4, 1],
-        &[],
-    ),
-    (
-        Command::Receive,
-        Answer::Received(104, Some(T4)),
-        0,
-        &[1],
-        &[],
-    ),
-    (
-        Command::Receive,
-        Answer::Received(101, Some(T1)),
-        0,
-        &[],
-        &[],
-    ),
+    (Command::Send(1), Answer::Full, 0, &[], &[]),
+    (Command::Force(1), Answer::Refused, 0, &[], &[]),
+    (Command::WaitToSend(4, LOW), Answer::Waits, 0, &[4], &[]),
+    (Command::WaitToSend(1, HIGH), Answer::Waits, 0, &[4, 1], &[]),
+    (Command::Force(1), Answer::Refused, 0, &[4, 1], &[]),
+    (Command::Receive, Answer::Received(104, 4), 0, &[1], &[]),
+    (Command::Receive, Answer::Received(101, 1), 0, &[], &[]),
     (Command::Receive, Answer::Nothing, 0, &[], &[]),
-    (Command::WaitToReceive(T2, LOW), Answer::Waits, 0, &[], &[2]),
-    (
-        Command::Force(6),
-        Answer::Forced(Forced::Refused),
-        0,
-        &[],
-        &[2],
-    ),
-    (Command::Send(6), Answer::Sent(Sent::To(T2)), 0, &[], &[]),
+    (Command::WaitToReceive(2, LOW), Answer::Waits, 0, &[], &[2]),
+    (Command::Force(6), Answer::Refused, 0, &[], &[2]),
+    (Command::Send(6), Answer::To(2), 0, &[], &[]),
 ];
+
+/// The answer to a send.
+fn sent(sent: Sent) -> Answer {
+    match sent {
+        Sent::Kept => Answer::Kept,
+        Sent::To(task) => Answer::To(task.number),
+        Sent::Full => Answer::Full,
+    }
+}
+
+/// The answer to a forced send.
+fn forced(forced: Forced) -> Answer {
+    match forced {
+        Forced::Kept(None) => Answer::Kept,
+        Forced::Kept(Some(lost)) => Answer::Lost(lost),
+        Forced::To(task) => Answer::To(task.number),
+        Forced::Refused => Answer::Refused,
+    }
+}
 
 /// The answer to a receive, by what was received.
 fn received(received: Option<Received>) -> Answer {
     match received {
-        Some(received) => Answer::Received(received.value, received.sender),
+        Some(received) => Answer::Received(received.value, number_of(received.sender)),
         None => Answer::Nothing,
     }
 }
@@ -236,19 +200,19 @@ fn wait_to_receive(queue: &mut Dtq, task: Task, priority: Pri) {
 /// The answer to a command.
 fn carry_out(queue: &mut Dtq, command: Command) -> Answer {
     match command {
-        Command::Send(value) => Answer::Sent(queue.send(value)),
-        Command::Force(value) => Answer::Forced(queue.force_send(value)),
+        Command::Send(value) => sent(queue.send(value)),
+        Command::Force(value) => forced(queue.force_send(value)),
         Command::Receive => received(queue.receive(&OFFERS)),
-        Command::WaitToSend(task, priority) => {
-            wait_to_send(queue, task, priority);
+        Command::WaitToSend(number, priority) => {
+            wait_to_send(queue, task(number), pri(priority));
             Answer::Waits
         }
-        Command::WaitToReceive(task, priority) => {
-            wait_to_receive(queue, task, priority);
+        Command::WaitToReceive(number, priority) => {
+            wait_to_receive(queue, task(number), pri(priority));
             Answer::Waits
         }
-        Command::StopSending(task) => Answer::Waited(queue.leave_senders(task)),
-        Command::StopReceiving(task) => Answer::Waited(queue.leave_receivers(task)),
+        Command::StopSending(number) => Answer::Waited(queue.leave_senders(task(number))),
+        Command::StopReceiving(number) => Answer::Waited(queue.leave_receivers(task(number))),
     }
 }
 

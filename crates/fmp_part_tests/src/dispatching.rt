@@ -1,6 +1,6 @@
 //! What a processor runs after each operation, and what holds it. The answers are worked out by hand from the rules of
 //! docs/PROFILE.md.
-use crate::waiting::{T1, T2};
+use crate::waiting::{number_of, task};
 use fmp_codes::{Object, Proc, Runner, Task};
 use fmp_dispatch::Dispatch;
 use std::process::Abort;
@@ -14,7 +14,8 @@ enum Handler {
 
 #[derive(Clone, Copy)]
 enum Command {
-    Settle(Option<Task>),
+    /// By the number of the top, or 0 for none.
+    Settle(u8),
     Request,
     Due(Handler),
     Return,
@@ -40,35 +41,35 @@ const P3: Proc = Proc { number: 3 };
 
 /// A processor that is not held runs its top, and its request is taken.
 const FREE_ROWS: [Row; 12] = [
-    (Command::Settle(None), None, 0, false, false, &[]),
+    (Command::Settle(0), None, 0, false, false, &[]),
     (Command::Request, None, 0, true, false, &[]),
     (Command::Request, None, 0, true, false, &[]),
-    (Command::Settle(None), None, 0, false, false, &[]),
-    (Command::Settle(Some(T1)), Some(1), 1, false, false, &[]),
+    (Command::Settle(0), None, 0, false, false, &[]),
+    (Command::Settle(1), Some(1), 1, false, false, &[]),
     (Command::Request, None, 1, true, false, &[]),
-    (Command::Settle(Some(T1)), None, 1, false, false, &[]),
-    (Command::Settle(Some(T2)), Some(2), 2, false, false, &[]),
+    (Command::Settle(1), None, 1, false, false, &[]),
+    (Command::Settle(2), Some(2), 2, false, false, &[]),
     (Command::Unlock, None, 2, false, false, &[]),
     (Command::Enable, None, 2, false, false, &[]),
     (Command::Return, None, 2, false, false, &[]),
-    (Command::Settle(None), Some(0), 0, false, false, &[]),
+    (Command::Settle(0), Some(0), 0, false, false, &[]),
 ];
 
 /// A processor is held while it is locked, while its dispatching is disabled, and while a handler is due.
 const HELD_ROWS: [Row; 27] = [
-    (Command::Settle(Some(T1)), Some(1), 1, false, false, &[]),
+    (Command::Settle(1), Some(1), 1, false, false, &[]),
     (Command::Lock, None, 1, false, true, &[]),
     (Command::Lock, None, 1, false, true, &[]),
     (Command::Request, None, 1, true, true, &[]),
-    (Command::Settle(Some(T2)), None, 1, true, true, &[]),
+    (Command::Settle(2), None, 1, true, true, &[]),
     (Command::Disable, None, 1, true, true, &[]),
     (Command::Unlock, None, 1, true, true, &[]),
     (Command::Disable, None, 1, true, true, &[]),
-    (Command::Settle(Some(T2)), None, 1, true, true, &[]),
+    (Command::Settle(2), None, 1, true, true, &[]),
     (Command::Enable, None, 1, true, false, &[]),
-    (Command::Settle(Some(T2)), Some(2), 2, false, false, &[]),
+    (Command::Settle(2), Some(2), 2, false, false, &[]),
     (Command::Due(ALARM), None, 2, false, true, &[ALARM]),
-    (Command::Settle(None), None, 2, false, true, &[ALARM]),
+    (Command::Settle(0), None, 2, false, true, &[ALARM]),
     (Command::Due(CYCLIC), None, 2, false, true, &[ALARM, CYCLIC]),
     (
         Command::Due(ALARM),
@@ -115,9 +116,9 @@ const HELD_ROWS: [Row; 27] = [
     (Command::Return, None, 2, true, true, &[ALARM]),
     (Command::Disable, None, 2, true, true, &[ALARM]),
     (Command::Return, None, 2, true, true, &[]),
-    (Command::Settle(None), None, 2, true, true, &[]),
+    (Command::Settle(0), None, 2, true, true, &[]),
     (Command::Enable, None, 2, true, false, &[]),
-    (Command::Settle(None), Some(0), 0, false, false, &[]),
+    (Command::Settle(0), Some(0), 0, false, false, &[]),
 ];
 
 /// The first alarm, and the second cyclic handler.
@@ -131,7 +132,8 @@ fn runner(handler: Handler) -> Runner {
 /// Carries out a command on the second processor.
 fn carry_out(dispatch: &mut Dispatch, command: Command) -> Option<Option<Task>> {
     match command {
-        Command::Settle(top) => return dispatch.settle(P2, top),
+        Command::Settle(0) => return dispatch.settle(P2, None),
+        Command::Settle(number) => return dispatch.settle(P2, Some(task(number))),
         Command::Request => dispatch.request(P2),
         Command::Due(handler) => {
             if dispatch.due(P2).len() < 64 {
@@ -145,11 +147,6 @@ fn carry_out(dispatch: &mut Dispatch, command: Command) -> Option<Option<Task>> 
         Command::Enable => dispatch.enable(P2),
     }
     None
-}
-
-/// The number of a task, or 0 for none.
-fn number_of(task: Option<Task>) -> u8 {
-    task.map_or(0, |task| task.number)
 }
 
 /// Whether these handlers are due on a processor, of which the first one runs.

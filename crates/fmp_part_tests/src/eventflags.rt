@@ -1,6 +1,6 @@
 //! What becomes of the pattern of an eventflag, and of the tasks that wait for it. The answers are worked out by hand from the
 //! rules of docs/PROFILE.md.
-use crate::waiting::{HIGH, LOW, MIDDLE, T1, T2, T3, T4, T5, are, waits};
+use crate::waiting::{HIGH, LOW, MIDDLE, are, pri, task, waits};
 use arrayvec::ArrayVec;
 use fmp_codes::{Mode, Pri, Task};
 use fmp_flag::{Flag, Wanted};
@@ -37,8 +37,8 @@ enum Command {
     Set(u32),
     Clear(u32),
     Poll(u32, Mode),
-    Wait(Task, Pri),
-    Stop(Task),
+    Wait(u8, u8),
+    Stop(u8),
 }
 
 #[derive(Clone, Copy, Debug, PartialEq, Eq)]
@@ -94,16 +94,10 @@ const KEEPS_ROWS: [Row; 18] = [
         0,
         &[],
     ),
-    (Command::Wait(T1, LOW), Answer::Waits, &[], 0, &[1]),
-    (Command::Wait(T2, HIGH), Answer::Waits, &[], 0, &[2, 1]),
-    (Command::Wait(T3, MIDDLE), Answer::Waits, &[], 0, &[2, 3, 1]),
-    (
-        Command::Wait(T4, HIGH),
-        Answer::Waits,
-        &[],
-        0,
-        &[2, 4, 3, 1],
-    ),
+    (Command::Wait(1, LOW), Answer::Waits, &[], 0, &[1]),
+    (Command::Wait(2, HIGH), Answer::Waits, &[], 0, &[2, 1]),
+    (Command::Wait(3, MIDDLE), Answer::Waits, &[], 0, &[2, 3, 1]),
+    (Command::Wait(4, HIGH), Answer::Waits, &[], 0, &[2, 4, 3, 1]),
     (
         Command::Set(0b10),
         Answer::Released(1),
@@ -119,9 +113,9 @@ const KEEPS_ROWS: [Row; 18] = [
         &[4],
     ),
     (Command::Set(0), Answer::Released(0), &[], 3, &[4]),
-    (Command::Stop(T3), Answer::Waited(false), &[], 3, &[4]),
-    (Command::Wait(T5, LOW), Answer::Waits, &[], 3, &[4, 5]),
-    (Command::Wait(T4, LOW), Answer::Waits, &[], 3, &[5, 4]),
+    (Command::Stop(3), Answer::Waited(false), &[], 3, &[4]),
+    (Command::Wait(5, LOW), Answer::Waits, &[], 3, &[4, 5]),
+    (Command::Wait(4, LOW), Answer::Waits, &[], 3, &[5, 4]),
     (
         Command::Set(0b100),
         Answer::Released(2),
@@ -148,10 +142,10 @@ const CLEARS: EventflagSetup = EventflagSetup {
 };
 
 const CLEARS_ROWS: [Row; 12] = [
-    (Command::Wait(T3, LOW), Answer::Waits, &[], 0, &[3]),
-    (Command::Wait(T1, HIGH), Answer::Waits, &[], 0, &[3, 1]),
-    (Command::Wait(T4, HIGH), Answer::Waits, &[], 0, &[3, 1, 4]),
-    (Command::Wait(T3, HIGH), Answer::Waits, &[], 0, &[1, 4, 3]),
+    (Command::Wait(3, LOW), Answer::Waits, &[], 0, &[3]),
+    (Command::Wait(1, HIGH), Answer::Waits, &[], 0, &[3, 1]),
+    (Command::Wait(4, HIGH), Answer::Waits, &[], 0, &[3, 1, 4]),
+    (Command::Wait(3, HIGH), Answer::Waits, &[], 0, &[1, 4, 3]),
     (
         Command::Set(0b111),
         Answer::Released(1),
@@ -182,7 +176,7 @@ const CLEARS_ROWS: [Row; 12] = [
         0,
         &[4],
     ),
-    (Command::Stop(T4), Answer::Waited(true), &[], 0, &[]),
+    (Command::Stop(4), Answer::Waited(true), &[], 0, &[]),
     (Command::Set(0b100), Answer::Released(0), &[], 4, &[]),
 ];
 
@@ -208,11 +202,11 @@ fn carry_out(flag: &mut Flag, command: Command) -> (Answer, ArrayVec<(Task, u32)
             Answer::Cleared
         }
         Command::Poll(pattern, mode) => Answer::Polled(flag.poll(pattern, mode)),
-        Command::Wait(task, priority) => {
-            wait(flag, task, priority);
+        Command::Wait(number, priority) => {
+            wait(flag, task(number), pri(priority));
             Answer::Waits
         }
-        Command::Stop(task) => Answer::Waited(flag.leave(task)),
+        Command::Stop(number) => Answer::Waited(flag.leave(task(number))),
     };
     (answer, ArrayVec::new())
 }

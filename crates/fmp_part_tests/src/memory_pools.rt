@@ -1,6 +1,6 @@
 //! What becomes of the blocks of a memory pool, and of the tasks that wait for one. The answers are worked out by hand from the
 //! rules of docs/PROFILE.md.
-use crate::waiting::{HIGH, LOW, MIDDLE, T1, T2, T3, T5, are, waits};
+use crate::waiting::{HIGH, LOW, MIDDLE, are, pri, task, waits};
 use fmp_codes::{Pri, Task};
 use fmp_machine::{Order, PoolSetup};
 use fmp_mpf::{Given, Mpf};
@@ -11,15 +11,17 @@ use std::test::Fail;
 enum Command {
     Get,
     Give(i32),
-    Wait(Task, Pri),
-    Stop(Task),
+    Wait(u8, u8),
+    Stop(u8),
 }
 
 #[derive(Clone, Copy, Debug, PartialEq, Eq)]
 enum Answer {
     Got(u8),
     Nothing,
-    Given(Given),
+    Free,
+    Stranger,
+    To(u8),
     Waits,
     Waited(bool),
 }
@@ -34,31 +36,27 @@ const BY_PRIORITY: PoolSetup = PoolSetup {
 };
 
 const BY_PRIORITY_ROWS: [Row; 24] = [
-    (Command::Give(0), Answer::Given(Given::Stranger), &[]),
+    (Command::Give(0), Answer::Stranger, &[]),
     (Command::Get, Answer::Got(0), &[]),
     (Command::Get, Answer::Got(1), &[]),
-    (Command::Give(0), Answer::Given(Given::Free), &[]),
-    (Command::Give(0), Answer::Given(Given::Stranger), &[]),
+    (Command::Give(0), Answer::Free, &[]),
+    (Command::Give(0), Answer::Stranger, &[]),
     (Command::Get, Answer::Got(0), &[]),
     (Command::Get, Answer::Got(2), &[]),
     (Command::Get, Answer::Nothing, &[]),
-    (Command::Wait(T5, MIDDLE), Answer::Waits, &[5]),
-    (Command::Wait(T2, LOW), Answer::Waits, &[5, 2]),
-    (Command::Wait(T1, MIDDLE), Answer::Waits, &[5, 1, 2]),
-    (Command::Wait(T2, HIGH), Answer::Waits, &[2, 5, 1]),
-    (
-        Command::Give(-1),
-        Answer::Given(Given::Stranger),
-        &[2, 5, 1],
-    ),
-    (Command::Give(3), Answer::Given(Given::Stranger), &[2, 5, 1]),
-    (Command::Give(1), Answer::Given(Given::To(T2)), &[5, 1]),
+    (Command::Wait(5, MIDDLE), Answer::Waits, &[5]),
+    (Command::Wait(2, LOW), Answer::Waits, &[5, 2]),
+    (Command::Wait(1, MIDDLE), Answer::Waits, &[5, 1, 2]),
+    (Command::Wait(2, HIGH), Answer::Waits, &[2, 5, 1]),
+    (Command::Give(-1), Answer::Stranger, &[2, 5, 1]),
+    (Command::Give(3), Answer::Stranger, &[2, 5, 1]),
+    (Command::Give(1), Answer::To(2), &[5, 1]),
     (Command::Get, Answer::Nothing, &[5, 1]),
-    (Command::Stop(T2), Answer::Waited(false), &[5, 1]),
-    (Command::Stop(T5), Answer::Waited(true), &[1]),
-    (Command::Give(1), Answer::Given(Given::To(T1)), &[]),
-    (Command::Give(2), Answer::Given(Given::Free), &[]),
-    (Command::Give(1), Answer::Given(Given::Free), &[]),
+    (Command::Stop(2), Answer::Waited(false), &[5, 1]),
+    (Command::Stop(5), Answer::Waited(true), &[1]),
+    (Command::Give(1), Answer::To(1), &[]),
+    (Command::Give(2), Answer::Free, &[]),
+    (Command::Give(1), Answer::Free, &[]),
     (Command::Get, Answer::Got(1), &[]),
     (Command::Get, Answer::Got(2), &[]),
     (Command::Get, Answer::Nothing, &[]),
@@ -73,13 +71,13 @@ const BY_ARRIVAL: PoolSetup = PoolSetup {
 const BY_ARRIVAL_ROWS: [Row; 9] = [
     (Command::Get, Answer::Got(0), &[]),
     (Command::Get, Answer::Nothing, &[]),
-    (Command::Wait(T3, LOW), Answer::Waits, &[3]),
-    (Command::Wait(T1, HIGH), Answer::Waits, &[3, 1]),
-    (Command::Wait(T3, HIGH), Answer::Waits, &[1, 3]),
-    (Command::Give(256), Answer::Given(Given::Stranger), &[1, 3]),
-    (Command::Give(0), Answer::Given(Given::To(T1)), &[3]),
-    (Command::Give(0), Answer::Given(Given::To(T3)), &[]),
-    (Command::Give(0), Answer::Given(Given::Free), &[]),
+    (Command::Wait(3, LOW), Answer::Waits, &[3]),
+    (Command::Wait(1, HIGH), Answer::Waits, &[3, 1]),
+    (Command::Wait(3, HIGH), Answer::Waits, &[1, 3]),
+    (Command::Give(256), Answer::Stranger, &[1, 3]),
+    (Command::Give(0), Answer::To(1), &[3]),
+    (Command::Give(0), Answer::To(3), &[]),
+    (Command::Give(0), Answer::Free, &[]),
 ];
 
 /// As many blocks as there can be.
@@ -91,11 +89,11 @@ const LARGE: PoolSetup = PoolSetup {
 /// When all blocks are handed out.
 const LARGE_ROWS: [Row; 8] = [
     (Command::Get, Answer::Nothing, &[]),
-    (Command::Give(64), Answer::Given(Given::Stranger), &[]),
-    (Command::Give(63), Answer::Given(Given::Free), &[]),
-    (Command::Give(31), Answer::Given(Given::Free), &[]),
-    (Command::Give(i32::MAX), Answer::Given(Given::Stranger), &[]),
-    (Command::Give(i32::MIN), Answer::Given(Given::Stranger), &[]),
+    (Command::Give(64), Answer::Stranger, &[]),
+    (Command::Give(63), Answer::Free, &[]),
+    (Command::Give(31), Answer::Free, &[]),
+    (Command::Give(i32::MAX), Answer::Stranger, &[]),
+    (Command::Give(i32::MIN), Answer::Stranger, &[]),
     (Command::Get, Answer::Got(31), &[]),
     (Command::Get, Answer::Got(63), &[]),
 ];
@@ -117,12 +115,16 @@ fn carry_out(pool: &mut Mpf, command: Command) -> Answer {
             Some(block) => Answer::Got(block.number),
             None => Answer::Nothing,
         },
-        Command::Give(block) => Answer::Given(pool.give(block)),
-        Command::Wait(task, priority) => {
-            wait(pool, task, priority);
+        Command::Give(block) => match pool.give(block) {
+            Given::Free => Answer::Free,
+            Given::Stranger => Answer::Stranger,
+            Given::To(task) => Answer::To(task.number),
+        },
+        Command::Wait(number, priority) => {
+            wait(pool, task(number), pri(priority));
             Answer::Waits
         }
-        Command::Stop(task) => Answer::Waited(pool.leave(task)),
+        Command::Stop(number) => Answer::Waited(pool.leave(task(number))),
     }
 }
 

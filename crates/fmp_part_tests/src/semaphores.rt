@@ -1,6 +1,6 @@
 //! What becomes of the count of a semaphore, and of the tasks that wait for it. The answers are worked out by hand from the
 //! rules of docs/PROFILE.md.
-use crate::waiting::{HIGH, LOW, MIDDLE, T1, T2, T3, T5, are, waits};
+use crate::waiting::{HIGH, LOW, MIDDLE, are, pri, task, waits};
 use fmp_codes::{Pri, Task};
 use fmp_machine::{Order, SemaphoreSetup};
 use fmp_sem::{Sem, Signal};
@@ -11,19 +11,21 @@ use std::test::Fail;
 enum Command {
     Signal,
     Poll,
-    Wait(Task, Pri),
-    Stop(Task),
+    Wait(u8, u8),
+    Stop(u8),
 }
 
 #[derive(Clone, Copy, Debug, PartialEq, Eq)]
 enum Answer {
-    Signalled(Signal),
+    Released(u8),
+    Counted,
+    Over,
     Polled(bool),
     Waits,
     Waited(bool),
 }
 
-/// A command and its answer, the count afterwards, and the numbers of the tasks that wait then.
+/// A command and its answer, tasks by their numbers, the count afterwards, and the numbers of the tasks that wait then.
 type Row = (Command, Answer, u16, &'static [u8]);
 
 /// The count goes from 1 up to 2, and tasks wait by priority.
@@ -36,28 +38,18 @@ const BY_PRIORITY: SemaphoreSetup = SemaphoreSetup {
 const BY_PRIORITY_ROWS: [Row; 16] = [
     (Command::Poll, Answer::Polled(true), 0, &[]),
     (Command::Poll, Answer::Polled(false), 0, &[]),
-    (Command::Wait(T5, MIDDLE), Answer::Waits, 0, &[5]),
-    (Command::Wait(T2, LOW), Answer::Waits, 0, &[5, 2]),
-    (Command::Wait(T1, MIDDLE), Answer::Waits, 0, &[5, 1, 2]),
-    (Command::Wait(T2, HIGH), Answer::Waits, 0, &[2, 5, 1]),
-    (
-        Command::Signal,
-        Answer::Signalled(Signal::Released(T2)),
-        0,
-        &[5, 1],
-    ),
+    (Command::Wait(5, MIDDLE), Answer::Waits, 0, &[5]),
+    (Command::Wait(2, LOW), Answer::Waits, 0, &[5, 2]),
+    (Command::Wait(1, MIDDLE), Answer::Waits, 0, &[5, 1, 2]),
+    (Command::Wait(2, HIGH), Answer::Waits, 0, &[2, 5, 1]),
+    (Command::Signal, Answer::Released(2), 0, &[5, 1]),
     (Command::Poll, Answer::Polled(false), 0, &[5, 1]),
-    (Command::Stop(T2), Answer::Waited(false), 0, &[5, 1]),
-    (Command::Stop(T5), Answer::Waited(true), 0, &[1]),
-    (
-        Command::Signal,
-        Answer::Signalled(Signal::Released(T1)),
-        0,
-        &[],
-    ),
-    (Command::Signal, Answer::Signalled(Signal::Counted), 1, &[]),
-    (Command::Signal, Answer::Signalled(Signal::Counted), 2, &[]),
-    (Command::Signal, Answer::Signalled(Signal::Over), 2, &[]),
+    (Command::Stop(2), Answer::Waited(false), 0, &[5, 1]),
+    (Command::Stop(5), Answer::Waited(true), 0, &[1]),
+    (Command::Signal, Answer::Released(1), 0, &[]),
+    (Command::Signal, Answer::Counted, 1, &[]),
+    (Command::Signal, Answer::Counted, 2, &[]),
+    (Command::Signal, Answer::Over, 2, &[]),
     (Command::Poll, Answer::Polled(true), 1, &[]),
     (Command::Poll, Answer::Polled(true), 0, &[]),
 ];
@@ -70,23 +62,13 @@ const BY_ARRIVAL: SemaphoreSetup = SemaphoreSetup {
 };
 
 const BY_ARRIVAL_ROWS: [Row; 7] = [
-    (Command::Wait(T3, LOW), Answer::Waits, 0, &[3]),
-    (Command::Wait(T1, HIGH), Answer::Waits, 0, &[3, 1]),
-    (Command::Wait(T3, HIGH), Answer::Waits, 0, &[1, 3]),
-    (
-        Command::Signal,
-        Answer::Signalled(Signal::Released(T1)),
-        0,
-        &[3],
-    ),
-    (
-        Command::Signal,
-        Answer::Signalled(Signal::Released(T3)),
-        0,
-        &[],
-    ),
-    (Command::Signal, Answer::Signalled(Signal::Counted), 1, &[]),
-    (Command::Signal, Answer::Signalled(Signal::Over), 1, &[]),
+    (Command::Wait(3, LOW), Answer::Waits, 0, &[3]),
+    (Command::Wait(1, HIGH), Answer::Waits, 0, &[3, 1]),
+    (Command::Wait(3, HIGH), Answer::Waits, 0, &[1, 3]),
+    (Command::Signal, Answer::Released(1), 0, &[3]),
+    (Command::Signal, Answer::Released(3), 0, &[]),
+    (Command::Signal, Answer::Counted, 1, &[]),
+    (Command::Signal, Answer::Over, 1, &[]),
 ];
 
 /// A task waits, or begins to wait anew.
@@ -102,13 +84,17 @@ fn wait(semaphore: &mut Sem, task: Task, priority: Pri) {
 /// The answer to a command.
 fn carry_out(semaphore: &mut Sem, command: Command) -> Answer {
     match command {
-        Command::Signal => Answer::Signalled(semaphore.signal()),
+        Command::Signal => match semaphore.signal() {
+            Signal::Released(task) => Answer::Released(task.number),
+            Signal::Counted => Answer::Counted,
+            Signal::Over => Answer::Over,
+        },
         Command::Poll => Answer::Polled(semaphore.poll()),
-        Command::Wait(task, priority) => {
-            wait(semaphore, task, priority);
+        Command::Wait(number, priority) => {
+            wait(semaphore, task(number), pri(priority));
             Answer::Waits
         }
-        Command::Stop(task) => Answer::Waited(semaphore.leave(task)),
+        Command::Stop(number) => Answer::Waited(semaphore.leave(task(number))),
     }
 }
 

@@ -1,7 +1,7 @@
 //! What each operation on a task makes of it, from each state that it allows. The records are worked out by hand from the rules of
 //! docs/PROFILE.md.
-use crate::waiting::{HIGH, MIDDLE, T1, T2, T3};
-use fmp_codes::{Object, Pri, Proc};
+use crate::waiting::{HIGH, MIDDLE, pri};
+use fmp_codes::{Object, Pri, Proc, Task};
 use fmp_machine::{Class, TaskRecord, TaskSetup, Wait};
 use fmp_task::Tasks;
 use std::process::Abort;
@@ -30,82 +30,92 @@ const P1: Proc = Proc { number: 1 };
 
 const P2: Proc = Proc { number: 2 };
 
-const SETUP: TaskSetup = TaskSetup {
-    class: Class {
+const T1: Task = Task { number: 1 };
+
+const T2: Task = Task { number: 2 };
+
+const T3: Task = Task { number: 3 };
+
+/// The states of the tables, by name: a check of the tests pays for each part of a record that stands in a table.
+#[derive(Clone, Copy, PartialEq, Eq)]
+enum State {
+    Dormant,
+    /// Dormant, as it may have been left by a task that ended.
+    Left,
+    Runnable,
+    /// Runnable on the second processor.
+    There,
+    Sleeping,
+    Waiting,
+    Suspended,
+    WaitingSuspended,
+}
+
+/// The configuration of all tasks.
+fn setup() -> TaskSetup {
+    let class = Class {
         initial: P1,
         members: [true, true, false, false, false, false, false, false],
-    },
-    main: 1,
-    priority: MIDDLE,
-    starts: false,
-};
+    };
+    TaskSetup {
+        class,
+        main: 1,
+        priority: pri(MIDDLE),
+        starts: false,
+    }
+}
 
-const DORMANT: TaskRecord = TaskRecord {
-    setup: SETUP,
-    assigned: P1,
-    priority: MIDDLE,
-    active: false,
-    wait: None,
-    suspended: false,
-    activations: 0,
-    kept: None,
-    wakeups: 0,
-};
+/// What a task waits for in a state.
+fn wait_in(state: State) -> Option<Wait> {
+    match state {
+        State::Sleeping => Some(Wait::Sleep),
+        State::Waiting | State::WaitingSuspended => Some(Wait::Semaphore(Object::new(3))),
+        _ => None,
+    }
+}
 
-const RUNNABLE: TaskRecord = TaskRecord {
-    active: true,
-    ..DORMANT
-};
-
-const SLEEPING: TaskRecord = TaskRecord {
-    wait: Some(Wait::Sleep),
-    ..RUNNABLE
-};
-
-const WAITING: TaskRecord = TaskRecord {
-    wait: Some(Wait::Semaphore(Object { number: 3 })),
-    ..RUNNABLE
-};
-
-const SUSPENDED: TaskRecord = TaskRecord {
-    suspended: true,
-    ..RUNNABLE
-};
-
-const WAITING_SUSPENDED: TaskRecord = TaskRecord {
-    suspended: true,
-    ..WAITING
-};
-
-/// A dormant task, as it may have been left by one that ended.
-const LEFT: TaskRecord = TaskRecord {
-    priority: HIGH,
-    wakeups: 2,
-    ..DORMANT
-};
-
-const RUNNABLE_THERE: TaskRecord = TaskRecord {
-    assigned: P2,
-    ..RUNNABLE
-};
+/// A task in a state.
+fn record(state: State) -> TaskRecord {
+    let left = state == State::Left;
+    TaskRecord {
+        setup: setup(),
+        assigned: if state == State::There { P2 } else { P1 },
+        priority: pri(if left { HIGH } else { MIDDLE }),
+        active: !left && state != State::Dormant,
+        wait: wait_in(state),
+        suspended: matches!(state, State::Suspended | State::WaitingSuspended),
+        activations: 0,
+        kept: None,
+        wakeups: if left { 2 } else { 0 },
+    }
+}
 
 /// The states of an active task.
-const ACTIVE: [TaskRecord; 4] = [RUNNABLE, WAITING, SUSPENDED, WAITING_SUSPENDED];
+const ACTIVE: [State; 4] = [
+    State::Runnable,
+    State::Waiting,
+    State::Suspended,
+    State::WaitingSuspended,
+];
 
 /// What changes the state of a task.
-const CHANGES: [Row; 12] = [
-    (Command::Activate(P2), LEFT, RUNNABLE_THERE, 0),
-    (Command::Finish, RUNNABLE, DORMANT, 0),
-    (Command::Finish, WAITING, DORMANT, 0),
-    (Command::Finish, SUSPENDED, DORMANT, 0),
-    (Command::Finish, WAITING_SUSPENDED, DORMANT, 0),
-    (Command::BeginWait(Wait::Sleep), RUNNABLE, SLEEPING, 0),
-    (Command::EndWait, WAITING, RUNNABLE, 0),
-    (Command::EndWait, WAITING_SUSPENDED, SUSPENDED, 0),
-    (Command::Suspend, RUNNABLE, SUSPENDED, 0),
-    (Command::Suspend, WAITING, WAITING_SUSPENDED, 0),
-    (Command::Resume, SUSPENDED, RUNNABLE, 0),
-    (Command::Resume, WAITING_SUSPENDED, WAITING, 0),
+const CHANGES: [(Command, State, State); 12] = [
+    (Command::Activate(P2), State::Left, State::There),
+    (Command::Finish, State::Runnable, State::Dormant),
+    (Command::Finish, State::Waiting, State::Dormant),
+    (Command::Finish, State::Suspended, State::Dormant),
+    (Command::Finish, State::WaitingSuspended, State::Dormant),
+    (
+        Command::BeginWait(Wait::Sleep),
+        State::Runnable,
+        State::Sleeping,
+    ),
+    (Command::EndWait, State::Waiting, State::Runnable),
+    (Command::EndWait, State::WaitingSuspended, State::Suspended),
+    (Command::Suspend, State::Runnable, State::Suspended),
+    (Command::Suspend, State::Waiting, State::WaitingSuspended),
+    (Command::Resume, State::Suspended, State::Runnable),
+    (Command::Resume, State::WaitingSuspended, State::Waiting),
 ];
 
 /// A task that is assigned to a processor.
@@ -137,10 +147,12 @@ fn woken(wakeups: u16, task: TaskRecord) -> TaskRecord {
 
 /// The end of a task of which an activation is queued, and which starts anew with its initial priority and no wakeup.
 fn restarts(state: TaskRecord) -> [Row; 2] {
-    let changed = of(HIGH, woken(2, at(P2, state)));
+    let changed = of(pri(HIGH), woken(2, at(P2, state)));
+    let there = record(State::There);
+    let here = record(State::Runnable);
     [
-        (Command::Finish, queued(None, changed), RUNNABLE_THERE, 0),
-        (Command::Finish, queued(Some(P1), changed), RUNNABLE, 0),
+        (Command::Finish, queued(None, changed), there, 0),
+        (Command::Finish, queued(Some(P1), changed), here, 0),
     ]
 }
 
@@ -167,8 +179,9 @@ fn in_any_state(state: TaskRecord) -> [Row; 5] {
 
 /// What may be done to an active task, whose state stays.
 fn in_active_state(state: TaskRecord) -> [Row; 8] {
+    let high = pri(HIGH);
     [
-        (Command::SetPriority(HIGH), state, of(HIGH, state), 0),
+        (Command::SetPriority(high), state, of(high, state), 0),
         (
             Command::QueueAct(None),
             woken(2, state),
@@ -224,15 +237,16 @@ fn carry_out(tasks: &mut Tasks, command: Command) -> Option<u16> {
 
 /// Each command from the state that its row says, on the second of three tasks.
 fn are_answered(rt: &impl Abort, rows: &[Row]) -> Result<(), Fail> {
+    let (setup, dormant) = (setup(), record(State::Dormant));
     for (number, (command, before, after, count)) in rows.iter().enumerate() {
-        let mut tasks = Tasks::new(&[SETUP, SETUP, SETUP]);
+        let mut tasks = Tasks::new(&[setup, setup, setup]);
         tasks.set(T2, *before);
         let told = carry_out(&mut tasks, *command);
         assert!(rt; told == Some(*count), "{told:?} in row {number}");
         let found = tasks.get(T2);
         assert!(rt; found == *after, "{found:?} after row {number}");
         assert!(rt;
-            tasks.get(T1) == DORMANT && tasks.get(T3) == DORMANT,
+            tasks.get(T1) == dormant && tasks.get(T3) == dormant,
             "others after row {number}"
         );
     }
@@ -241,16 +255,20 @@ fn are_answered(rt: &impl Abort, rows: &[Row]) -> Result<(), Fail> {
 
 #[test]
 fn task_states(rt: HostRuntime) -> Result<(), Fail> {
-    are_answered(&rt, &CHANGES)
+    for (command, before, after) in &CHANGES {
+        are_answered(&rt, &[(*command, record(*before), record(*after), 0)])?;
+    }
+    Ok(())
 }
 
 #[test]
 fn task_counts(rt: HostRuntime) -> Result<(), Fail> {
-    are_answered(&rt, &in_any_state(DORMANT))?;
+    are_answered(&rt, &in_any_state(record(State::Dormant)))?;
     for state in &ACTIVE {
-        are_answered(&rt, &restarts(*state))?;
-        are_answered(&rt, &in_any_state(*state))?;
-        are_answered(&rt, &in_active_state(*state))?;
+        let state = record(*state);
+        are_answered(&rt, &restarts(state))?;
+        are_answered(&rt, &in_any_state(state))?;
+        are_answered(&rt, &in_active_state(state))?;
     }
     Ok(())
 }

@@ -5,21 +5,31 @@ ghost use Rattle.fmp_links.specs.Tasks.{has_task};
 use arrayvec::ArrayVec;
 use fmp_codes::{Pri, Task};
 
-pub const T1: Task = Task { number: 1 };
+/// The priorities of the tables. Numbers stand there in place of tasks and priorities: a check of the tests pays for the invariant of
+/// each of these.
+pub const HIGH: u8 = 1;
 
-pub const T2: Task = Task { number: 2 };
+pub const MIDDLE: u8 = 16;
 
-pub const T3: Task = Task { number: 3 };
+pub const LOW: u8 = 32;
 
-pub const T4: Task = Task { number: 4 };
+/// The task of a number.
+pub fn task(number: u8) -> Task {
+    Task::from_index(usize::from(number.wrapping_sub(1)) % 64)
+}
 
-pub const T5: Task = Task { number: 5 };
+/// The priority of a number.
+pub fn pri(number: u8) -> Pri {
+    Pri::new(number.wrapping_sub(1) % 32 + 1)
+}
 
-pub const HIGH: Pri = Pri { number: 1 };
-
-pub const MIDDLE: Pri = Pri { number: 16 };
-
-pub const LOW: Pri = Pri { number: 32 };
+/// The number of a task, or 0 for none.
+pub fn number_of(task: Option<Task>) -> u8 {
+    match task {
+        Some(task) => task.number,
+        None => 0,
+    }
+}
 
 /// Whether a task is among those that wait.
 pub fn waits(waiting: &ArrayVec<Task, 64>, task: Task) -> bool

@@ -1,3 +1,4 @@
 mod Standing  -- The first place of a piece is as good as any.
 mod Running  -- The runs of a word, one after the other.
 mod EachWord  -- One word of a question after the other.
+mod FirstWords  -- A text that lacks a word of a pattern has no line with the pattern.

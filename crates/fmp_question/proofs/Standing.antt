@@ -8,15 +8,15 @@ use Rattle.fmp_bytes.specs.Bytes.{cut_at, pieces_of}
 use Rattle.fmp_bytes.proofs.Cutting.{pieces_left, pieces_of-cut}
 use Rattle.fmp_question.specs.Matching.{any, begins, somewhere, stand}
 
-both : (a b : Bool) → (a && b) ≡ true → (a ≡ true) × (b ≡ true)
+pub both : (a b : Bool) → (a && b) ≡ true → (a ≡ true) × (b ≡ true)
 both true b e = (refl, e)
 both false b e = cc
 
-either : (a b : Bool) → (a || b) ≡ true → (a ≡ true) ⊎ (b ≡ true)
+pub either : (a b : Bool) → (a || b) ≡ true → (a ≡ true) ⊎ (b ≡ true)
 either true b e = inl refl
 either false b e = inr e
 
-not_true : (a : Bool) → (a ≡ true → ⊥) → a ≡ false
+pub not_true : (a : Bool) → (a ≡ true → ⊥) → a ≡ false
 not_true a never = elim (cases_Bool a) [ inl is ↦ absurd (never is) | inr is ↦ is ]
 
 same_truth : (a b : Bool) → (a ≡ true → b ≡ true) → (b ≡ true → a ≡ true) → a ≡ b
@@ -27,11 +27,11 @@ same_truth a b there back = elim (cases_Bool a) [
 
 -- ---- what stands in the end of a text stands in the text
 
-stand_later : (ps : List (List ℕ)) (c : ℕ) (text : List ℕ) → stand ps text ≡ true → stand ps (c ∷ text) ≡ true
+pub stand_later : (ps : List (List ℕ)) (c : ℕ) (text : List ℕ) → stand ps text ≡ true → stand ps (c ∷ text) ≡ true
 stand_later [] c text h = refl
 stand_later (p ∷ ps) c text h = or_right _ _ h
 
-stand_drop : (ps : List (List ℕ)) (n : ℕ) (text : List ℕ) → stand ps (drop n text) ≡ true → stand ps text ≡ true
+pub stand_drop : (ps : List (List ℕ)) (n : ℕ) (text : List ℕ) → stand ps (drop n text) ≡ true → stand ps text ≡ true
 stand_drop ps zero text h = h
 stand_drop ps (suc n) [] h = h
 stand_drop ps (suc n) (c ∷ text) h = stand_later ps c text (stand_drop ps n text h)
@@ -112,7 +112,7 @@ module _ (piece : List ℕ) (ps : List (List ℕ)) where
     | inr later ↦ behind_later (length piece) c text (any_place text later)
   ]
 
-  some_first : (text : List ℕ) → here text ≡ true → somewhere here text ≡ true
+  pub some_first : (text : List ℕ) → here text ≡ true → somewhere here text ≡ true
   some_first [] h = h
   some_first (c ∷ text) h = or_left _ _ h
 

@@ -1,6 +1,7 @@
 -- When a pattern stands in a line. A pattern is kept as the pieces between its stars, the blanks before its first word and behind its last
 -- one with them, so that only whole words match.
-use Rattle.std.specs.Prelude.{ℕ, ◌==◌, Bool, true, false, ◌&&◌, ◌||◌, List, [], ◌∷◌, ◌++◌}
+use Rattle.std.specs.Prelude.{◌≡◌, ℕ, ◌==◌, Bool, true, false, not, ◌&&◌, ◌||◌, List, [], ◌∷◌, ◌++◌}
+use Rattle.std.specs.List.{list_all}
 use Rattle.fmp_bytes.specs.Bytes.{space, line_feed, pieces_of}
 
 -- some item passes the test
@@ -36,3 +37,10 @@ padded line = space ∷ space ∷ line ++ space ∷ space ∷ []
 -- a pattern stands in some line of a text
 unfoldable pub has_pattern : List ℕ → List (List ℕ) → Bool
 has_pattern text pattern = any (λ line. stand pattern (padded line)) (pieces_of line_feed text)
+
+-- bytes that stand in a piece, without a blank
+pub record IsWordIn (piece word : List ℕ) : Type 0 where
+  pub before : List ℕ
+  pub behind : List ℕ
+  pub there : piece ≡ before ++ (word ++ behind)
+  pub solid : list_all (λ b. not (b == space)) word ≡ true

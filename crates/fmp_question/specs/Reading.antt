@@ -1,11 +1,10 @@
 -- How a question is read: word by word. Words stand between single blanks, and mean themselves but for these: `&` between the patterns of
 -- a moment, `without` before what must not come, `then` before the next step, `times` behind a number at the front of a step.
-use Rattle.std.specs.Prelude.{ℕ, ◌+◌, ◌-◌, ◌==◌, Bool, not, ◌&&◌, ◌||◌, nat_le, nat_lt, is_none, List, [], ◌∷◌, ◌++◌, length, take, drop, Option, None, Some, option_map, unwrap_or, replicate, Result, Ok, Err, if◌then◌else◌, codes}
+use Rattle.std.specs.Prelude.{ℕ, ◌-◌, ◌==◌, not, ◌&&◌, nat_le, is_none, List, [], ◌∷◌, ◌++◌, length, take, drop, Option, None, Some, option_map, unwrap_or, replicate, Result, Ok, Err, if◌then◌else◌, codes}
 use Rattle.std.specs.List.{list_all, join_with_byte}
 use Rattle.std.specs.Option.{option_and_then}
 use Rattle.std.specs.Str.{bytes_eq}
-use Rattle.fmp_bytes.specs.declared.classes.Class.TheVariants.{Word}
-use Rattle.fmp_bytes.specs.Bytes.{is_of, space, pieces_of}
+use Rattle.fmp_bytes.specs.Bytes.{space, pieces_of}
 use Rattle.fmp_bytes.specs.Numerals.{are_digits, magnitude_of}
 use Rattle.fmp_names.specs.Names.{NameLists}
 use Rattle.fmp_question.specs.declared.question.Step.{Step}

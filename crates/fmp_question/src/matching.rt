@@ -1,5 +1,5 @@
 //! Whether a pattern, or a moment, stands in the lines of an event.
-ghost use Rattle.std.specs.Prelude.{◌≡◌, ℕ, List, ◌∷◌, false, IfOk, OnOk};
+ghost use Rattle.std.specs.Prelude.{◌≡◌, ℕ, List, ◌∷◌, false, IfOk, OnOk, IsTrue};
 ghost use Rattle.std.specs.Option.{option_copied, option_map_or};
 ghost use Rattle.fmp_question.specs.Matching as matching;
 ghost use Rattle.fmp_question.specs.Questions as spec;
@@ -43,10 +43,39 @@ fn pad(room: &mut Vec<u8>, line: &[u8]) -> Result<(), AllocError>
     room.extend_from_slice(b"  ")
 }
 
+/// The first word of a piece, without the blanks beside it. It is empty where there are blanks alone.
+fn first_word(piece: &[u8]) -> &[u8]
+    ensures { matching.IsWordIn piece.now result.now }
+{
+    let mut rest = Some(piece);
+    while let Some(text) = rest {
+        let (word, after) = cut(b' ', text);
+        if !word.is_empty() {
+            return word;
+        }
+        rest = after;
+    }
+    &piece[..0]
+}
+
+/// Whether a word of a pattern stands nowhere in a text: then the pattern stands in no line of it. To look for it takes one walk over the
+/// text, and no line is copied.
+fn lacks_word(text: &[u8], pattern: &Pattern) -> bool
+    ensures { IsTrue result → matching.has_pattern text.now pattern.now ≡ false }
+{
+    match pattern.pieces().first() {
+        None => false,
+        Some(piece) => behind_first(first_word(piece.bytes()), text).is_none(),
+    }
+}
+
 /// Whether a pattern stands in some line of a text. The room is used up in between; the error is want of memory for a line.
 fn has_pattern(room: &mut Vec<u8>, text: &[u8], pattern: &Pattern) -> Result<bool, AllocError>
     ensures { IfOk result (λ r. r ≡ matching.has_pattern text.now pattern.now) }
 {
+    if lacks_word(text, pattern) {
+        return Ok(false);
+    }
     let mut rest = Some(text);
     while let Some(lines) = rest {
         let (line, after) = cut(b'\n', lines);

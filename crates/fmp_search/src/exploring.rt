@@ -1,11 +1,13 @@
 //! All runs.
 ghost use Rattle.std.specs.Prelude.{◌≡◌, ◌≤◌, ◌<◌, ◌^◌, length, IfOk};
 ghost use Rattle.fmp_search.specs.Answers.{Says};
+ghost use Rattle.fmp_search.specs.Roots.{Leaves};
 ghost use Rattle.fmp_search.specs.Trees.{found_at, IsTree, StandsAt};
 
 use crate::layer::{Front, Layer, open_layer};
 use crate::nodes::stand_at;
 use crate::progress::Progress;
+use crate::roots::Roots;
 use crate::space::Space;
 use crate::store::Store;
 use std::alloc::{AllocError, Global};
@@ -52,7 +54,8 @@ fn move_trunk<W: Space>(
 /// walkers stand at places of the same graph: one is made to stand at a place and is copied for each step from there, one makes that step,
 /// one looks at what was found before, and one stands at the last place through which all runs lead that are gone on from.
 ///
-/// Where the room does not do, `NotWithin` says for how many steps it did, and then all of it was used. The error is want of memory.
+/// Where the room does not do, `NotWithin` says for how many steps it did, and then all of it was used. Where it did, and not all is known, the
+/// places that were found last are given beside that, to go on from. The error is want of memory.
 pub fn explore<W: Space, P: Progress>(
     alloc: Global,
     walker: &mut W,
@@ -62,14 +65,15 @@ pub fn explore<W: Space, P: Progress>(
     progress: &mut P,
     turns: u32,
     most: u32,
-) -> Result<Answer, AllocError>
+) -> Result<(Answer, Roots), AllocError>
     requires origins { (W.origin base.old ≡ W.origin walker.old) × (W.origin other.old ≡ W.origin walker.old) × (W.origin trunk.old ≡ W.origin walker.old) }
     requires turns { turns < 2 ^ 31 }
-    ensures { IfOk result (λ a. Says W.after W.wanted (W.origin walker.old) turns most a) }
+    ensures says { IfOk result (λ r. Says W.after W.wanted (W.origin walker.old) turns most r.0) }
+    ensures leaves { IfOk result (λ r. Leaves W.after W.wanted (W.origin walker.old) turns r.0 r.1) }
 {
     trunk.restart()?;
     if trunk.is_wanted() {
-        return Ok(Answer::Found(Vec::new(alloc)));
+        return Ok((Answer::Found(Vec::new(alloc)), Roots::none(alloc)));
     }
     let mut store = Store::new(alloc, trunk.hash(), most)?;
     let mut begin = 0;
@@ -77,22 +81,22 @@ pub fn explore<W: Space, P: Progress>(
     for depth in 0..turns {
         let end = store.count();
         if begin == end {
-            return Ok(Answer::Never);
+            return Ok((Answer::Never, Roots::none(alloc)));
         }
         stem = move_trunk(alloc, trunk, base, &store, stem, begin)?;
         let front = Front { depth, end, stem };
         match open_layer(
             alloc, walker, base, other, trunk, progress, &mut store, front, begin,
         )? {
-            Layer::Found(steps) => return Ok(Answer::Found(steps)),
-            Layer::Full => return Ok(Answer::NotWithin(depth)),
+            Layer::Found(steps) => return Ok((Answer::Found(steps), Roots::none(alloc))),
+            Layer::Full => return Ok((Answer::NotWithin(depth), Roots::none(alloc))),
             Layer::Done => {}
         }
         begin = end;
     }
     if begin == store.count() {
-        Ok(Answer::Never)
+        Ok((Answer::Never, Roots::none(alloc)))
     } else {
-        Ok(Answer::NotWithin(turns))
+        Ok((Answer::NotWithin(turns), Roots::of(store.nodes, begin)))
     }
 }

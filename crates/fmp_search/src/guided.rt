@@ -153,7 +153,7 @@ pub fn explore_along<W: Space + Drop, P: Progress>(
         choices,
         made: 0,
     };
-    explore(
+    let (answer, _roots) = explore(
         alloc,
         &mut walker,
         &mut base,
@@ -162,5 +162,6 @@ pub fn explore_along<W: Space + Drop, P: Progress>(
         progress,
         turns,
         most,
-    )
+    )?;
+    Ok(answer)
 }

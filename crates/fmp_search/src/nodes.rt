@@ -3,6 +3,7 @@ ghost use Rattle.std.specs.Prelude.{◌≡◌, ◌≤◌, ◌<◌, ◌+◌, ◌^
 ghost use Rattle.fmp_search.specs.Runs.{run};
 ghost use Rattle.fmp_search.specs.Trees.{found_at, IsTree, StandsAt};
 
+use crate::paths::path_from;
 use crate::space::Space;
 use std::alloc::{AllocError, Global};
 
@@ -30,15 +31,7 @@ fn steps_from<W: Space>(
     ensures leads { IfOk result (λ r. run W.after (found_at W.after (W.origin _walker.now) nodes.now r.0).place r.1.items ≡ Some (found_at W.after (W.origin _walker.now) nodes.now at).place) }
     ensures count { IfOk result (λ r. (found_at W.after (W.origin _walker.now) nodes.now r.0).depth + length r.1.items ≡ (found_at W.after (W.origin _walker.now) nodes.now at).depth) }
 {
-    let mut steps = Vec::new(alloc);
-    let mut place = at;
-    while place > 0 && place != stem {
-        let node = nodes[place - 1];
-        steps.push(node.step)?;
-        place = node.parent as usize;
-    }
-    steps.reverse();
-    Ok((place, steps))
+    path_from(alloc, nodes, stem, at)
 }
 
 /// The numbers of the steps from where all runs begin to the place of a number, the first step first. The error is want of memory.

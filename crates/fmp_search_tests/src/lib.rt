@@ -84,12 +84,12 @@ impl Space for Board {
 #[cfg(test)]
 mod tests {
     use crate::Board;
-    use fmp_search::{Answer, Choice, Quiet, explore, explore_along};
+    use fmp_search::{Answer, Choice, Quiet, Roots, explore, explore_along};
     use std::alloc::{AllocError, Global};
 
-    /// What `explore` answers from place 1, where `goal` is looked for in up to `turns` steps and with room for `most` places.
+    /// What `explore` gives from place 1, where `goal` is looked for in up to `turns` steps and with room for `most` places.
     /// The error is want of memory.
-    fn answer(alloc: Global, goal: u8, turns: u32, most: u32) -> Result<Answer, AllocError>
+    fn search(alloc: Global, goal: u8, turns: u32, most: u32) -> Result<(Answer, Roots), AllocError>
         requires { turns < 2 ^ 31 }
     {
         let mut walker = Board { at: 1, goal };
@@ -106,6 +106,14 @@ mod tests {
             turns,
             most,
         )
+    }
+
+    /// What `explore` answers so. The error is want of memory.
+    fn answer(alloc: Global, goal: u8, turns: u32, most: u32) -> Result<Answer, AllocError>
+        requires { turns < 2 ^ 31 }
+    {
+        let (answer, _roots) = search(alloc, goal, turns, most)?;
+        Ok(answer)
     }
 
     /// What `explore_along` answers likewise, where these are the first choices. The error is want of memory.
@@ -198,5 +206,31 @@ mod tests {
             Answer::Found(steps) => assert_eq!(rt; steps.len(), 0),
             _ => panic!(rt; "found"),
         }
+    }
+    // from 1 both steps lead to 2, and from there one to 3 and one to 4
+    #[test]
+    fn the_last_places(rt: HostRuntime) {
+        let (_answer, roots) = search(rt.alloc(), 24, 2, 200).expect(&rt, "memory");
+        assert_eq!(rt; roots.count(), 2);
+        assert!(rt; 1 < roots.count());
+        let steps = roots.steps(rt.alloc(), 1).expect(&rt, "memory");
+        assert_eq!(rt; steps.len(), 2);
+    }
+
+    // where no step may be made there is one place, and to that none leads
+    #[test]
+    fn the_first_place(rt: HostRuntime) {
+        let (_answer, roots) = search(rt.alloc(), 24, 0, 200).expect(&rt, "memory");
+        assert_eq!(rt; roots.count(), 1);
+        assert!(rt; 0 < roots.count());
+        let steps = roots.steps(rt.alloc(), 0).expect(&rt, "memory");
+        assert_eq!(rt; steps.len(), 0);
+    }
+
+    // 2 is found by one step
+    #[test]
+    fn no_places_where_it_is_found(rt: HostRuntime) {
+        let (_answer, roots) = search(rt.alloc(), 2, 4, 200).expect(&rt, "memory");
+        assert_eq!(rt; roots.count(), 0);
     }
 }

@@ -3,7 +3,7 @@ ghost use Rattle.std.specs.Prelude.{◌≡◌, [], IfOk};
 ghost use Rattle.fmpsim_run.specs.Runs.{IsAnswered};
 
 use fmp_check::Verdict;
-use fmpsim_run::{MemSink, MemSource, RunFault, run_calls, run_check, run_states};
+use fmpsim_run::{Detail, MemSink, MemSource, RunFault, run_calls, run_check, run_events};
 use std::alloc::Global;
 use std::process::Abort;
 use std::test::Fail;
@@ -88,8 +88,9 @@ fn run(alloc: Global, config: &[u8], events: &[u8]) -> Result<MemSink, RunFault>
 #[test]
 fn states_are_told(rt: HostRuntime) -> Result<(), Fail> {
     let mut told = MemSink::with_room(rt.alloc(), 1000)?;
-    run_states(
+    run_events(
         rt.alloc(),
+        Detail::State,
         &mut MemSource::new(REMOTE),
         &mut MemSource::new(b"P1 act_tsk(T2)\n"),
         &mut told,

@@ -7,7 +7,8 @@ use Rattle.fmp_judging.specs.declared.fault.RunFault.{RunFault}
 use Rattle.fmp_judging.specs.declared.fault.RunFault.TheVariants as run
 use Rattle.fmp_judging.specs.Texts.{SaysConfig}
 use Rattle.fmp_judging.specs.Traces.{IsYes}
-use Rattle.fmp_view.specs.Runs.{Contrasted, IsContrastedBy, IsContrastOf, IsLate, IsPageOf, IsShownBy, Leaves, LeavesContrast, LeavesShown, Shown, Shows, ShowsDifferences}
+use Rattle.fmp_view.specs.declared.run.PageKind.{PageKind}
+use Rattle.fmp_view.specs.Runs.{IsLate, IsPageOf, IsShownBy, Leaves, LeavesShown, Shown, Shows}
 
 -- what is left of pages of one kind is so of those of a wider one
 wider : (P Q : List ℕ → Type 0) → ((page : List ℕ) → P page → Q page) → (old new : List ℕ) (fault : RunFault) → Leaves P old new fault → Leaves Q old new fault
@@ -17,27 +18,17 @@ wider P Q goes old new run.Memory (inr begun) = inr (begun.0, goes begun.0 begun
 wider P Q goes old new _ nothing = nothing
 
 module _ (config_text trace_text old new text : List ℕ) (c : Setup) (says : SaysConfig config_text c) (same : text ≡ trace_text) where
-  pub shown_of_texts : (verdict : Verdict) → Judges c text verdict → IsShownBy c text old new verdict → Shown config_text trace_text old new verdict
-  shown_of_texts verdict judges shown = record {
+  pub shown_of_texts : (kind : PageKind) (verdict : Verdict) → Judges c text verdict → IsShownBy kind c text old new verdict → Shown kind config_text trace_text old new verdict
+  shown_of_texts kind verdict judges shown = record {
     config = c;
     says = says;
     judges = subst (λ (t : List ℕ). Judges c t verdict) same judges;
-    shown = subst (λ (t : List ℕ). IsShownBy c t old new verdict) same shown;
+    shown = subst (λ (t : List ℕ). IsShownBy kind c t old new verdict) same shown;
   }
 
-  pub contrasted_of_texts : (verdict : Verdict) → Judges c text verdict → IsContrastedBy c text old new → Contrasted config_text trace_text old new verdict
-  contrasted_of_texts verdict judges shown = record {
-    config = c;
-    says = says;
-    judges = subst (λ (t : List ℕ). Judges c t verdict) same judges;
-    shown = subst (λ (t : List ℕ). IsContrastedBy c t old new) same shown;
-  }
-
-  pub leaves_of_texts : (fault : RunFault) → Leaves (Shows c text) old new fault → LeavesShown config_text trace_text old new fault
-  leaves_of_texts = wider (Shows c text) (IsPageOf config_text trace_text) (λ page shows. (c, says, subst (λ (t : List ℕ). Shows c t page) same shows)) old new
-
-  pub contrast_of_texts : (fault : RunFault) → Leaves (ShowsDifferences c text) old new fault → LeavesContrast config_text trace_text old new fault
-  contrast_of_texts = wider (ShowsDifferences c text) (IsContrastOf config_text trace_text) (λ page shows. (c, says, subst (λ (t : List ℕ). ShowsDifferences c t page) same shows)) old new
+  pub leaves_of_texts : (kind : PageKind) (fault : RunFault) → Leaves (Shows kind c text) old new fault → LeavesShown kind config_text trace_text old new fault
+  leaves_of_texts kind =
+      wider (Shows kind c text) (IsPageOf kind config_text trace_text) (λ page shows. (c, says, subst (λ (t : List ℕ). Shows kind c t page) same shows)) old new
 
 -- want of memory, or a write that failed, is no answer but yes
 pub late_is_yes : (fault : RunFault) → IsLate fault → IsYes (Err fault)

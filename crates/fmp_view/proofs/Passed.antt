@@ -1,5 +1,5 @@
 -- How a run ends whose sink passed on what it held back.
-use Rattle.std.proofs.Common.{◌≡◌, ◌⊎◌, ◌++◌, List, ℕ, Result, Ok, Err, IfErr, OnOk, OnErr, refl, inl, inr}
+use Rattle.std.proofs.Common.{◌≡◌, ◌⊎◌, ◌++◌, List, ℕ, Result, Ok, Err, IfErr, OnOk, OnErr, inl, inr}
 use Rattle.fmp_devices.specs.Devices.{BeginsWith}
 use Rattle.fmp_judging.specs.declared.fault.RunFault.{RunFault}
 use Rattle.fmp_judging.specs.declared.fault.RunFault.TheVariants as run
@@ -24,13 +24,3 @@ module _ (IsPage : List ℕ → Type 0) (page old new : List ℕ) (is_page : IsP
   leaves_passed (Ok done) result (inl is) all begun late = rw is tt
   leaves_passed (Err fault) result (inl is) all begun late = rw is (late_leaves fault late begun)
   leaves_passed ended result (inr is) all begun late = rw is (page, is_page, whole_begun ended all begun)
-
--- a fault that came late is no fault of a text, and neither is a failed flush
-pub late_passed : (ended result : Ended) → (result ≡ ended) ⊎ (result ≡ Err run.Write) → IfErr ended IsLate → IfErr result IsLate
-late_passed ended result (inl is) late = rw is late
-late_passed ended result (inr is) late = rw is (inr refl)
-
--- what holds where the showing went to its end holds where the run did
-pub ok_passed : (ended result : Ended) (X : Type 0) → (result ≡ ended) ⊎ (result ≡ Err run.Write) → OnOk ended X → OnOk result X
-ok_passed ended result X (inl is) done = rw is done
-ok_passed ended result X (inr is) done = rw is tt

@@ -8,9 +8,10 @@ ghost use Rattle.fmp_judging.specs.Traces.{FirstTraceFault, IsOwn, IsYes};
 ghost use Rattle.fmp_devices.specs.Devices.{BeginsWith, IsKnown, bytes_of};
 ghost use Rattle.fmp_judging.specs.Faults.{failed_write, is_thread_fault};
 ghost use Rattle.fmp_judging.specs.Texts.{Answered, CountsReads, FirstConfigFault};
-ghost use Rattle.fmp_view.specs.Runs.{IsLate, IsShownBy, Leaves, LeavesShown, Shown, Shows};
+ghost use Rattle.fmp_view.specs.Runs.{IsLate, IsPageOut, IsShownBy, Leaves, LeavesShown, Shown, Shows};
 ghost use Rattle.fmp_view.specs.Pages.{page_of};
 
+use crate::contrast::contrast_of;
 use crate::showing::Showing;
 use fmp_check::Verdict;
 use fmp_devices::{Sink, Source, write_all};
@@ -20,8 +21,17 @@ use fmp_text::{TextFault, TextKind};
 use fmp_trace::{event_of, next_line};
 use std::alloc::Global;
 
+/// Which page of a trace is wanted.
+#[derive(Clone, Copy, Debug, PartialEq, Eq)]
+pub enum PageKind {
+    /// That of a trace that is the machine's own.
+    Own,
+    /// That of what the machine answers to the events of any trace, beside the lines of the trace that differ.
+    Differences,
+}
+
 /// Shows the events of a text over a trace of them, beside the lines that were given where it has others.
-pub(crate) fn show<W: Sink>(
+fn show<W: Sink>(
     alloc: Global,
     config: &Config,
     text: &[u8],
@@ -63,39 +73,56 @@ pub(crate) fn show<W: Sink>(
     Ok(())
 }
 
-/// Shows a trace that was judged to be the machine's own, and holds none of it back.
-fn show_judged<W: Sink>(alloc: Global, judged: &Judged, page: &mut W) -> Result<(), RunFault>
+/// Shows a trace that was judged, and holds none of it back.
+fn show_judged<W: Sink>(
+    alloc: Global,
+    judged: &Judged,
+    kind: PageKind,
+    page: &mut W,
+) -> Result<(), RunFault>
     requires calls { W.failures page.old < 2 ^ 64 - 1 }
     requires judged { Judges judged.now.config judged.now.text.items judged.now.verdict }
     ensures known { IsKnown (W.written page.old) → IsKnown (W.written page.new) }
-    ensures shown { IsKnown (W.written page.old) → OnOk result (IsShownBy judged.now.config judged.now.text.items (bytes_of (W.written page.old)) (bytes_of (W.written page.new)) judged.now.verdict) }
+    ensures shown { IsKnown (W.written page.old) → OnOk result (IsShownBy kind judged.now.config judged.now.text.items (bytes_of (W.written page.old)) (bytes_of (W.written page.new)) judged.now.verdict) }
+    ensures same { IsKnown (W.written page.old) → judged.now.verdict ≡ Verdict.Yes
+        → OnOk result (IsPageOut PageKind.Own judged.now.config judged.now.text.items (bytes_of (W.written page.old)) (bytes_of (W.written page.new))) }
     ensures passed { OnOk result (judged.now.verdict ≡ Verdict.Yes → W.buffered page.new ≡ []) }
+    ensures all_passed { kind ≡ PageKind.Differences → OnOk result (W.buffered page.new ≡ []) }
     ensures none_held { W.buffered page.old ≡ [] → result ≢ Err RunFault.Write → W.buffered page.new ≡ [] }
-    ensures leaves { IsKnown (W.written page.old) → IfErr result (Leaves (Shows judged.now.config judged.now.text.items) (bytes_of (W.written page.old)) (bytes_of (W.written page.new))) }
+    ensures leaves { IsKnown (W.written page.old) → IfErr result (Leaves (Shows kind judged.now.config judged.now.text.items) (bytes_of (W.written page.old)) (bytes_of (W.written page.new))) }
     ensures kinds { IfErr result IsLate }
     ensures no_thread_fault { IfErr result (λ fault. is_thread_fault fault ≡ false) }
     ensures writes { W.failures page.new ≡ W.failures page.old + (if failed_write result then 1 else 0) }
 {
-    match judged.verdict {
-        Verdict::No(_) => Ok(()),
-        Verdict::Yes => {
-            let text = judged.text.as_slice();
+    let text = judged.text.as_slice();
+    match (kind, judged.verdict) {
+        (PageKind::Own, Verdict::No(_)) => Ok(()),
+        (PageKind::Own, Verdict::Yes) => {
             let shown = show(alloc, &judged.config, text, text, b"", page);
+            pass_on(shown, page)
+        }
+        (PageKind::Differences, _) => {
+            let found = contrast_of(alloc, &judged.config, text)?;
+            let own = found.own.as_slice();
+            let given = found.given.as_slice();
+            let shown = show(alloc, &judged.config, text, own, given, page);
             pass_on(shown, page)
         }
     }
 }
 
-/// Reads a configuration and a trace, and writes the page of the trace, if it is what the machine answers to its events.
-/// Of another trace nothing is written, and the verdict says which line is the first that differs.
+/// Reads a configuration and a trace, and writes a page of the trace.
 ///
-/// docs/FORMATS.md has the form of a page.
+/// With `PageKind::Own` that is the page of a trace that is what the machine answers to its events, and of another nothing is written. With
+/// `PageKind::Differences` it is the page of what the machine answers to the trace's events, which has each line of the trace that is not
+/// the machine's own beside the machine's. The verdict says which line is the first that differs. docs/FORMATS.md has the form of a page.
 #[inline(never)]
 pub fn run_view<R: Source, S: Source, W: Sink>(
     alloc: Global,
     config: &mut R,
     trace: &mut S,
     page: &mut W,
+    kind: PageKind,
 ) -> Result<Verdict, RunFault>
     requires config_calls { R.failures config.old < 2 ^ 64 - 1 }
     requires trace_calls { S.failures trace.old < 2 ^ 64 - 1 }
@@ -104,16 +131,21 @@ pub fn run_view<R: Source, S: Source, W: Sink>(
     // Both texts were read to their ends, the verdict is right, and the page was written, all of it. None of it is held back.
     ensures known { IsKnown (W.written page.old) → IsKnown (W.written page.new) }
     ensures shown { IsKnown (R.left config.old) → IsKnown (S.left trace.old) → IsKnown (W.written page.old)
-        → IfOk result (Shown (bytes_of (R.left config.old)) (bytes_of (S.left trace.old)) (bytes_of (W.written page.old)) (bytes_of (W.written page.new))) }
+        → IfOk result (Shown kind (bytes_of (R.left config.old)) (bytes_of (S.left trace.old)) (bytes_of (W.written page.old)) (bytes_of (W.written page.new))) }
     ensures passed { IfOk result (λ verdict. verdict ≡ Verdict.Yes → W.buffered page.new ≡ []) }
+    ensures all_passed { kind ≡ PageKind.Differences → OnOk result (W.buffered page.new ≡ []) }
     ensures config_read { IsKnown (R.left config.old) → OnOk result (bytes_of (R.left config.new) ≡ []) }
     ensures trace_read { IsKnown (S.left trace.old) → OnOk result (bytes_of (S.left trace.new) ≡ []) }
 
-    // A trace that answers some events, as `run_calls` writes it, is shown.
+    // Of a trace that is the machine's own both kinds are the same page, on which no line differs.
+    ensures same { IsKnown (R.left config.old) → IsKnown (S.left trace.old) → IsKnown (W.written page.old)
+        → IfOk result (λ verdict. verdict ≡ Verdict.Yes → Shown PageKind.Own (bytes_of (R.left config.old)) (bytes_of (S.left trace.old)) (bytes_of (W.written page.old)) (bytes_of (W.written page.new)) Verdict.Yes) }
+
+    // Such is a trace that answers some events, as `run_calls` writes it.
     ensures answers { IsKnown (R.left config.old) → IsKnown (S.left trace.old) → (event_text : List ℕ) → Answered (bytes_of (R.left config.old)) event_text (bytes_of (S.left trace.old))
         → IsYes result }
 
-    // So is any that is the machine's own, as those of processors that follow scripts.
+    // So is one of processors that follow scripts.
     ensures own { IsKnown (R.left config.old) → IsKnown (S.left trace.old) → IsOwn (bytes_of (R.left config.old)) (bytes_of (S.left trace.old)) → IsYes result }
 
     // A fault of a text is its first one.
@@ -123,7 +155,7 @@ pub fn run_view<R: Source, S: Source, W: Sink>(
     // After a failed write or flush a beginning of the page is out, after want of memory such a beginning or nothing, and
     // after any other fault nothing is.
     ensures leaves { IsKnown (R.left config.old) → IsKnown (S.left trace.old) → IsKnown (W.written page.old)
-        → IfErr result (LeavesShown (bytes_of (R.left config.old)) (bytes_of (S.left trace.old)) (bytes_of (W.written page.old)) (bytes_of (W.written page.new))) }
+        → IfErr result (LeavesShown kind (bytes_of (R.left config.old)) (bytes_of (S.left trace.old)) (bytes_of (W.written page.old)) (bytes_of (W.written page.new))) }
 
     // However the run ends, nothing is held back, unless a write failed.
     ensures none_held { W.buffered page.old ≡ [] → result ≢ Err RunFault.Write → W.buffered page.new ≡ [] }
@@ -136,6 +168,6 @@ pub fn run_view<R: Source, S: Source, W: Sink>(
     ensures writes { W.failures page.new ≡ W.failures page.old + (if failed_write result then 1 else 0) }
 {
     let judged = judged_texts(alloc, config, trace)?;
-    show_judged(alloc, &judged, page)?;
+    show_judged(alloc, &judged, kind, page)?;
     Ok(judged.verdict)
 }

@@ -10,49 +10,21 @@ use std::alloc::{AllocError, Global};
 use std::process::Abort;
 use std::test::Fail;
 
-/// A processor of these machines.
-#[derive(Clone, Copy)]
-enum Side {
-    One,
-    Two,
-}
-
-impl Side {
-    /// The processor of this side.
-    fn processor(self) -> Proc {
-        match self {
-            Side::One => Proc::new(1),
-            Side::Two => Proc::new(2),
-        }
-    }
-}
-
-/// What is done to a world, and that it goes so.
-#[derive(Clone, Copy)]
-enum Move {
-    /// A turn of a processor, which makes a record.
-    Turn(Side),
-    /// A turn of a processor that has nothing to do.
-    Rest(Side),
-    /// A turn of a processor when the history is full.
-    Full(Side),
-    /// A tick of a processor.
-    Tick(Side),
-}
-
-/// Moves on a machine by its scripts, and the history that they make.
+/// Moves on a machine by its scripts, and the history that they make. Texts alone: a check of the tests pays for each part of a table.
 #[derive(Clone, Copy)]
 struct Story {
     config: &'static str,
     scripts: &'static str,
-    moves: &'static [Move],
+    /// `1` is a turn of that processor, which makes a record, `1-` one where it has nothing to do, `1=` one where the history is full, and
+    /// `+1` a tick of that processor.
+    moves: &'static str,
     trace: &'static str,
-    /// The numbers of the receipts of each processor and of the clock, which comes last.
-    receipts: &'static [&'static [u32]],
+    /// The numbers of the receipts, a line for each processor and then one for the clock.
+    receipts: &'static str,
 }
 
 /// The one task activates the other, which asks its processor's number.
-const REMOTE: Story = Story {
+static REMOTE: Story = Story {
     config: "\
 PROCESSORS(2);
 DEF_CLASS(C1, 1, {1, 2});
@@ -69,15 +41,7 @@ script main2
   get_pid()
 end
 ",
-    moves: &[
-        Move::Turn(Side::One),
-        Move::Turn(Side::Two),
-        Move::Turn(Side::Two),
-        Move::Turn(Side::Two),
-        Move::Rest(Side::Two),
-        Move::Turn(Side::One),
-        Move::Rest(Side::One),
-    ],
+    moves: "1 2 2 2 2- 1 1-",
     trace: "\
 1 P1 T1 act_tsk(T2) E_OK ipi=2
 2 P2 - ipi taken run=T2
@@ -85,11 +49,15 @@ end
 4 P2 T2 ext_tsk() gone run=idle
 5 P1 T1 ext_tsk() gone run=idle
 ",
-    receipts: &[&[1, 5], &[2, 3, 4], &[]],
+    receipts: "\
+1 5
+2 3 4
+
+",
 };
 
 /// Both tasks take a spin lock: the second spins, and asks again.
-const SPINNING: Story = Story {
+static SPINNING: Story = Story {
     config: "\
 PROCESSORS(2);
 DEF_CLASS(C1, 1, {1, 2});
@@ -111,17 +79,7 @@ script main2
   unl_spn(L)
 end
 ",
-    moves: &[
-        Move::Turn(Side::One),
-        Move::Turn(Side::Two),
-        Move::Turn(Side::Two),
-        Move::Tick(Side::One),
-        Move::Turn(Side::One),
-        Move::Turn(Side::Two),
-        Move::Turn(Side::Two),
-        Move::Turn(Side::Two),
-        Move::Full(Side::One),
-    ],
+    moves: "1 2 2 +1 1 2 2 2 1=",
     trace: "\
 1 P1 T1 loc_spn(L) E_OK
 2 P2 T2 loc_spn(L) spin
@@ -132,11 +90,15 @@ end
 7 P2 T2 unl_spn(L) E_OK
 8 P2 T2 ext_tsk() gone run=idle
 ",
-    receipts: &[&[1, 5], &[2, 3, 6, 7, 8], &[4]],
+    receipts: "\
+1 5
+2 3 6 7 8
+4
+",
 };
 
 /// A cyclic handler makes its two steps and returns, each time that it is due.
-const CYCLIC: Story = Story {
+static CYCLIC: Story = Story {
     config: "\
 PROCESSORS(1);
 DEF_CLASS(C1, 1, {1});
@@ -154,20 +116,7 @@ script main1
   sns_ctx()
 end
 ",
-    moves: &[
-        Move::Tick(Side::One),
-        Move::Turn(Side::One),
-        Move::Tick(Side::One),
-        Move::Turn(Side::One),
-        Move::Turn(Side::One),
-        Move::Turn(Side::One),
-        Move::Tick(Side::One),
-        Move::Turn(Side::One),
-        Move::Turn(Side::One),
-        Move::Turn(Side::One),
-        Move::Turn(Side::One),
-        Move::Rest(Side::One),
-    ],
+    moves: "+1 1 +1 1 1 1 +1 1 1 1 1 1-",
     trace: "\
 1 P1 T1 tick taken
 2 P1 CY iget_tid() E_OK:1
@@ -181,11 +130,14 @@ end
 10 P1 CY ret_hdr E_OK
 11 P1 T1 ext_tsk() gone run=idle
 ",
-    receipts: &[&[2, 4, 5, 6, 8, 9, 10, 11], &[1, 3, 7]],
+    receipts: "\
+2 4 5 6 8 9 10 11
+1 3 7
+",
 };
 
 /// A tick of the master ends a wait on another processor, whose own ticks do not count.
-const MASTER: Story = Story {
+static MASTER: Story = Story {
     config: "\
 PROCESSORS(2);
 TIMER(GLOBAL, 1);
@@ -199,15 +151,7 @@ script main2
   dly_tsk(0)
 end
 ",
-    moves: &[
-        Move::Turn(Side::Two),
-        Move::Tick(Side::Two),
-        Move::Tick(Side::One),
-        Move::Turn(Side::Two),
-        Move::Turn(Side::Two),
-        Move::Turn(Side::One),
-        Move::Rest(Side::Two),
-    ],
+    moves: "2 +2 +1 2 2 1 2-",
     trace: "\
 1 P2 T2 dly_tsk(0) wait run=idle
 2 P2 - tick none
@@ -216,11 +160,15 @@ end
 5 P2 T2 ext_tsk() gone run=idle
 6 P1 T1 ext_tsk() gone run=idle
 ",
-    receipts: &[&[6], &[1, 4, 5], &[2, 3]],
+    receipts: "\
+6
+1 4 5
+2 3
+",
 };
 
 /// A task that is terminated begins its script anew when it is activated again.
-const TERMINATED: Story = Story {
+static TERMINATED: Story = Story {
     config: "\
 PROCESSORS(1);
 DEF_CLASS(C1, 1, {1});
@@ -239,16 +187,7 @@ script main2
   slp_tsk()
 end
 ",
-    moves: &[
-        Move::Turn(Side::One),
-        Move::Turn(Side::One),
-        Move::Turn(Side::One),
-        Move::Turn(Side::One),
-        Move::Turn(Side::One),
-        Move::Turn(Side::One),
-        Move::Turn(Side::One),
-        Move::Rest(Side::One),
-    ],
+    moves: "1 1 1 1 1 1 1 1-",
     trace: "\
 1 P1 T2 get_tid() E_OK:2
 2 P1 T2 slp_tsk() wait run=T1
@@ -258,29 +197,28 @@ end
 6 P1 T2 slp_tsk() wait run=T1
 7 P1 T1 ext_tsk() gone run=idle
 ",
-    receipts: &[&[1, 2, 3, 4, 5, 6, 7], &[]],
+    receipts: "\
+1 2 3 4 5 6 7
+
+",
 };
 
-/// A turn of a seat, if the world has its processor.
-fn turned(world: &mut World<'_>, cpu: &mut Cpu) -> Option<Turn> {
+/// A turn of the processor of a digit, if the world has it.
+fn take_turn(world: &mut World<'_>, seats: &mut Seats, digit: u8) -> Option<Turn> {
+    let cpu = seats.cpus.get_mut(usize::from(digit.wrapping_sub(b'1')))?;
     if cpu.processor().number > world.processors() {
         return None;
     }
     Some(world.turn(cpu))
 }
 
-/// A turn of a processor, if the world has it.
-fn take_turn(world: &mut World<'_>, seats: &mut Seats, side: Side) -> Option<Turn> {
-    turned(world, seats.cpus.get_mut(side.processor().index())?)
-}
-
-/// A tick of a processor, if the world has it.
-fn take_tick(world: &mut World<'_>, seats: &mut Seats, side: Side) -> Option<Turn> {
-    let p = side.processor();
-    if p.number > world.processors() {
+/// A tick of the processor of a digit, if the world has it.
+fn take_tick(world: &mut World<'_>, seats: &mut Seats, digit: u8) -> Option<Turn> {
+    let place = digit.wrapping_sub(b'1');
+    if place >= world.processors() {
         return None;
     }
-    Some(world.tick(&mut seats.clock, p))
+    Some(world.tick(&mut seats.clock, Proc::from_index(usize::from(place))))
 }
 
 /// Whether a turn or a tick made a record.
@@ -289,13 +227,24 @@ fn is_made(turn: Option<Turn>) -> bool {
 }
 
 /// Whether a move goes as it is to go.
-fn goes(world: &mut World<'_>, seats: &mut Seats, step: Move) -> bool {
+fn goes(world: &mut World<'_>, seats: &mut Seats, step: &[u8]) -> bool {
     match step {
-        Move::Turn(side) => is_made(take_turn(world, seats, side)),
-        Move::Rest(side) => take_turn(world, seats, side) == Some(Turn::Nothing),
-        Move::Full(side) => take_turn(world, seats, side) == Some(Turn::Full),
-        Move::Tick(side) => is_made(take_tick(world, seats, side)),
+        [b'+', p] => is_made(take_tick(world, seats, *p)),
+        [p] => is_made(take_turn(world, seats, *p)),
+        [p, b'-'] => take_turn(world, seats, *p) == Some(Turn::Nothing),
+        [p, b'='] => take_turn(world, seats, *p) == Some(Turn::Full),
+        _ => false,
     }
+}
+
+/// Whether all moves go as they are to go.
+fn all_go(world: &mut World<'_>, seats: &mut Seats, moves: &str) -> bool {
+    for step in moves.split(' ') {
+        if !goes(world, seats, step.as_bytes()) {
+            return false;
+        }
+    }
+    true
 }
 
 /// A receipt tells the record of its number.
@@ -306,28 +255,23 @@ fn tells(receipt: &Receipt, records: &[Record]) -> bool {
     receipt.event == made.event && receipt.answer == made.answer
 }
 
-/// The receipts of one seat are those of these numbers.
-fn are_told(rt: &impl Abort, receipts: &[Receipt], numbers: &[u32], records: &[Record]) {
-    assert!(rt; receipts.len() == numbers.len());
-    for (receipt, number) in receipts.iter().zip(numbers) {
-        assert!(rt; receipt.number == *number);
-        assert!(rt; tells(receipt, records));
-    }
-}
-
-/// The receipts of a run are those of a story.
-fn has_receipts(
-    rt: &impl Abort,
+/// Adds the numbers of the receipts of a seat as a line, or what stands in no story if one does not tell its record.
+fn add_receipts(
     alloc: Global,
-    run: &SmpRun<'_>,
-    story: Story,
+    shown: &mut String,
+    receipts: &[Receipt],
+    records: &[Record],
 ) -> Result<(), AllocError> {
-    let records = records_of(alloc, &run.history)?;
-    assert!(rt; run.receipts.len() == story.receipts.len());
-    for (receipts, numbers) in run.receipts.as_slice().iter().zip(story.receipts) {
-        are_told(rt, receipts.as_slice(), *numbers, records.as_slice());
+    for (at, receipt) in receipts.iter().enumerate() {
+        let blank = if at == 0 { "" } else { " " };
+        let number = if tells(receipt, records) {
+            receipt.number
+        } else {
+            0
+        };
+        shown.push_str(format!(in alloc; "{blank}{number}")?.as_str())?;
     }
-    Ok(())
+    shown.push_str("\n")
 }
 
 /// The records of a history.
@@ -344,21 +288,7 @@ fn records_of(alloc: Global, history: &History<'_>) -> Result<Vec<Record>, Alloc
     Ok(records)
 }
 
-/// Records are printed so.
-fn prints(
-    alloc: Global,
-    records: &[Record],
-    config: &Config,
-    trace: &str,
-) -> Result<bool, AllocError> {
-    if records.len() > 1000 {
-        return Ok(false);
-    }
-    let printed = trace_text(alloc, records, config.names())?;
-    Ok(printed.as_slice() == trace.as_bytes())
-}
-
-/// The records of a history are printed so.
+/// Whether a history is printed so.
 fn is_printed(
     alloc: Global,
     history: &History<'_>,
@@ -366,115 +296,198 @@ fn is_printed(
     trace: &str,
 ) -> Result<bool, AllocError> {
     let records = records_of(alloc, history)?;
-    prints(alloc, records.as_slice(), config, trace)
+    if records.len() > 1000 {
+        return Ok(false);
+    }
+    let printed = trace_text(alloc, records.as_slice(), config.names())?;
+    Ok(printed.as_slice() == trace.as_bytes())
 }
 
-/// How a run ended, whose history and receipts are those of a story.
-fn ended(
-    rt: &impl Abort,
+/// Whether the history and the receipts of a run are those of a story.
+fn is_told(
     alloc: Global,
     run: &SmpRun<'_>,
     config: &Config,
-    story: Story,
-) -> Result<Ended, AllocError> {
-    assert!(rt; is_printed(alloc, &run.history, config, story.trace)?);
-    has_receipts(rt, alloc, run, story)?;
-    Ok(run.ended)
+    story: &Story,
+) -> Result<bool, AllocError> {
+    let records = records_of(alloc, &run.history)?;
+    let mut shown = String::new(alloc);
+    for receipts in run.receipts.as_slice() {
+        add_receipts(alloc, &mut shown, receipts.as_slice(), records.as_slice())?;
+    }
+    Ok(shown.as_str() == story.receipts && is_printed(alloc, &run.history, config, story.trace)?)
 }
 
-/// The moves of a story go as they are to go, and its history is printed.
+/// How a run of a story ended, whose moves went as they are told: `!` if they did not, `-` if there is no run, and `?` if it has another
+/// history or other receipts.
+fn end_of(
+    alloc: Global,
+    went: Result<bool, AllocError>,
+    run: &Option<SmpRun<'_>>,
+    config: &Config,
+    story: &Story,
+) -> Result<&'static str, AllocError> {
+    if !went? {
+        return Ok("!");
+    }
+    let Some(run) = run else {
+        return Ok("-");
+    };
+    if !is_told(alloc, run, config, story)? {
+        return Ok("?");
+    }
+    Ok(match run.ended {
+        Ended::Quiet => "quiet",
+        Ended::Limit => "limit",
+    })
+}
+
+/// Whether the moves of a story go as they are to go, and its history is printed.
 fn plays(
-    rt: &impl Abort,
     alloc: Global,
     world: &mut World<'_>,
     seats: &mut Seats,
     config: &Config,
-    story: Story,
-) -> Result<(), AllocError> {
-    for step in story.moves {
-        assert!(rt; goes(world, seats, *step));
-    }
-    assert!(rt; is_printed(alloc, world.history(), config, story.trace)?);
-    Ok(())
+    story: &Story,
+) -> Result<bool, AllocError> {
+    Ok(
+        all_go(world, seats, story.moves)
+            && is_printed(alloc, world.history(), config, story.trace)?,
+    )
 }
 
-/// A story on a machine with room for so many turns, and what is judged with these numbers.
-fn told_on(
-    rt: &impl Abort,
+/// Room for so many turns, and the ticks and turns by which a run is judged.
+type Numbers = (u32, u32, u32);
+
+/// How a world and its seats end, on which the moves of a story went as they are told, or did not.
+fn finished(
+    alloc: Global,
+    world: World<'_>,
+    seats: Seats,
+    went: Result<bool, AllocError>,
+    config: &Config,
+    scripts: &Scripts,
+    story: &Story,
+    numbers: Numbers,
+) -> Result<&'static str, AllocError> {
+    let run = world.finish(seats, config, scripts, numbers.1, numbers.2);
+    end_of(alloc, went, &run, config, story)
+}
+
+/// How a story ends on a machine by these scripts.
+fn end_on(
     alloc: Global,
     config: &Config,
     scripts: &Scripts,
-    story: Story,
-    booted: u32,
-    ticks: u32,
-    turns: u32,
-) -> Result<Option<Ended>, AllocError> {
-    let (mut world, mut seats) = World::boot(alloc, config, scripts, booted)?;
-    plays(rt, alloc, &mut world, &mut seats, config, story)?;
-    match world.finish(seats, config, scripts, ticks, turns) {
-        Some(run) => Ok(Some(ended(rt, alloc, &run, config, story)?)),
-        None => Ok(None),
-    }
+    story: &Story,
+    numbers: Numbers,
+) -> Result<&'static str, AllocError> {
+    let (mut world, mut seats) = World::boot(alloc, config, scripts, numbers.0)?;
+    let went = plays(alloc, &mut world, &mut seats, config, story);
+    finished(alloc, world, seats, went, config, scripts, story, numbers)
 }
 
-/// A story on a world with so many turns, whose history is printed, and what is judged with these numbers.
-fn told(
+// Each function owns as few large values as may be: a check is dear of one that lets several of them go at several places.
+
+/// How a story ends on the machine of its configuration.
+fn end_by(
+    alloc: Global,
+    config: &Config,
+    story: &Story,
+    numbers: Numbers,
+) -> Result<&'static str, Fail> {
+    let scripts = read_scripts(alloc, story.scripts.as_bytes(), config.names())?;
+    Ok(end_on(alloc, config, &scripts, story, numbers)?)
+}
+
+/// How a story ends.
+fn end(alloc: Global, story: &Story, numbers: Numbers) -> Result<&'static str, Fail> {
+    let config = read_config(alloc, story.config.as_bytes())?;
+    end_by(alloc, &config, story, numbers)
+}
+
+/// Asserts how a story ends.
+fn ends(
     rt: &impl Abort,
     alloc: Global,
-    story: Story,
-    booted: u32,
-    ticks: u32,
-    turns: u32,
-) -> Result<Option<Ended>, Fail> {
-    let config = read_config(alloc, story.config.as_bytes())?;
-    let scripts = read_scripts(alloc, story.scripts.as_bytes(), config.names())?;
-    Ok(told_on(rt, alloc, &config, &scripts, story, booted, ticks, turns)?)
+    story: &Story,
+    numbers: Numbers,
+    wanted: &str,
+) -> Result<(), Fail> {
+    let found = end(alloc, story, numbers)?;
+    assert_eq!(rt; found, wanted);
+    Ok(())
 }
 
+/// Ticks that no processor took, and turns that are not the world's, make no run.
 #[test]
 fn one_processor_activates_a_task_of_another(rt: HostRuntime) -> Result<(), Fail> {
-    let alloc = rt.alloc();
-    assert!(&rt; told(&rt, alloc, REMOTE, 6, 0, 6)? == Some(Ended::Quiet));
-    // Ticks that no processor took, and turns that are not the world's.
-    assert!(&rt; told(&rt, alloc, REMOTE, 6, 1, 6)? == None);
-    assert!(&rt; told(&rt, alloc, REMOTE, 6, 0, 7)? == None);
-    Ok(())
+    ends(&rt, rt.alloc(), &REMOTE, (6, 0, 6), "quiet")?;
+    ends(&rt, rt.alloc(), &REMOTE, (6, 1, 6), "-")?;
+    ends(&rt, rt.alloc(), &REMOTE, (6, 0, 7), "-")
 }
 
 /// A history that is full is quiet all the same.
 #[test]
 fn a_full_history_may_be_quiet(rt: HostRuntime) -> Result<(), Fail> {
     let full = Story {
-        moves: &[
-            Move::Turn(Side::One),
-            Move::Turn(Side::Two),
-            Move::Turn(Side::Two),
-            Move::Turn(Side::Two),
-            Move::Rest(Side::Two),
-            Move::Turn(Side::One),
-            Move::Full(Side::One),
-        ],
+        moves: "1 2 2 2 2- 1 1=",
         ..REMOTE
     };
-    assert!(&rt; told(&rt, rt.alloc(), full, 5, 0, 5)? == Some(Ended::Quiet));
-    assert!(&rt; told(&rt, rt.alloc(), full, 5, 1, 5)? == Some(Ended::Limit));
-    Ok(())
+    ends(&rt, rt.alloc(), &full, (5, 0, 5), "quiet")?;
+    ends(&rt, rt.alloc(), &full, (5, 1, 5), "limit")
 }
 
-/// The seats of another boot, which took no turn, do not fit.
+/// Whether seats fit to a world.
+fn fits(config: &Config, scripts: &Scripts, world: World<'_>, seats: Seats) -> bool {
+    world.finish(seats, config, scripts, 0, 6).is_some()
+}
+
+/// Whether a world is quiet, as it is told, whether the seats of another boot, which took no turn, fit to it, and its own to the
+/// world of that boot.
+fn exchanged_fit(
+    alloc: Global,
+    config: &Config,
+    scripts: &Scripts,
+    world: World<'_>,
+    seats: Seats,
+    quiet: bool,
+) -> Result<[bool; 3], Fail> {
+    let (other, unused) = World::boot(alloc, config, scripts, 6)?;
+    Ok([
+        quiet,
+        fits(config, scripts, world, unused),
+        fits(config, scripts, other, seats),
+    ])
+}
+
+/// Whether a world is quiet behind a story alone, and whether others fit then.
+fn quiet_and_fit(
+    alloc: Global,
+    config: &Config,
+    scripts: &Scripts,
+    story: &Story,
+) -> Result<[bool; 3], Fail> {
+    let (mut world, mut seats) = World::boot(alloc, config, scripts, 6)?;
+    let quiet = !world.quiet() && all_go(&mut world, &mut seats, story.moves) && world.quiet();
+    exchanged_fit(alloc, config, scripts, world, seats, quiet)
+}
+
+/// The same of a story with its configuration.
+fn quiet_and_fit_by(alloc: Global, config: &Config, story: &Story) -> Result<[bool; 3], Fail> {
+    let scripts = read_scripts(alloc, story.scripts.as_bytes(), config.names())?;
+    quiet_and_fit(alloc, config, &scripts, story)
+}
+
+/// The same of a story.
+fn quiet_and_fit_of(alloc: Global, story: &Story) -> Result<[bool; 3], Fail> {
+    let config = read_config(alloc, story.config.as_bytes())?;
+    quiet_and_fit_by(alloc, &config, story)
+}
+
 #[test]
 fn seats_of_another_boot_do_not_fit(rt: HostRuntime) -> Result<(), Fail> {
-    let alloc = rt.alloc();
-    let config = read_config(alloc, REMOTE.config.as_bytes())?;
-    let scripts = read_scripts(alloc, REMOTE.scripts.as_bytes(), config.names())?;
-    let (mut world, mut seats) = World::boot(alloc, &config, &scripts, 6)?;
-    let (_, unused) = World::boot(alloc, &config, &scripts, 6)?;
-    assert!(&rt; !world.quiet());
-    for step in REMOTE.moves {
-        assert!(&rt; goes(&mut world, &mut seats, *step));
-    }
-    assert!(&rt; world.quiet());
-    assert!(&rt; world.finish(unused, &config, &scripts, 0, 6).is_none());
+    assert!(rt; quiet_and_fit_of(rt.alloc(), &REMOTE)? == [true, false, false]);
     Ok(())
 }
 
@@ -485,7 +498,7 @@ fn judged(
     scripts: &Scripts,
     by_config: &Config,
     by_scripts: &Scripts,
-) -> Result<Option<Ended>, AllocError> {
+) -> Result<Option<Ended>, Fail> {
     let (world, seats) = World::boot(alloc, config, scripts, 0)?;
     match world.finish(seats, by_config, by_scripts, 0, 0) {
         Some(run) => Ok(Some(run.ended)),
@@ -493,49 +506,75 @@ fn judged(
     }
 }
 
-#[test]
-fn other_scripts_do_not_fit(rt: HostRuntime) -> Result<(), Fail> {
-    let alloc = rt.alloc();
-    let config = read_config(alloc, REMOTE.config.as_bytes())?;
-    let scripts = read_scripts(alloc, REMOTE.scripts.as_bytes(), config.names())?;
+/// How it ends by no scripts.
+fn judged_by_none(
+    alloc: Global,
+    config: &Config,
+    scripts: &Scripts,
+) -> Result<Option<Ended>, Fail> {
     let none = read_scripts(alloc, b"", config.names())?;
-    assert!(&rt; judged(alloc, &config, &scripts, &config, &none)? == None);
-    assert!(&rt; judged(alloc, &config, &scripts, &config, &scripts)? == Some(Ended::Limit));
-    Ok(())
+    judged(alloc, config, scripts, config, &none)
+}
+
+/// How it ends by another machine.
+fn judged_by_another(
+    alloc: Global,
+    config: &Config,
+    scripts: &Scripts,
+) -> Result<Option<Ended>, Fail> {
+    let other = read_config(alloc, SPINNING.config.as_bytes())?;
+    judged(alloc, config, scripts, &other, scripts)
+}
+
+/// How it ends by its own configuration and scripts, by no scripts, and by another machine.
+fn each_judged(
+    alloc: Global,
+    config: &Config,
+    scripts: &Scripts,
+) -> Result<[Option<Ended>; 3], Fail> {
+    Ok([
+        judged(alloc, config, scripts, config, scripts)?,
+        judged_by_none(alloc, config, scripts)?,
+        judged_by_another(alloc, config, scripts)?,
+    ])
+}
+
+/// The same of a configuration with the scripts of the first story.
+fn all_judged_by(alloc: Global, config: &Config) -> Result<[Option<Ended>; 3], Fail> {
+    let scripts = read_scripts(alloc, REMOTE.scripts.as_bytes(), config.names())?;
+    each_judged(alloc, config, &scripts)
+}
+
+/// The same of the first story.
+fn all_judged(alloc: Global) -> Result<[Option<Ended>; 3], Fail> {
+    let config = read_config(alloc, REMOTE.config.as_bytes())?;
+    all_judged_by(alloc, &config)
 }
 
 #[test]
-fn another_machine_does_not_fit(rt: HostRuntime) -> Result<(), Fail> {
-    let alloc = rt.alloc();
-    let config = read_config(alloc, REMOTE.config.as_bytes())?;
-    let scripts = read_scripts(alloc, REMOTE.scripts.as_bytes(), config.names())?;
-    let other = read_config(alloc, SPINNING.config.as_bytes())?;
-    assert!(&rt; judged(alloc, &config, &scripts, &other, &scripts)? == None);
+fn other_scripts_and_another_machine_do_not_fit(rt: HostRuntime) -> Result<(), Fail> {
+    assert!(rt; all_judged(rt.alloc())? == [Some(Ended::Limit), None, None]);
     Ok(())
 }
 
 #[test]
 fn a_step_that_spins_is_asked_again(rt: HostRuntime) -> Result<(), Fail> {
-    assert!(&rt; told(&rt, rt.alloc(), SPINNING, 8, 0, 8)? == Some(Ended::Limit));
-    Ok(())
+    ends(&rt, rt.alloc(), &SPINNING, (8, 0, 8), "limit")
 }
 
 #[test]
 fn a_handler_makes_its_steps_and_returns(rt: HostRuntime) -> Result<(), Fail> {
-    assert!(&rt; told(&rt, rt.alloc(), CYCLIC, 20, 2, 20)? == Some(Ended::Quiet));
-    assert!(&rt; told(&rt, rt.alloc(), CYCLIC, 20, 1, 20)? == None);
-    Ok(())
+    ends(&rt, rt.alloc(), &CYCLIC, (20, 2, 20), "quiet")?;
+    ends(&rt, rt.alloc(), &CYCLIC, (20, 1, 20), "-")
 }
 
 #[test]
 fn the_ticks_of_the_master_are_all(rt: HostRuntime) -> Result<(), Fail> {
-    assert!(&rt; told(&rt, rt.alloc(), MASTER, 7, 1, 7)? == Some(Ended::Quiet));
-    assert!(&rt; told(&rt, rt.alloc(), MASTER, 7, 2, 7)? == None);
-    Ok(())
+    ends(&rt, rt.alloc(), &MASTER, (7, 1, 7), "quiet")?;
+    ends(&rt, rt.alloc(), &MASTER, (7, 2, 7), "-")
 }
 
 #[test]
 fn a_terminated_task_begins_anew(rt: HostRuntime) -> Result<(), Fail> {
-    assert!(&rt; told(&rt, rt.alloc(), TERMINATED, 9, 0, 9)? == Some(Ended::Quiet));
-    Ok(())
+    ends(&rt, rt.alloc(), &TERMINATED, (9, 0, 9), "quiet")
 }

@@ -6,6 +6,7 @@
 #![tactic(auto)]
 
 mod beside;
+mod layer;
 mod lines;
 mod output;
 mod progress;
@@ -184,7 +185,7 @@ fn saved<R: Files + Print + AllocGlobal>(rt: &R, paths: &Paths<'_>) -> Result<St
     Ok(Status::Done)
 }
 
-/// Writes whether an order of what scripts ask shows what the request asks.
+/// Writes whether an order of what scripts ask shows what the request asks, and where a folder is named there the traces from which to go on.
 fn explore<R: Files + Input + Print + Eprint + Clock + AllocGlobal>(
     rt: &R,
     paths: &Paths<'_>,
@@ -192,6 +193,9 @@ fn explore<R: Files + Input + Print + Eprint + Clock + AllocGlobal>(
     line: &mut ProgressLine<'_, R>,
 ) -> Result<Status, Ending> {
     let alloc = rt.alloc();
+    if let Some(folder) = request.layer {
+        layer::folder_made(rt, folder)?;
+    }
     let (config, scripts) = both_taken(rt, paths)?;
     let mut scripts = ReadSource::new(scripts);
     let mut output = WriteSink::new(alloc, io::writer(rt))?;
@@ -203,7 +207,11 @@ fn explore<R: Files + Input + Print + Eprint + Clock + AllocGlobal>(
         request,
         line,
     );
-    kept(settled_search(run, output.is_closed()), config)
+    let outcome = kept(settled_search(run, output.is_closed()), config)?;
+    if let Some(folder) = request.layer {
+        layer::written(rt, folder, &outcome.layer)?;
+    }
+    Ok(outcome.finding.status())
 }
 
 /// Writes whether one of the orders that go on from the trace at this path does.
@@ -409,6 +417,11 @@ fn ended<R: Files + Eprint + AllocGlobal>(
         Err(Ending::Unread | Ending::NoTrace) => Status::Device,
         Err(Ending::LongTrace | Ending::Stray(_)) => Status::Faulty,
         Err(Ending::Name(_)) => Status::Usage,
+        Err(Ending::Unmade(error, path)) => {
+            let status = failed(rt, paths, &RunFault::Write);
+            beside::tell_path(rt, path.as_str(), &error);
+            status
+        }
         Err(Ending::Fault(fault)) => {
             let status = failed(rt, paths, &fault);
             if matches!(fault, RunFault::Read) {

@@ -32,6 +32,8 @@ pub enum Ending {
     Stray(u32),
     /// The name of this number, from 0, names nothing in the configuration.
     Name(usize),
+    /// The file or folder at this path cannot be made or written, for this cause.
+    Unmade(io::Error, String),
 }
 
 impl From<RunFault> for Ending {

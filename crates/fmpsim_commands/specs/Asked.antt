@@ -1,7 +1,33 @@
 -- What requests ask for.
+use Rattle.std.specs.Prelude.{Option, None, Some}
 use Rattle.fmp_orders.specs.declared.rules.Rules.{Rules}
 use Rattle.fmp_explore_command.specs.declared.ExploreRequest.{ExploreRequest}
+use Rattle.fmp_view.specs.declared.run.PageKind.{PageKind}
+use Rattle.fmp_view.specs.declared.run.PageKind.TheVariants as kind
+use Rattle.fmpsim_cli.specs.declared.Asked.{Asked}
+use Rattle.fmpsim_cli.specs.declared.Asked.TheVariants as asked
+use Rattle.fmpsim_cli.specs.declared.Told.{Told}
+use Rattle.fmpsim_cli.specs.declared.Told.TheVariants.{Line, State}
+use Rattle.fmpsim_run.specs.declared.stream.Detail.{Detail}
+use Rattle.fmpsim_run.specs.declared.stream.Detail.TheVariants as detail
+use Rattle.fmpsim_run.specs.Details.{detail_of}
+use Rattle.fmpsim_run.specs.Runs.{Writing}
 
 -- which orders are gone through
 abbrev pub rules_of : ExploreRequest → Rules
 rules_of r = record { ticks = r.ticks; prompt = r.prompt; drift = r.drift }
+
+-- what is written of each event
+abbrev pub detail_told : Told → Detail
+detail_told Line = detail.Line
+detail_told State = detail.State
+
+-- how that is written of a list of them
+abbrev pub writing_of : Told → Writing
+writing_of told = detail_of (detail_told told)
+
+-- the page that is asked for of a trace, if one is
+abbrev pub page_asked : Asked → Option PageKind
+page_asked asked.Page = Some kind.Own
+page_asked asked.DifferencesPage = Some kind.Differences
+page_asked other = None

@@ -6,13 +6,23 @@ ghost use Rattle.fmp_text.specs.TextGrammar.{SpellsText};
 ghost use Rattle.fmp_devices.specs.Devices.{IsKnown, bytes_of};
 ghost use Rattle.fmp_judging.specs.Faults.{failed_write, is_config, is_thread_fault};
 ghost use Rattle.fmp_judging.specs.Texts.{CountsReads, FirstConfigFault, FlushFails, SaysConfig};
-ghost use Rattle.fmpsim_run.specs.Details.{AreStatesTold, LeavesStates, states_of};
-ghost use Rattle.fmpsim_run.specs.Runs.{FirstTextFault, HasShortLines, IsAnswered, IsNoFaultOfText, IsPrefix, IsWantOfMemory, LeavesOut, trace_of};
+ghost use Rattle.fmpsim_commands.specs.Asked.{detail_told, writing_of};
+ghost use Rattle.fmpsim_run.specs.Runs.{FirstTextFault, HasShortLines, IsAnswered, IsNoFaultOfText, IsPrefix, IsWantOfMemory, IsWritten, LeavesWritten};
 
 use fmp_devices::{Sink, Source};
 use fmpsim_cli::Told;
-use fmpsim_run::{RunFault, Status, run_calls, run_states};
+use fmpsim_run::{Detail, RunFault, Status, run_events};
 use std::alloc::Global;
+
+/// What is written of each event.
+fn detail_for(told: Told) -> Detail
+    ensures { result ≡ detail_told told }
+{
+    match told {
+        Told::Line => Detail::Line,
+        Told::State => Detail::State,
+    }
+}
 
 /// Writes what the machine answers to events, each event's part as it comes, and with it the state where that is asked for.
 pub fn answer<R: Source, S: Source, W: Sink>(
@@ -27,10 +37,10 @@ pub fn answer<R: Source, S: Source, W: Sink>(
     requires trace_calls { W.failures trace.old < 2 ^ 64 - 1 }
 
     // Both texts were read to their ends, and what is asked for was written: the trace, or each state with it.
+    ensures answered { IsKnown (R.left config.old) → IsKnown (S.left events.old) → IsKnown (W.written trace.old)
+        → OnOk result (IsWritten (writing_of told) (bytes_of (R.left config.old)) (bytes_of (S.left events.old)) (bytes_of (W.written trace.old)) (bytes_of (W.written trace.new))) }
     ensures lines { told ≡ Told.Line → IsKnown (R.left config.old) → IsKnown (S.left events.old) → IsKnown (W.written trace.old)
         → OnOk result (IsAnswered (bytes_of (R.left config.old)) (bytes_of (S.left events.old)) (bytes_of (W.written trace.old)) (bytes_of (W.written trace.new))) }
-    ensures states { told ≡ Told.State → IsKnown (R.left config.old) → IsKnown (S.left events.old) → IsKnown (W.written trace.old)
-        → OnOk result (AreStatesTold (bytes_of (R.left config.old)) (bytes_of (S.left events.old)) (bytes_of (W.written trace.old)) (bytes_of (W.written trace.new))) }
     ensures known { IsKnown (W.written trace.old) → IsKnown (W.written trace.new) }
     ensures status { IfOk result (λ status. status ≡ Status.Done) }
     ensures config_read { IsKnown (R.left config.old) → OnOk result (bytes_of (R.left config.new) ≡ []) }
@@ -46,10 +56,8 @@ pub fn answer<R: Source, S: Source, W: Sink>(
 
     // What is out after each fault.
     ensures unwritten { IsKnown (W.written trace.old) → IfErr result (λ fault. is_config fault ≡ true → bytes_of (W.written trace.new) ≡ bytes_of (W.written trace.old)) }
-    ensures lines_left { told ≡ Told.Line → IsKnown (R.left config.old) → IsKnown (S.left events.old) → IsKnown (W.written trace.old)
-        → IfErr result (LeavesOut (bytes_of (R.left config.old)) (bytes_of (S.left events.old)) (bytes_of (W.written trace.old)) (bytes_of (W.written trace.new))) }
-    ensures states_left { told ≡ Told.State → IsKnown (R.left config.old) → IsKnown (S.left events.old) → IsKnown (W.written trace.old)
-        → IfErr result (LeavesStates (bytes_of (R.left config.old)) (bytes_of (S.left events.old)) (bytes_of (W.written trace.old)) (bytes_of (W.written trace.new))) }
+    ensures leaves { IsKnown (R.left config.old) → IsKnown (S.left events.old) → IsKnown (W.written trace.old)
+        → IfErr result (LeavesWritten (writing_of told) (bytes_of (R.left config.old)) (bytes_of (S.left events.old)) (bytes_of (W.written trace.old)) (bytes_of (W.written trace.new))) }
 
     // However the run ends, nothing is held back, unless a write failed.
     ensures passed { OnOk result (W.buffered trace.new ≡ []) }
@@ -66,15 +74,10 @@ pub fn answer<R: Source, S: Source, W: Sink>(
     // Which calls of the devices failed. Where a write or a flush did, no read failed; or one of the events did, and behind it the
     // flush alone: then what is written of some prefix of the events is out, each line whole.
     ensures reads { result ≢ Err RunFault.Write → CountsReads result (R.failures config.old) (R.failures config.new) (S.failures events.old) (S.failures events.new) }
-    ensures lines_flush { told ≡ Told.Line → result ≡ Err RunFault.Write → (R.failures config.new ≡ R.failures config.old) × FlushFails (S.failures events.old) (S.failures events.new)
-        (IsKnown (R.left config.old) → IsKnown (S.left events.old) → IsKnown (W.written trace.old) → IsPrefix trace_of (bytes_of (R.left config.old)) (bytes_of (S.left events.old)) (bytes_of (W.written trace.old)) (bytes_of (W.written trace.new))) }
-    ensures states_flush { told ≡ Told.State → result ≡ Err RunFault.Write → (R.failures config.new ≡ R.failures config.old) × FlushFails (S.failures events.old) (S.failures events.new)
-        (IsKnown (R.left config.old) → IsKnown (S.left events.old) → IsKnown (W.written trace.old) → IsPrefix states_of (bytes_of (R.left config.old)) (bytes_of (S.left events.old)) (bytes_of (W.written trace.old)) (bytes_of (W.written trace.new))) }
+    ensures flush { result ≡ Err RunFault.Write → (R.failures config.new ≡ R.failures config.old) × FlushFails (S.failures events.old) (S.failures events.new)
+        (IsKnown (R.left config.old) → IsKnown (S.left events.old) → IsKnown (W.written trace.old) → IsPrefix (writing_of told) (bytes_of (R.left config.old)) (bytes_of (S.left events.old)) (bytes_of (W.written trace.old)) (bytes_of (W.written trace.new))) }
     ensures writes { W.failures trace.new ≡ W.failures trace.old + (if failed_write result then 1 else 0) }
 {
-    match told {
-        Told::Line => run_calls(alloc, config, events, trace)?,
-        Told::State => run_states(alloc, config, events, trace)?,
-    }
+    run_events(alloc, detail_for(told), config, events, trace)?;
     Ok(Status::Done)
 }

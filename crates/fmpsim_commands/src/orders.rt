@@ -7,6 +7,7 @@ ghost use Rattle.fmp_judging.specs.Texts.{CountsReads};
 ghost use Rattle.fmpsim_explore.specs.Explored as spec;
 ghost use Rattle.fmpsim_explore.specs.Explored.{IsBegun, IsExplored};
 ghost use Rattle.fmpsim_explore.specs.Faults as faults;
+ghost use Rattle.fmpsim_explore.specs.Left.{LeavesLayer};
 ghost use Rattle.fmpsim_explore.specs.declared.finding.Finding.{Finding as AnyFinding};
 ghost use Rattle.fmpsim_explore_from.specs.Explored.{IsBegunFrom, IsExploredFrom};
 ghost use Rattle.fmpsim_explore_from.specs.Faults as from_faults;
@@ -14,7 +15,7 @@ ghost use Rattle.fmpsim_commands.specs.Asked as asked;
 
 use fmp_devices::{Sink, Source};
 use fmp_explore_command::ExploreRequest;
-use fmpsim_explore::{ExploreFault, Progress, Rules, run_explore};
+use fmpsim_explore::{ExploreFault, Outcome, Progress, Rules, run_explore};
 use fmpsim_explore_from::{FromFault, run_explore_from};
 use fmpsim_run::{RunFault, Status};
 use std::alloc::Global;
@@ -30,7 +31,7 @@ fn rules_of(request: &ExploreRequest<'_>) -> Rules
     }
 }
 
-/// Writes whether an order shows what the request asks. The status says what was found.
+/// Writes whether an order shows what the request asks. What was found is given, with the orders from which a search is to go on.
 pub fn search<R: Source, S: Source, W: Sink, P: Progress>(
     alloc: Global,
     config: &mut R,
@@ -38,15 +39,16 @@ pub fn search<R: Source, S: Source, W: Sink, P: Progress>(
     output: &mut W,
     request: &ExploreRequest<'_>,
     progress: &mut P,
-) -> Result<Status, ExploreFault>
+) -> Result<Outcome, ExploreFault>
     requires config_calls { R.failures config.old < 2 ^ 64 - 1 }
     requires script_calls { S.failures scripts.old < 2 ^ 64 - 1 }
     requires output_calls { W.failures output.old < 2 ^ 64 - 1 }
 
     // Both texts were read to their ends, and what is written says what is known of all orders by these rules. None of it is held back.
     ensures explored { IsKnown (R.left config.old) → IsKnown (S.left scripts.old) → IsKnown (W.written output.old)
-        → IfOk result (λ status. (finding : AnyFinding) × (status ≡ spec.status_of finding)
-        × IsExplored (bytes_of (R.left config.old)) (bytes_of (S.left scripts.old)) request.now.question.now (asked.rules_of request.now) request.now.bounds.turns (request.now.bounds.places - 1) (bytes_of (W.written output.old)) (bytes_of (W.written output.new)) finding) }
+        → IfOk result (λ o. IsExplored (bytes_of (R.left config.old)) (bytes_of (S.left scripts.old)) request.now.question.now (asked.rules_of request.now) request.now.bounds.turns (request.now.bounds.places - 1) (bytes_of (W.written output.old)) (bytes_of (W.written output.new)) o.finding) }
+    ensures layer { IsKnown (R.left config.old) → IsKnown (S.left scripts.old)
+        → IfOk result (λ o. LeavesLayer (bytes_of (R.left config.old)) (bytes_of (S.left scripts.old)) request.now.question.now (asked.rules_of request.now) request.now.bounds.turns o.finding o.layer) }
     ensures known { IsKnown (W.written output.old) → IsKnown (W.written output.new) }
     ensures passed { OnOk result (W.buffered output.new ≡ []) }
     ensures config_read { IsKnown (R.left config.old) → OnOk result (bytes_of (R.left config.new) ≡ []) }
@@ -73,12 +75,9 @@ pub fn search<R: Source, S: Source, W: Sink, P: Progress>(
     let rules = rules_of(request);
     let turns = request.bounds.turns;
     let places = request.bounds.places;
-    match run_explore(
+    run_explore(
         alloc, config, scripts, output, question, rules, progress, turns, places,
-    ) {
-        Ok(finding) => Ok(finding.status()),
-        Err(fault) => Err(fault),
-    }
+    )
 }
 
 /// The same of the orders that go on from a trace.

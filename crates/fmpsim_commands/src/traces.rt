@@ -1,10 +1,12 @@
 //! What `fmpsim check`, `fmpsim wave` and `fmpsim view` do.
-ghost use Rattle.std.specs.Prelude.{◌≡◌, ◌≢◌, ℕ, List, [], ◌++◌, ◌+◌, ◌-◌, ◌^◌, ◌<◌, false, OnOk, IfOk, IfErr, Err, if◌then◌else◌};
+ghost use Rattle.std.specs.Prelude.{◌≡◌, ◌≢◌, ℕ, List, [], ◌++◌, ◌+◌, ◌-◌, ◌^◌, ◌<◌, false, OnOk, IfOk, IfErr, Some, Err, if◌then◌else◌};
 ghost use Rattle.fmp_devices.specs.Devices.{IsKnown, bytes_of};
 ghost use Rattle.fmp_judging.specs.Faults.{failed_write, is_thread_fault};
 ghost use Rattle.fmp_judging.specs.Texts.{Answered, CountsReads, FirstConfigFault};
 ghost use Rattle.fmp_judging.specs.Traces.{Checked, FirstTraceFault, IsOwn, IsYes};
-ghost use Rattle.fmp_view.specs.Runs.{Contrasted, LeavesContrast, LeavesShown, Shown};
+ghost use Rattle.fmp_view.specs.Runs.{LeavesShown, Shown};
+ghost use Rattle.fmp_view.specs.declared.run.PageKind.{PageKind as AnyKind};
+ghost use Rattle.fmpsim_commands.specs.Asked.{page_asked};
 ghost use Rattle.fmp_wave.specs.Runs.{Drawn, LeavesDrawn};
 ghost use Rattle.fmpsim_run.specs.Checks.{IsCheckBegun, verdict_text};
 ghost use Rattle.fmpsim_partial.specs.Partials.{CheckedPartly, FirstPartialFault, IsPartialBegun, IsPartlyOwn, verdict_text as partial_text};
@@ -15,7 +17,7 @@ ghost use Rattle.fmp_world.specs.declared.finishing.Ended.{Ended as AnyEnded};
 
 use fmp_check::Verdict;
 use fmp_devices::{Sink, Source};
-use fmp_view::{run_differences, run_view};
+use fmp_view::{PageKind, run_view};
 use fmp_wave::run_wave;
 use fmpsim_cli::Asked;
 use fmpsim_partial::run_partial;
@@ -64,21 +66,14 @@ pub fn judge<R: Source, S: Source, W: Sink>(
         → IfErr result (LeavesDrawn (bytes_of (R.left config.old)) (bytes_of (S.left trace.old)) (bytes_of (W.written output.old)) (bytes_of (W.written output.new))) }
     ensures none_held { asked ≡ Asked.Waveform → W.buffered output.old ≡ [] → result ≢ Err RunFault.Write → W.buffered output.new ≡ [] }
 
-    // The page, of such a trace.
-    ensures page { asked ≡ Asked.Page → IsKnown (R.left config.old) → IsKnown (S.left trace.old) → IsKnown (W.written output.old)
-        → IfOk result (Shown (bytes_of (R.left config.old)) (bytes_of (S.left trace.old)) (bytes_of (W.written output.old)) (bytes_of (W.written output.new))) }
-    ensures page_left { asked ≡ Asked.Page → IsKnown (R.left config.old) → IsKnown (S.left trace.old) → IsKnown (W.written output.old)
-        → IfErr result (LeavesShown (bytes_of (R.left config.old)) (bytes_of (S.left trace.old)) (bytes_of (W.written output.old)) (bytes_of (W.written output.new))) }
-    ensures page_none_held { asked ≡ Asked.Page → W.buffered output.old ≡ [] → result ≢ Err RunFault.Write → W.buffered output.new ≡ [] }
-
-    // The page of what the machine answers to the events of any trace, beside the lines that differ.
-    ensures contrast { asked ≡ Asked.DifferencesPage → IsKnown (R.left config.old) → IsKnown (S.left trace.old) → IsKnown (W.written output.old)
-        → IfOk result (Contrasted (bytes_of (R.left config.old)) (bytes_of (S.left trace.old)) (bytes_of (W.written output.old)) (bytes_of (W.written output.new))) }
-    ensures contrast_same { asked ≡ Asked.DifferencesPage → IsKnown (R.left config.old) → IsKnown (S.left trace.old) → IsKnown (W.written output.old)
-        → IfOk result (λ verdict. verdict ≡ Verdict.Yes → Shown (bytes_of (R.left config.old)) (bytes_of (S.left trace.old)) (bytes_of (W.written output.old)) (bytes_of (W.written output.new)) Verdict.Yes) }
-    ensures contrast_left { asked ≡ Asked.DifferencesPage → IsKnown (R.left config.old) → IsKnown (S.left trace.old) → IsKnown (W.written output.old)
-        → IfErr result (LeavesContrast (bytes_of (R.left config.old)) (bytes_of (S.left trace.old)) (bytes_of (W.written output.old)) (bytes_of (W.written output.new))) }
-    ensures contrast_none_held { asked ≡ Asked.DifferencesPage → W.buffered output.old ≡ [] → result ≢ Err RunFault.Write → W.buffered output.new ≡ [] }
+    // The page, of such a trace; or of what the machine answers to the events of any trace, beside the lines that differ.
+    ensures page { (kind : AnyKind) → page_asked asked ≡ Some kind → IsKnown (R.left config.old) → IsKnown (S.left trace.old) → IsKnown (W.written output.old)
+        → IfOk result (Shown kind (bytes_of (R.left config.old)) (bytes_of (S.left trace.old)) (bytes_of (W.written output.old)) (bytes_of (W.written output.new))) }
+    ensures page_same { (kind : AnyKind) → page_asked asked ≡ Some kind → IsKnown (R.left config.old) → IsKnown (S.left trace.old) → IsKnown (W.written output.old)
+        → IfOk result (λ verdict. verdict ≡ Verdict.Yes → Shown PageKind.Own (bytes_of (R.left config.old)) (bytes_of (S.left trace.old)) (bytes_of (W.written output.old)) (bytes_of (W.written output.new)) Verdict.Yes) }
+    ensures page_left { (kind : AnyKind) → page_asked asked ≡ Some kind → IsKnown (R.left config.old) → IsKnown (S.left trace.old) → IsKnown (W.written output.old)
+        → IfErr result (LeavesShown kind (bytes_of (R.left config.old)) (bytes_of (S.left trace.old)) (bytes_of (W.written output.old)) (bytes_of (W.written output.new))) }
+    ensures page_none_held { (kind : AnyKind) → page_asked asked ≡ Some kind → W.buffered output.old ≡ [] → result ≢ Err RunFault.Write → W.buffered output.new ≡ [] }
 
     // Both texts were read to their ends, and nothing that was written is held back.
     ensures known { IsKnown (W.written output.old) → IsKnown (W.written output.new) }
@@ -115,7 +110,7 @@ pub fn judge<R: Source, S: Source, W: Sink>(
         Asked::Partial => run_partial(alloc, config, trace, output),
         Asked::Differences(shown) => run_report(alloc, config, trace, output, shown),
         Asked::Waveform => run_wave(alloc, config, trace, output),
-        Asked::Page => run_view(alloc, config, trace, output),
-        Asked::DifferencesPage => run_differences(alloc, config, trace, output),
+        Asked::Page => run_view(alloc, config, trace, output, PageKind::Own),
+        Asked::DifferencesPage => run_view(alloc, config, trace, output, PageKind::Differences),
     }
 }

@@ -1,9 +1,8 @@
 -- What is found of all orders, and told.
-use Rattle.std.proofs.Common.{◌≡◌, ◌∙◌, ℕ, ◌≤◌, List, length, Ok, ap, subst, sym, arith}
+use Rattle.std.proofs.Common.{◌≡◌, ◌∙◌, ℕ, ◌≤◌, List, length, ap, sym, arith}
 use Rattle.std.proofs.lemmas.List.{length-map}
 use Rattle.fmp_codes.specs.declared.records.Record.{Record}
-use Rattle.fmp_names.specs.Names.{AreValid, NameLists}
-use Rattle.fmp_scripts.specs.ScriptGrammar.{SpellsScripts}
+use Rattle.fmp_names.specs.Names.{AreValid}
 use Rattle.fmp_scripts.specs.Scripts.{Steps, AreInBits}
 use Rattle.fmp_setup.specs.Setup.{Setup}
 use Rattle.fmp_setup.specs.Valid.{IsValid}
@@ -11,15 +10,12 @@ use Rattle.fmp_trace.specs.Lines.{lines_from}
 use Rattle.fmp_histories.specs.Histories.{events_of}
 use Rattle.fmp_search.specs.Answers.{IsShortest}
 use Rattle.fmp_question.specs.declared.question.Step.{Step}
-use Rattle.fmp_question.specs.Reading.{question_in}
 use Rattle.fmp_orders.specs.declared.rules.Rules.{Rules}
 use Rattle.fmp_orders.specs.Laws.{PlacesAnswer, is_seen}
 use Rattle.fmp_orders.specs.Places.{after, origin, records}
 use Rattle.fmp_orders.proofs.Bits.{order_fits}
-use Rattle.fmp_judging.specs.Texts.{SaysConfig}
 use Rattle.fmp_judging.proofs.Yes.{own_trace}
-use Rattle.fmpsim_explore.specs.declared.finding.Finding.{Finding}
-use Rattle.fmpsim_explore.specs.Explored.{IsShown, Finds, Explored}
+use Rattle.fmpsim_explore.specs.Explored.{IsShown}
 
 module _ (c : Setup) (scripts : List Steps) (rules : Rules) (question : List Step) (steps : List ℕ) (found : IsShortest after is_seen (origin c scripts rules question) steps) where
   -- what is told along them is the trace of a shortest order that shows the question
@@ -40,17 +36,3 @@ module _ (c : Setup) (scripts : List Steps) (rules : Rules) (question : List Ste
             own_trace c text (events_of h) valid names_valid got.3.order.run.on (order_fits c scripts rules all h got.3.order.in_order) many
             (prints ∙ ap (lines_from c.names 1) got.3.order.run.answers);
       }
-
--- what was read, and what is written of it
-pub explored_by : (c : Setup) (scripts : List Steps) (config_text script_text question_text : List ℕ) (names : NameLists) (question : List Step) (rules : Rules) (turns room : ℕ)
-    (output : List ℕ) (finding : Finding) → SaysConfig config_text c → SpellsScripts c.names script_text scripts → names ≡ c.names → question_in names question_text ≡ Ok question →
-    Finds c scripts rules question turns room output finding → Explored config_text script_text question_text rules turns room output finding
-explored_by c scripts config_text script_text question_text names question rules turns room output finding says spells same asks finds = record {
-  config = c;
-  scripts = scripts;
-  question = question;
-  says = says;
-  spells = spells;
-  asks = subst (λ (l : NameLists). question_in l question_text ≡ Ok question) same asks;
-  finds = finds;
-}

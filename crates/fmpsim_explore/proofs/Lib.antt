@@ -1,1 +1,2 @@
 pub mod Found  -- What is found of all orders, and told.
+mod Rest  -- What is left to go on from, beside what was found of all orders.

@@ -58,6 +58,14 @@ abbrev pub IsBegun : List ℕ → List ℕ → List ℕ → Rules → ℕ → �
 IsBegun config_text script_text question_text rules turns room old new =
     (output : List ℕ) × (found : Finding) × Explored config_text script_text question_text rules turns room output found × BeginsWith old output new
 
+-- what is known of the orders of one machine was written after old, all of it, or a beginning
+abbrev pub IsWritten : Setup → List Steps → Rules → List Step → ℕ → ℕ → List ℕ → List ℕ → Finding → Type 0
+IsWritten c scripts rules question turns room old new found = (output : List ℕ) × Finds c scripts rules question turns room output found × (new ≡ old ++ output)
+
+abbrev pub IsPartWritten : Setup → List Steps → Rules → List Step → ℕ → ℕ → List ℕ → List ℕ → Type 0
+IsPartWritten c scripts rules question turns room old new =
+    (output : List ℕ) × (found : Finding) × Finds c scripts rules question turns room output found × BeginsWith old output new
+
 -- how the program ends after it
 abbrev pub status_of : Finding → Status
 status_of finding.Shown = Different

@@ -1,5 +1,5 @@
 -- The faults of a run through all orders.
-use Rattle.std.specs.Prelude.{◌≡◌, ℕ, List, ◌++◌, Result, Ok, Err, codes, decimal}
+use Rattle.std.specs.Prelude.{◌≡◌, ℕ, Bool, true, false, List, ◌++◌, Result, Ok, Err, codes, decimal}
 use Rattle.fmp_names.specs.Names.{NameLists}
 use Rattle.fmp_setup.specs.Setup.{Setup}
 use Rattle.fmp_question.specs.declared.fault.QuestionFault.{QuestionFault}
@@ -11,6 +11,8 @@ use Rattle.fmp_judging.specs.declared.status.Status.{Status}
 use Rattle.fmp_judging.specs.declared.status.Status.TheVariants.{Faulty}
 use Rattle.fmp_judging.specs.Statuses as statuses
 use Rattle.fmp_judging.specs.Texts.{SaysConfig, FirstConfigFault, FirstScriptFault}
+use Rattle.fmpsim_explore.specs.declared.writing.WriteFault.{WriteFault}
+use Rattle.fmpsim_explore.specs.declared.writing.WriteFault.TheVariants as unwritten
 use Rattle.fmpsim_explore.specs.declared.fault.ExploreFault.{ExploreFault}
 use Rattle.fmpsim_explore.specs.declared.fault.ExploreFault.TheVariants.{Run, Question}
 
@@ -54,3 +56,9 @@ words_of question.TooLong = codes "E7 too many"
 -- the line that tells it, at the byte of this number
 abbrev pub question_line : QuestionFault → ℕ → List ℕ
 question_line fault number = codes "fmpsim: --find: byte " ++ decimal number ++ codes ": " ++ words_of fault
+
+-- a write or a flush of what was found failed
+abbrev pub is_unwritten : {T : Type 0} → Result T WriteFault → Bool
+is_unwritten (Ok value) = false
+is_unwritten (Err unwritten.Memory) = false
+is_unwritten (Err unwritten.Write) = true

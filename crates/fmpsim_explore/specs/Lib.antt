@@ -1,2 +1,4 @@
 pub mod Explored  -- What a search through all orders says, and what is written of it.
 pub mod Faults  -- The faults of a run through all orders.
+pub mod Views  -- The orders from which a search is to go on, as contracts see them.
+pub mod Left  -- What is left to go on from, beside what was found of all orders.

@@ -1,34 +1,21 @@
 //! The run through all orders, from bytes to bytes.
-ghost use Rattle.std.specs.Prelude.{◌≡◌, ◌≢◌, ◌+◌, ◌-◌, ◌≤◌, ◌<◌, ◌^◌, [], Ok, Err, OnOk, IfOk, IfErr, false, if◌then◌else◌};
+ghost use Rattle.std.specs.Prelude.{◌≡◌, ◌≢◌, ◌+◌, ◌-◌, ◌≤◌, ◌<◌, ◌^◌, [], Err, OnOk, IfOk, IfErr, false, if◌then◌else◌};
 ghost use Rattle.fmp_devices.specs.Devices.{IsKnown, bytes_of};
 ghost use Rattle.fmp_judging.specs.Faults.{failed_write, is_thread_fault};
 ghost use Rattle.fmp_judging.specs.Texts.{CountsReads};
-ghost use Rattle.fmp_question.specs.Reading.{question_in};
 ghost use Rattle.fmpsim_explore.specs.Explored.{IsBegun, IsExplored};
 ghost use Rattle.fmpsim_explore.specs.Faults as faults;
+ghost use Rattle.fmpsim_explore.specs.Left.{LeavesLayer};
 
+use crate::asking::asked_from;
 use crate::fault::ExploreFault;
-use crate::finding::Finding;
-use crate::searching::found;
-use fmp_devices::{Sink, Source, write_out};
-use fmp_judging::{RunFault, texts_from};
-use fmp_names::Names;
+use crate::layer::Outcome;
+use crate::writing::{WriteFault, found_written};
+use fmp_devices::{Sink, Source};
+use fmp_judging::RunFault;
 use fmp_orders::Rules;
-use fmp_question::{Question, ReadFault, read_question};
 use fmp_search::Progress;
 use std::alloc::Global;
-
-/// The question of a text, or its first fault.
-pub fn question_from(alloc: Global, names: &Names, text: &[u8]) -> Result<Question, ExploreFault>
-    ensures asks { IfOk result (λ q. question_in names.now text.now ≡ Ok q) }
-    ensures fault { IfErr result (faults.IsNoQuestion names.now text.now) }
-{
-    match read_question(alloc, names, text) {
-        Ok(question) => Ok(question),
-        Err(ReadFault::Memory) => Err(ExploreFault::Run(RunFault::Memory)),
-        Err(ReadFault::Text(fault, place)) => Err(ExploreFault::Question(fault, place)),
-    }
-}
 
 /// Reads a configuration and scripts, goes through every order of what may happen by these rules, and writes whether one of them shows
 /// what the question asks.
@@ -45,7 +32,7 @@ pub fn run_explore<R: Source, S: Source, W: Sink, P: Progress>(
     progress: &mut P,
     turns: u32,
     places: u32,
-) -> Result<Finding, ExploreFault>
+) -> Result<Outcome, ExploreFault>
     requires config_calls { R.failures config.old < 2 ^ 64 - 1 }
     requires script_calls { S.failures scripts.old < 2 ^ 64 - 1 }
     requires output_calls { W.failures output.old < 2 ^ 64 - 1 }
@@ -54,7 +41,11 @@ pub fn run_explore<R: Source, S: Source, W: Sink, P: Progress>(
 
     // Both texts were read to their ends, and what is written says what is known of all orders. None of it is held back.
     ensures explored { IsKnown (R.left config.old) → IsKnown (S.left scripts.old) → IsKnown (W.written output.old)
-        → IfOk result (IsExplored (bytes_of (R.left config.old)) (bytes_of (S.left scripts.old)) question.now rules turns (places - 1) (bytes_of (W.written output.old)) (bytes_of (W.written output.new))) }
+        → IfOk result (λ o. IsExplored (bytes_of (R.left config.old)) (bytes_of (S.left scripts.old)) question.now rules turns (places - 1) (bytes_of (W.written output.old)) (bytes_of (W.written output.new)) o.finding) }
+
+    // Beside that it gives the orders from which a search is to go on.
+    ensures layer { IsKnown (R.left config.old) → IsKnown (S.left scripts.old)
+        → IfOk result (λ o. LeavesLayer (bytes_of (R.left config.old)) (bytes_of (S.left scripts.old)) question.now rules turns o.finding o.layer) }
     ensures known { IsKnown (W.written output.old) → IsKnown (W.written output.new) }
     ensures passed { OnOk result (W.buffered output.new ≡ []) }
     ensures config_read { IsKnown (R.left config.old) → OnOk result (bytes_of (R.left config.new) ≡ []) }
@@ -77,30 +68,13 @@ pub fn run_explore<R: Source, S: Source, W: Sink, P: Progress>(
     ensures reads { CountsReads (faults.as_run result) (R.failures config.old) (R.failures config.new) (S.failures scripts.old) (S.failures scripts.new) }
     ensures writes { W.failures output.new ≡ W.failures output.old + (if failed_write (faults.as_run result) then 1 else 0) }
 {
-    let (machine, list) = match texts_from(alloc, config, scripts) {
-        Ok(texts) => texts,
-        Err(fault) => return Err(ExploreFault::Run(fault)),
-    };
-    let asked = match question_from(alloc, machine.names(), question) {
+    let asked = match asked_from(alloc, config, scripts, question) {
         Ok(asked) => asked,
         Err(fault) => return Err(fault),
     };
-    let (finding, text) = match found(
-        alloc,
-        &machine,
-        &list,
-        rules,
-        &asked,
-        progress,
-        turns,
-        places - 1,
-    ) {
-        Ok(found) => found,
-        Err(_) => return Err(ExploreFault::Run(RunFault::Memory)),
-    };
-    progress.end();
-    match write_out(output, text.as_slice()) {
-        Ok(()) => Ok(finding),
-        Err(_) => Err(ExploreFault::Run(RunFault::Write)),
+    match found_written(alloc, asked, rules, output, progress, turns, places - 1) {
+        Ok(outcome) => Ok(outcome),
+        Err(WriteFault::Memory) => Err(ExploreFault::Run(RunFault::Memory)),
+        Err(WriteFault::Write) => Err(ExploreFault::Run(RunFault::Write)),
     }
 }

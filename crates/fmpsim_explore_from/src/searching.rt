@@ -12,14 +12,35 @@ ghost use Rattle.fmpsim_explore_from.specs.Explored.{FindsFrom, IsFoundFrom};
 ghost use Rattle.fmpsim_explore_from.specs.Strays.{IsBegunFault};
 
 use crate::begun::{BegunFault, begun_choices};
-use fmp_explore::Walker;
 use fmp_machine::Config;
 use fmp_orders::{Rules, begun_answer};
 use fmp_question::Question;
 use fmp_scripts::Scripts;
-use fmp_search::{Answer, Choice, Progress, explore_along};
-use fmpsim_explore::{Finding, never, not_within, trace_along};
+use fmp_search::{Answer, Choice, Progress, Space, explore_along};
+use fmpsim_explore::{Finding, never, not_within, trace_along, two_walkers};
 use std::alloc::{AllocError, Global};
+
+/// What `explore_along` gives, by these two pairs. It is of any space, since in a function of walkers, which borrow what they are asked, the check of
+/// these borrows takes minutes.
+fn explored_along<W: Space + Drop, P: Progress>(
+    alloc: Global,
+    walkers: (W, W),
+    others: (W, W),
+    choices: &[Choice],
+    progress: &mut P,
+    turns: u32,
+    more: u32,
+) -> Result<Answer, AllocError>
+    requires origins { (W.origin walkers.1 ≡ W.origin walkers.0) × (W.origin others.0 ≡ W.origin walkers.0) × (W.origin others.1 ≡ W.origin walkers.0) }
+    requires turns { turns < 2 ^ 31 }
+    ensures { IfOk result (λ answer. SaysAlong W.after W.wanted (W.origin walkers.0) choices.now turns more answer) }
+{
+    let (walker, base) = walkers;
+    let (other, trunk) = others;
+    explore_along(
+        alloc, walker, base, other, trunk, choices, progress, turns, more,
+    )
+}
 
 /// What is known of all runs over places that begin with a step of each of these choices, with room for so many places besides the first.
 fn answered_along<P: Progress>(
@@ -36,13 +57,9 @@ fn answered_along<P: Progress>(
     requires { turns < 2 ^ 31 }
     ensures { IfOk result (λ answer. SaysAlong places.after is_seen (places.origin config.now scripts.now rules question.now) choices.now turns more answer) }
 {
-    let walker = Walker::new(config, scripts, rules, question)?;
-    let base = Walker::new(config, scripts, rules, question)?;
-    let other = Walker::new(config, scripts, rules, question)?;
-    let trunk = Walker::new(config, scripts, rules, question)?;
-    explore_along(
-        alloc, walker, base, other, trunk, choices, progress, turns, more,
-    )
+    let walkers = two_walkers(config, scripts, rules, question)?;
+    let others = two_walkers(config, scripts, rules, question)?;
+    explored_along(alloc, walkers, others, choices, progress, turns, more)
 }
 
 /// What is known of all orders that go on from the one whose events have these choices, and the text that tells it. There is room for so

@@ -1,5 +1,5 @@
 -- The state of the machine behind so many lines of a trace.
-use Rattle.std.proofs.Common.{◌≡◌, ℕ, zero, suc, ◌+◌, ◌<◌, ◌^◌, List, [], ◌∷◌, Some, None, length, map, take, refl, ◌∙◌, arith}
+use Rattle.std.proofs.Common.{◌≡◌, ℕ, zero, suc, ◌+◌, ◌<◌, ◌^◌, List, [], ◌∷◌, Some, None, length, map, take, refl, arith}
 use Rattle.fmp_bytes.specs.Bytes.{cut_at, pieces_of}
 use Rattle.fmp_bytes.proofs.Cutting.{pieces_of-cut}
 use Rattle.fmp_codes.specs.declared.records.Record.{Record}

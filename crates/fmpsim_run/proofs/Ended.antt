@@ -18,23 +18,21 @@ use Rattle.fmp_judging.proofs.Grammars.{one_config, only_memory}
 use Rattle.fmpsim_run.proofs.ByLine.{line_by_line, whole_by_line}
 use Rattle.fmp_judging.specs.declared.fault.RunFault.{RunFault}
 use Rattle.fmpsim_run.specs.declared.stream.Detail.{Detail}
-use Rattle.fmpsim_run.specs.declared.stream.Detail.TheVariants as detail
 use Rattle.fmp_judging.specs.declared.fault.RunFault.TheVariants as run
 use Rattle.fmp_judging.specs.Faults.{is_config, is_text, is_write}
 use Rattle.fmp_judging.specs.Texts.{FirstConfigFault, FlushFails, SaysConfig}
-use Rattle.fmpsim_run.specs.Runs.{FirstEventFault, FirstTextFault, IsAnswered, IsNoFaultOfText, IsPrefix, IsPrefixOut, IsWantOfMemory, LeavesWritten, Writing, trace_of}
-use Rattle.fmpsim_run.specs.Details.{AreStatesTold, detail_of, states_of}
+use Rattle.fmpsim_run.specs.Runs.{FirstEventFault, FirstTextFault, IsAnswered, IsNoFaultOfText, IsPrefix, IsPrefixOut, IsWantOfMemory, IsWritten, LeavesWritten, Writing, trace_of}
+use Rattle.fmpsim_run.specs.Details.{detail_of}
 use Rattle.fmpsim_run.specs.Streams.{IsAllOut, IsAmple, Leaves}
 
 -- without a fault all events are answered, and the text spells them
-pub answered : (config_text event_text old new : List ℕ) (c : Setup) → SaysConfig config_text c → IsValid c
-    → IsAllOut detail.Line c (reading_by_line c.names event_text) old new → IsAnswered config_text event_text old new
-unfolding trace_of
-answered config_text event_text old new c says valid all =
+pub written : (config_text event_text old new : List ℕ) (d : Detail) (writing : Writing) (c : Setup) → ((es : List Event) → detail_of d c es ≡ writing c es) → SaysConfig config_text c → IsValid c
+    → IsAllOut d c (reading_by_line c.names event_text) old new → IsWritten writing config_text event_text old new
+written config_text event_text old new d writing c same says valid all =
     let is = whole_by_line c.names event_text all.given all.reading in
     let on : AreOn c.processors all.given = rw (← valid.same_processors) (reading_on c.names event_text all.given is) in
     let safe = runs_safe c all.given valid on in (
-      trace_of c all.given,
+      writing c all.given,
       record {
         config = c;
         events = all.given;
@@ -44,29 +42,17 @@ answered config_text event_text old new c says valid all =
         safe = safe;
         headline = headline_throughout c all.given valid on;
       },
-      all.text,
+      all.text ∙ ap (λ (bytes : List ℕ). old ++ bytes) (same all.given),
     )
 
--- the same of a run that tells the states
-pub states_told : (config_text event_text old new : List ℕ) (c : Setup) → SaysConfig config_text c → IsValid c
-    → IsAllOut detail.State c (reading_by_line c.names event_text) old new → AreStatesTold config_text event_text old new
-unfolding states_of
-states_told config_text event_text old new c says valid all =
-    let is = whole_by_line c.names event_text all.given all.reading in
-    let on : AreOn c.processors all.given = rw (← valid.same_processors) (reading_on c.names event_text all.given is) in
-    let safe = runs_safe c all.given valid on in (
-      states_of c all.given,
-      record {
-        config = c;
-        events = all.given;
-        says = says;
-        lists = text_is_spelled c.names event_text all.given is;
-        prints = refl;
-        safe = safe;
-        headline = headline_throughout c all.given valid on;
-      },
-      all.text,
-    )
+-- a trace that was written so answers the events
+pub answered : (config_text event_text old new : List ℕ) → IsWritten trace_of config_text event_text old new → IsAnswered config_text event_text old new
+unfolding trace_of
+answered config_text event_text old new (output, w, out) = (
+  output,
+  record { config = w.config; events = w.events; says = w.says; lists = w.lists; prints = w.prints; safe = w.safe; headline = w.headline },
+  out,
+)
 
 -- what is written of a prefix of the events, in other words
 pub prefix_as : (d : Detail) (writing : Writing) (c : Setup) → ((es : List Event) → detail_of d c es ≡ writing c es) → (events : List Event) (old new : List ℕ)
@@ -131,15 +117,10 @@ module _ (config_text event_text old : List ℕ) where
     first_result (Ok done) first = tt
     first_result (Err fault) first = first_out fault first
 
-    pub answered_result : {T : Type 0} (new : List ℕ) (r : Result T RunFault) → OnOk r (IsValid c)
-        → OnOk r (IsAllOut detail.Line c (reading_by_line c.names event_text) old new) → OnOk r (IsAnswered config_text event_text old new)
-    answered_result new (Ok done) valid all = answered config_text event_text old new c says valid all
-    answered_result new (Err fault) valid all = tt
-
-    pub states_result : {T : Type 0} (new : List ℕ) (r : Result T RunFault) → OnOk r (IsValid c)
-        → OnOk r (IsAllOut detail.State c (reading_by_line c.names event_text) old new) → OnOk r (AreStatesTold config_text event_text old new)
-    states_result new (Ok done) valid all = states_told config_text event_text old new c says valid all
-    states_result new (Err fault) valid all = tt
+    pub written_result : {T : Type 0} (d : Detail) (new : List ℕ) (r : Result T RunFault) → OnOk r (IsValid c)
+        → OnOk r (IsAllOut d c (reading_by_line c.names event_text) old new) → OnOk r (IsWritten (detail_of d) config_text event_text old new)
+    written_result d new (Ok done) valid all = written config_text event_text old new d (detail_of d) c (λ es. refl) says valid all
+    written_result d new (Err fault) valid all = tt
 
 -- a read of the events failed, and the flush behind it, or none did
 pub flush_result : {K L M : Type 0} (config_text event_text old : List ℕ) (c : Setup) → (K → SaysConfig config_text c) → (d : Detail) (new : List ℕ) (n m : ℕ)
@@ -148,8 +129,8 @@ flush_result config_text event_text old c says d new n m (inl none) = inl none
 flush_result config_text event_text old c says d new n m (inr (one, out)) = inr (one, λ configs reads writes. inr (c, says configs, out reads writes))
 
 -- where the room that was taken is enough, nothing is out after want of memory
-module _ (c : Setup) (event_text old : List ℕ) (valid : AreValid c.names) (ample : IsAmple detail.Line event_text) where
-  early : (new : List ℕ) (fault : RunFault) → is_config fault ≡ false → Leaves detail.Line c event_text (reading_by_line c.names event_text) old new fault → IsWantOfMemory fault → new ≡ old
+module _ (c : Setup) (event_text old : List ℕ) (valid : AreValid c.names) (d : Detail) (ample : IsAmple d event_text) where
+  early : (new : List ℕ) (fault : RunFault) → is_config fault ≡ false → Leaves d c event_text (reading_by_line c.names event_text) old new fault → IsWantOfMemory fault → new ≡ old
   early new (run.Config fault) config left want = absurd (false≢true (sym config))
   early new (run.Text fault) config (inl before) want = absurd (never_memory c.names valid event_text fault before.first want.0)
   early new (run.Text fault) config (inr (memory, out)) want = absurd (out.1 ample)
@@ -161,7 +142,7 @@ module _ (c : Setup) (event_text old : List ℕ) (valid : AreValid c.names) (amp
   early new run.Disagree config left want = absurd want
 
   pub early_result : {T : Type 0} (new : List ℕ) (r : Result T RunFault) → IfErr r (λ fault. is_config fault ≡ false)
-      → IfErr r (Leaves detail.Line c event_text (reading_by_line c.names event_text) old new) → IfErr r (λ fault. IsWantOfMemory fault → new ≡ old)
+      → IfErr r (Leaves d c event_text (reading_by_line c.names event_text) old new) → IfErr r (λ fault. IsWantOfMemory fault → new ≡ old)
   early_result new (Ok done) config left = tt
   early_result new (Err fault) config left = early new fault config left
 

@@ -1,14 +1,9 @@
 -- How a run that tells what of some things changed ends.
-use Rattle.std.proofs.Common.{◌≡◌, ◌∙◌, ◌++◌, ℕ, false, List, map, Result, Ok, Err, ap, ap₂, sym, refl, inl, inr, subst}
-use Rattle.fmp_codes.specs.Records.{AreOn}
+use Rattle.std.proofs.Common.{◌≡◌, ◌∙◌, ◌++◌, ℕ, false, List, map, Result, Ok, Err, ap, ap₂, sym, inl, inr, subst}
 use Rattle.fmp_codes.specs.declared.records.Event.{Event}
-use Rattle.fmp_headline.proofs.Along.{headline_throughout}
 use Rattle.fmp_machine.specs.Boot.{booted}
-use Rattle.fmp_safety.proofs.Booted.{runs_safe}
 use Rattle.fmp_setup.specs.Setup.{Setup}
 use Rattle.fmp_setup.specs.Valid.{IsValid}
-use Rattle.fmp_text.proofs.Limited.{reading_on}
-use Rattle.fmp_text.proofs.SpelledTexts.{text_is_spelled}
 use Rattle.fmp_text.specs.Events.{reading_by_line}
 use Rattle.fmp_names.specs.Names.{NameLists}
 use Rattle.fmp_life.proofs.Changes.{first_told, things_again}
@@ -19,8 +14,7 @@ use Rattle.fmp_life.specs.Things.{chosen_in}
 use Rattle.fmp_judging.specs.declared.fault.RunFault.{RunFault}
 use Rattle.fmp_judging.specs.Texts.{FlushFails, SaysConfig}
 use Rattle.fmp_judging.specs.Faults.{is_config}
-use Rattle.fmpsim_run.proofs.ByLine.{whole_by_line}
-use Rattle.fmpsim_run.proofs.Ended.{leaves_out, prefix_as}
+use Rattle.fmpsim_run.proofs.Ended.{leaves_out, prefix_as, written}
 use Rattle.fmpsim_run.specs.declared.stream.Detail.TheVariants as detail
 use Rattle.fmpsim_run.specs.Details.{detail_of}
 use Rattle.fmp_judging.proofs.Grammars.{one_config}
@@ -47,24 +41,16 @@ module _ (names : List ℕ) (c : Setup) (lists : NameLists) (same : lists ≡ c.
   module _ (config_text event_text old : List ℕ) (says : SaysConfig config_text c) where
     -- without a fault all events are answered, and the text spells them
     pub life_told : (new : List ℕ) → IsValid c → IsAllOut (detail.Life seen) c (reading_by_line c.names event_text) old new → IsLifeTold names config_text event_text old new
-    unfolding life_of
     life_told new valid all =
-        let is = whole_by_line c.names event_text all.given all.reading in
-        let on : AreOn c.processors all.given = rw (← valid.same_processors) (reading_on c.names event_text all.given is) in
-        let safe = runs_safe c all.given valid on in (
-          life_of chosen.0 c all.given,
+        let named : chosen_in c.names names ≡ Ok chosen.0 = subst (λ (l : NameLists). chosen_in l names ≡ Ok chosen.0) same chosen.1 in
+        let told = written config_text event_text old new (detail.Life seen) (life_of chosen.0) c (λ es. ap (λ (s : List Seen). life_since s c es) chosen.2 ∙ since_nothing chosen.0 c es) says valid all in (
+          told.0,
           record {
-            config = c;
-            events = all.given;
             things = chosen.0;
-            says = says;
-            lists = text_is_spelled c.names event_text all.given is;
-            chosen = subst (λ (l : NameLists). chosen_in l names ≡ Ok chosen.0) same chosen.1;
-            prints = refl;
-            safe = safe;
-            headline = headline_throughout c all.given valid on;
+            written = told.1;
+            chosen = subst (λ (s : Setup). chosen_in s.names names ≡ Ok chosen.0) (one_config config_text c told.1.config says told.1.says) named;
           },
-          all.text ∙ ap (λ (bytes : List ℕ). old ++ bytes) (ap (λ (s : List Seen). life_since s c all.given) chosen.2 ∙ since_nothing chosen.0 c all.given),
+          told.2,
         )
 
     pub life_leaves : (new : List ℕ) (fault : RunFault) → is_config fault ≡ false → Leaves (detail.Life seen) c event_text (reading_by_line c.names event_text) old new fault

@@ -1,25 +1,20 @@
 -- What a run writes that tells the state after each event, too, or what of some things changed.
-use Rattle.std.specs.Prelude.{◌≡◌, ℕ, ◌+◌, List, [], ◌∷◌, ◌++◌, map}
+use Rattle.std.specs.Prelude.{ℕ, ◌+◌, List, [], ◌∷◌, ◌++◌, map}
 use Rattle.std.specs.List.{flat_map}
 use Rattle.fmp_codes.specs.declared.records.Event.{Event}
 use Rattle.fmp_codes.specs.declared.records.Record.{Record}
-use Rattle.fmp_text.specs.TextGrammar.{SpellsText}
 use Rattle.fmp_names.specs.Names.{NameLists}
 use Rattle.fmp_setup.specs.Setup.{Setup}
 use Rattle.fmp_machine.specs.Boot.{booted}
 use Rattle.fmp_machine.specs.Arrivals.{State, numbered}
-use Rattle.fmp_machine.specs.Step.{answers, step}
-use Rattle.fmp_safety.specs.Runs.{IsSafeThroughout}
-use Rattle.fmp_headline.specs.Headline.{HeadlineThroughout}
+use Rattle.fmp_machine.specs.Step.{step}
 use Rattle.fmp_trace.specs.Lines.{line_text}
 use Rattle.fmp_life.specs.Lives.{renewed, told_since}
 use Rattle.fmp_states.specs.States.{state_text}
 use Rattle.fmpsim_run.specs.declared.stream.Detail.{Detail}
 use Rattle.fmpsim_run.specs.declared.stream.Detail.TheVariants as detail
-use Rattle.fmp_judging.specs.Texts.{SaysConfig}
 use Rattle.fmpsim_run.specs.Lives.{life_since, with_changes}
-use Rattle.fmpsim_run.specs.Runs.{LeavesWritten, Writing, trace_of}
-use Rattle.fmp_judging.specs.declared.fault.RunFault.{RunFault}
+use Rattle.fmpsim_run.specs.Runs.{Writing, trace_of}
 
 -- what is written of the state at boot
 abbrev pub boot_text : Detail → NameLists → State → List ℕ
@@ -53,26 +48,8 @@ states_from lists n m (e ∷ es) =
 unfoldable pub states_of : Setup → List Event → List ℕ
 states_of config events = state_text config.names (booted config) ++ states_from config.names 1 (booted config) events
 
+-- how a run writes that tells so much
 abbrev pub detail_of : Detail → Writing
 detail_of detail.Line = trace_of
 detail_of detail.State = states_of
 detail_of (detail.Life seen) = life_since seen
-
--- The output is the state at boot, and the trace of the one text's machine over the other's events, with the state after each. Every
--- prefix of these leads to a safe state, and the headline holds there.
-pub record ToldStates (config_text event_text output : List ℕ) : Type 0 where
-  pub config : Setup
-  pub events : List Event
-  pub says : SaysConfig config_text config
-  pub lists : SpellsText config.names event_text events
-  pub prints : output ≡ state_text config.names (booted config) ++ states_from config.names 1 (booted config) events
-  pub safe : IsSafeThroughout (booted config) events
-  pub headline : HeadlineThroughout config events (answers numbered (booted config) events)
-
--- the output was written after old, all of it
-abbrev pub AreStatesTold : List ℕ → List ℕ → List ℕ → List ℕ → Type 0
-AreStatesTold config_text event_text old new = (output : List ℕ) × ToldStates config_text event_text output × (new ≡ old ++ output)
-
--- what was written after old, where a run that tells the states ends with this fault
-abbrev pub LeavesStates : List ℕ → List ℕ → List ℕ → List ℕ → RunFault → Type 0
-LeavesStates config_text event_text old new fault = LeavesWritten states_of config_text event_text old new fault

@@ -2,19 +2,16 @@
 use Rattle.std.specs.Prelude.{◌≡◌, ℕ, ◌+◌, List, [], ◌∷◌, ◌++◌, Result, Ok, Err, map}
 use Rattle.std.specs.List.{flat_map}
 use Rattle.fmp_codes.specs.declared.records.Event.{Event}
-use Rattle.fmp_text.specs.TextGrammar.{SpellsText}
 use Rattle.fmp_names.specs.Names.{NameLists}
 use Rattle.fmp_setup.specs.Setup.{Setup}
 use Rattle.fmp_machine.specs.Boot.{booted}
 use Rattle.fmp_machine.specs.Arrivals.{State, numbered}
-use Rattle.fmp_machine.specs.Step.{answers, step}
-use Rattle.fmp_safety.specs.Runs.{IsSafeThroughout}
-use Rattle.fmp_headline.specs.Headline.{HeadlineThroughout}
+use Rattle.fmp_machine.specs.Step.{step}
 use Rattle.fmp_trace.specs.Lines.{line_text}
 use Rattle.fmp_life.specs.declared.things.Thing.{Thing}
 use Rattle.fmp_life.specs.Lives.{Seen, changes_of, lines_of, told_since}
 use Rattle.fmp_life.specs.Things.{chosen_in}
-use Rattle.fmp_judging.specs.Texts.{SaysConfig}
+use Rattle.fmpsim_run.specs.Runs.{Written}
 
 -- the line of an event with what changed, and nothing where nothing did
 abbrev pub with_changes : List ℕ → List ℕ → List ℕ
@@ -45,17 +42,11 @@ abbrev pub named_life : List ℕ → Setup → List Event → List ℕ
 named_life names config events = chosen_life (chosen_in config.names names) config events
 
 -- The output is what is told, of the machine of one text, of the things that the names name there: at boot, and behind each of the
--- other text's events that changes it. Every prefix of these leads to a safe state, and the headline holds there.
+-- other text's events that changes it.
 pub record ToldLife (names config_text event_text output : List ℕ) : Type 0 where
-  pub config : Setup
-  pub events : List Event
   pub things : List Thing
-  pub says : SaysConfig config_text config
-  pub lists : SpellsText config.names event_text events
-  pub chosen : chosen_in config.names names ≡ Ok things
-  pub prints : output ≡ lines_of config.names (booted config) things ++ life_from config.names things 1 (booted config) events
-  pub safe : IsSafeThroughout (booted config) events
-  pub headline : HeadlineThroughout config events (answers numbered (booted config) events)
+  pub written : Written (life_of things) config_text event_text output
+  pub chosen : chosen_in written.config.names names ≡ Ok things
 
 -- the output was written after old, all of it
 abbrev pub IsLifeTold : List ℕ → List ℕ → List ℕ → List ℕ → List ℕ → Type 0

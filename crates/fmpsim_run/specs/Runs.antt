@@ -1,6 +1,9 @@
 -- What a run over a configuration and events does.
 use Rattle.std.specs.Prelude.{◌≡◌, ◌⊎◌, ℕ, List, ◌++◌, take, Some}
 use Rattle.fmp_codes.specs.declared.records.Event.{Event}
+use Rattle.fmp_safety.specs.Runs.{IsSafeThroughout}
+use Rattle.fmp_headline.specs.Headline.{HeadlineThroughout}
+use Rattle.fmp_text.specs.TextGrammar.{SpellsText}
 use Rattle.fmp_text.specs.declared.fault.TextFault.{TextFault}
 use Rattle.fmp_text.specs.Events.{IsFirst, IsMemory, Reading, reading_by_line}
 use Rattle.fmp_feed.specs.Feed.{HasLinesWithin}
@@ -26,6 +29,21 @@ trace_of config events = lines_from config.names 1 (answers numbered (booted con
 -- a way to write what a machine does at events, as by its trace
 abbrev pub Writing : Type 0
 Writing = Setup → List Event → List ℕ
+
+-- The output is what is written so of the one text's machine over the other's events. Every prefix of these leads to a safe state,
+-- and the headline holds there.
+pub record Written (writing : Writing) (config_text event_text output : List ℕ) : Type 0 where
+  pub config : Setup
+  pub events : List Event
+  pub says : SaysConfig config_text config
+  pub lists : SpellsText config.names event_text events
+  pub prints : output ≡ writing config events
+  pub safe : IsSafeThroughout (booted config) events
+  pub headline : HeadlineThroughout config events (answers numbered (booted config) events)
+
+-- that was written after old, all of it
+abbrev pub IsWritten : Writing → List ℕ → List ℕ → List ℕ → List ℕ → Type 0
+IsWritten writing config_text event_text old new = (output : List ℕ) × Written writing config_text event_text output × (new ≡ old ++ output)
 
 -- What is written of the one text's machine over the events of the other, up to its first fault.
 pub record Traced (writing : Writing) (config_text event_text output : List ℕ) : Type 0 where

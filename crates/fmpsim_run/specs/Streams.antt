@@ -1,5 +1,5 @@
 -- What a run that answers each event as it comes has done.
-use Rattle.std.specs.Prelude.{◌≡◌, ◌⊎◌, ℕ, Bool, false, IsTrue, List, ◌++◌, length, vec_capacity}
+use Rattle.std.specs.Prelude.{◌≡◌, ◌⊎◌, ℕ, Bool, true, false, IsTrue, List, ◌++◌, Option, length, vec_capacity}
 use Rattle.fmp_codes.specs.declared.records.Event.{Event}
 use Rattle.fmp_text.specs.Events.{IsMemory, Reading, faultless, with_events}
 use Rattle.fmp_feed.specs.Feed.{ahead}
@@ -13,8 +13,8 @@ use Rattle.fmp_judging.specs.declared.fault.RunFault.TheVariants as run
 use Rattle.fmpsim_run.specs.declared.stream.Answering.{Answering}
 use Rattle.fmpsim_run.specs.declared.stream.Detail.{Detail}
 use Rattle.fmpsim_run.specs.declared.stream.Detail.TheVariants as detail
-use Rattle.fmp_devices.specs.Devices.{BeginsWith}
-use Rattle.fmpsim_run.specs.Runs.{HasShortLines, IsOutBefore, IsPrefixOut}
+use Rattle.fmp_devices.specs.Devices.{BeginsWith, IsKnown, bytes_of}
+use Rattle.fmpsim_run.specs.Runs.{FirstEventFault, HasShortLines, IsOutBefore, IsPrefixOut}
 use Rattle.fmpsim_run.specs.Details.{detail_of, told_in}
 use Rattle.fmpsim_run.specs.Room.{HasLineRoom}
 
@@ -46,6 +46,22 @@ Leaves d config text whole old new (run.Text fault) = IsOutBefore (detail_of d) 
 Leaves d config text whole old new run.Write = BeginsWith old (detail_of d config whole.events) new
 Leaves d config text whole old new run.Memory = (new ≡ old) ⊎ IsOutOfRoom d config text whole old new
 Leaves d config text whole old new other = IsPrefixOut (detail_of d) config whole.events old new
+
+-- whatever a run has done before, it has done so behind a call that answered events: before and after are what was written
+abbrev pub StreamsOn : Setup → Answering → Answering → Option (List ℕ) → Option (List ℕ) → Type 0
+StreamsOn config a b before after =
+    (d : Detail) (tells : Bool) (text : List ℕ) (whole : Reading) (old remaining : List ℕ) → (IsTrue tells → IsKnown before)
+    → Streams d tells config text whole old a (bytes_of before) remaining → Streams d tells config text whole old b (bytes_of after) remaining
+
+-- a fault of the events with which such a call ended is the first one
+abbrev pub FirstFrom : Setup → Answering → List ℕ → RunFault → Type 0
+FirstFrom config a before fault =
+    (d : Detail) (text : List ℕ) (whole : Reading) (old remaining : List ℕ) → Streams d false config text whole old a before remaining → FirstEventFault whole fault
+
+-- what was written where such a call ended with this fault
+abbrev pub LeavesFrom : Setup → Answering → List ℕ → List ℕ → RunFault → Type 0
+LeavesFrom config a before after fault =
+    (d : Detail) (text : List ℕ) (whole : Reading) (old remaining : List ℕ) → Streams d true config text whole old a before remaining → Leaves d config text whole old after fault
 
 -- the text has no fault, and what is told of all its events was written after old
 pub record IsAllOut (d : Detail) (config : Setup) (whole : Reading) (old new : List ℕ) : Type 0 where

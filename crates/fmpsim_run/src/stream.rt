@@ -18,7 +18,7 @@ ghost use Rattle.fmp_devices.specs.Devices.{BeginsWith, IsKnown, bytes_of};
 ghost use Rattle.fmp_judging.specs.Faults.{failed_read, failed_write, is_config, is_read, is_write, is_thread_fault};
 ghost use Rattle.fmpsim_run.specs.Runs.{FirstEventFault};
 ghost use Rattle.fmp_trace.specs.Lines.{most_line_bytes};
-ghost use Rattle.fmpsim_run.specs.Streams.{Leaves, Streams};
+ghost use Rattle.fmpsim_run.specs.Streams.{FirstFrom, Leaves, LeavesFrom, Streams, StreamsOn};
 
 use fmp_codes::{Answer, Event, Proc, Record};
 use fmp_devices::{Failed, Sink, Source, write_all};
@@ -34,10 +34,10 @@ use std::alloc::{AllocError, Global};
 
 /// What is written of an event.
 #[derive(Drop)]
-pub(crate) enum Detail {
+pub enum Detail {
     /// Its line of the trace.
     Line,
-    /// That, and the state behind it.
+    /// That, and the state behind it, as also at boot. docs/FORMATS.md has the form of the state.
     State,
     /// Both its line and those of some things, where what is told of one of these is not what was told before.
     Life(Life),
@@ -216,16 +216,9 @@ impl Answering {
         requires few { self.old.feed.events ≤ most_events }
         requires processors { length self.old.kernel.processors ≡ config.now.processors }
         ensures known { IsKnown (W.written trace.old) → IsKnown (W.written trace.new) }
-        ensures streams { (d : Detail) (tells : Bool) (text : List ℕ) (whole : Reading) (old remaining : List ℕ)
-            → (IsTrue tells → IsKnown (W.written trace.old))
-            → Streams d tells config.now text whole old self.old (bytes_of (W.written trace.old)) remaining
-            → OnOk result (Streams d tells config.now text whole old self.new (bytes_of (W.written trace.new)) remaining) }
-        ensures first { (d : Detail) (text : List ℕ) (whole : Reading) (old remaining : List ℕ)
-            → Streams d false config.now text whole old self.old (bytes_of (W.written trace.old)) remaining
-            → IfErr result (FirstEventFault whole) }
-        ensures leaves { IsKnown (W.written trace.old) → (d : Detail) (text : List ℕ) (whole : Reading) (old remaining : List ℕ)
-            → Streams d true config.now text whole old self.old (bytes_of (W.written trace.old)) remaining
-            → IfErr result (Leaves d config.now text whole old (bytes_of (W.written trace.new))) }
+        ensures streams { OnOk result (StreamsOn config.now self.old self.new (W.written trace.old) (W.written trace.new)) }
+        ensures first { IfErr result (FirstFrom config.now self.old (bytes_of (W.written trace.old))) }
+        ensures leaves { IsKnown (W.written trace.old) → IfErr result (LeavesFrom config.now self.old (bytes_of (W.written trace.old)) (bytes_of (W.written trace.new))) }
         ensures counted { OnOk result (self.new.count ≡ self.new.feed.events) }
         ensures moves { IfOk result (λ more. self.new.feed.events ≡ self.old.feed.events + (if more then 1 else 0)) }
         ensures few { OnOk result (self.new.feed.events ≤ most_events) }
@@ -258,16 +251,9 @@ impl Answering {
         requires few { self.old.feed.events ≤ most_events }
         requires processors { length self.old.kernel.processors ≡ config.now.processors }
         ensures known { IsKnown (W.written trace.old) → IsKnown (W.written trace.new) }
-        ensures streams { (d : Detail) (tells : Bool) (text : List ℕ) (whole : Reading) (old remaining : List ℕ)
-            → (IsTrue tells → IsKnown (W.written trace.old))
-            → Streams d tells config.now text whole old self.old (bytes_of (W.written trace.old)) remaining
-            → OnOk result (Streams d tells config.now text whole old self.new (bytes_of (W.written trace.new)) remaining) }
-        ensures first { (d : Detail) (text : List ℕ) (whole : Reading) (old remaining : List ℕ)
-            → Streams d false config.now text whole old self.old (bytes_of (W.written trace.old)) remaining
-            → IfErr result (FirstEventFault whole) }
-        ensures leaves { IsKnown (W.written trace.old) → (d : Detail) (text : List ℕ) (whole : Reading) (old remaining : List ℕ)
-            → Streams d true config.now text whole old self.old (bytes_of (W.written trace.old)) remaining
-            → IfErr result (Leaves d config.now text whole old (bytes_of (W.written trace.new))) }
+        ensures streams { OnOk result (StreamsOn config.now self.old self.new (W.written trace.old) (W.written trace.new)) }
+        ensures first { IfErr result (FirstFrom config.now self.old (bytes_of (W.written trace.old))) }
+        ensures leaves { IsKnown (W.written trace.old) → IfErr result (LeavesFrom config.now self.old (bytes_of (W.written trace.old)) (bytes_of (W.written trace.new))) }
         ensures counted { OnOk result (self.new.count ≡ self.new.feed.events) }
         ensures few { OnOk result (self.new.feed.events ≤ most_events) }
         ensures processors { length self.new.kernel.processors ≡ length self.old.kernel.processors }

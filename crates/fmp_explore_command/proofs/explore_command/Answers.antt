@@ -8,4 +8,5 @@ returns c =
     let two_is = c.in_ok-two.ensures.shape c.value-drift.ensures.kind.local ∙ ap₂ with_rule one_is c.value-drift.ensures.rule in
     let three_is = c.in_ok-three.ensures.shape c.value-places.ensures.kind.local ∙ ap₂ with_rule two_is c.value-places.ensures.rule in
     let four_is = c.in_ok-four.ensures.shape c.value-from.ensures.kind.local ∙ ap₂ with_rule three_is c.value-from.ensures.rule in
-    c.in_ok-five.ensures.shape c.flag-context.ensures.kind.local ∙ ap₂ with_rule four_is c.flag-context.ensures.rule
+    let five_is = c.in_ok-five.ensures.shape c.value-layer.ensures.kind.local ∙ ap₂ with_rule four_is c.value-layer.ensures.rule in
+    c.in_ok-six.ensures.shape c.flag-context.ensures.kind.local ∙ ap₂ with_rule five_is c.flag-context.ensures.rule

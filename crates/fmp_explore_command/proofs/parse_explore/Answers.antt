@@ -3,9 +3,9 @@ use Rattle.clap.specs.Words.{App, Row, is_simple, matches_of}
 use Rattle.fmp_explore_command.specs.Explore.{Asks, found_in}
 use Rattle.fmp_explore_command.proofs.parse_explore.Goals as goal
 
-pub returns-in-Some : goal.returns-in-Some
+pub returns : goal.returns
 unfolding found_in
-returns-in-Some c =
+returns c =
     let line = c.in_ok-command.ensures in
     let rows = (c.in_ok-matches.ensures.ok.2 (ap is_simple line)).0 ∙ ap (λ (a : App). matches_of a (map (λ w. w.bytes.items) c.args.words.now)) line in
     subst (λ (r : List Row). Asks r c.in-Some.request) rows c.in-Some.ensures

@@ -18,5 +18,6 @@ returns c =
       turns = c.in_ok-bounds.ensures.turns;
       places = c.in_ok-bounds.ensures.places;
       from = c.get_str-from.ensures ∙ first_value-rows f (codes "from");
+      layer = c.get_str-layer.ensures ∙ first_value-rows f (codes "layer");
       context = flag_read f (codes "context") c.get_flag-context.result c.get_flag-context.ensures.none c.get_flag-context.ensures.value c.get_flag-context.ensures.other;
     }

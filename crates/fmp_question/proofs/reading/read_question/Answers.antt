@@ -1,6 +1,6 @@
-use Rattle.std.proofs.Common.{◌≡◌, ◌∙◌, ◌<◌, ◌+◌, length, None, Some, ap, sym}
+use Rattle.std.proofs.Common.{◌≡◌, ◌∙◌, ◌<◌, ◌+◌, length, ap, sym}
 use Rattle.std.specs.Option.{option_copied, option_map_or}
-use Rattle.fmp_bytes.specs.Bytes.{space, cut_at, pieces_of}
+use Rattle.fmp_bytes.specs.Bytes.{space, pieces_of}
 use Rattle.fmp_bytes.proofs.Cutting.{fewer_left, pieces_left}
 use Rattle.fmp_question.specs.Reading as spec
 use Rattle.fmp_question.proofs.EachWord.{rest_within, word_fault, word_read}

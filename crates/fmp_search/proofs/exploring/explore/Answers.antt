@@ -1,8 +1,10 @@
-use Rattle.std.proofs.Common.{arith, ◌≡◌, ◌∙◌, ◌+◌, length, false, List, refl, sym, subst}
+use Rattle.std.proofs.Common.{arith, ℕ, ◌≡◌, ◌≤◌, ◌∙◌, ◌+◌, length, false, List, refl, sym, subst}
 use Rattle.fmp_search.specs.declared.nodes.Node.{Node}
 use Rattle.fmp_search.specs.Answers.{Explored, UsedUp}
 use Rattle.fmp_search.specs.Growth.{AreBefore, Fills, Opens}
+use Rattle.fmp_search.specs.Roots.{roots_of, AreRoots}
 use Rattle.fmp_search.specs.Trees.{StandsAt}
+use Rattle.fmp_search.proofs.Branches.{are_roots}
 use Rattle.fmp_search.proofs.Apart.{before_none}
 use Rattle.fmp_search.proofs.Trees.{stands_first}
 use Rattle.fmp_search.proofs.Layers.{explored-root, layer-more, none-ever, none-within}
@@ -24,6 +26,7 @@ loop-depth-init g c =
       c.in_ok-store.ensures.room,
       c.restart.ensures.origin ∙ c.requires.origins.2,
       stands_first after q c.in_ok-store.store.nodes.items 0 _ _ refl there c.in_ok-restart.ensures.room,
+      λ i lt. absurd (omega (arith, lt)),
     )
 
 pub loop-depth-preserved : goal.loop-depth-preserved
@@ -42,26 +45,27 @@ loop-depth-preserved g c =
       c.open_layer.ensures.room ∙ c.loop-depth.invariant.6,
       c.move_trunk.ensures.trunk_origin ∙ c.loop-depth.invariant.7,
       subst (λ x. StandsAt after x c.open_layer.new.store.nodes.items c.in_ok-stem.stem (g.W.Space.place c.move_trunk.new.trunk) (g.W.Space.room c.move_trunk.new.trunk)) c.loop-depth.invariant.2 c.in_ok-steps.ensures.trunk,
+      λ i lt. let near = explored.near i lt in omega (arith, near),
     )
 
-pub returns-then-begin-end : goal.returns-then-begin-end
-returns-then-begin-end g c =
+pub returns-then-begin-end-clause-says : goal.returns-then-begin-end-clause-says
+returns-then-begin-end-clause-says g c =
     let q = g.W.Space.origin c.args.walker.now in
     let nodes = c.loop-depth.store.nodes.items in
     let all : c.loop-depth.begin ≡ length nodes + 1 = c.if-begin-end.true ∙ c.count-end.ensures in
     none-ever g.W.Space.after g.W.Space.wanted q nodes c.loop-depth.depth (length nodes + 1)
     (subst (λ n. Explored g.W.Space.after g.W.Space.wanted q nodes c.loop-depth.depth (length nodes + 1) n) all c.loop-depth.invariant.0) refl
 
-pub returns-then-begin-count : goal.returns-then-begin-count
-returns-then-begin-count g c =
+pub returns-then-begin-count-clause-says : goal.returns-then-begin-count-clause-says
+returns-then-begin-count-clause-says g c =
     let q = g.W.Space.origin c.args.walker.now in
     let nodes = c.loop-depth.store.nodes.items in
     let all : c.loop-depth.begin ≡ length nodes + 1 = c.if-begin-count.true ∙ c.count.ensures in
     none-ever g.W.Space.after g.W.Space.wanted q nodes c.loop-depth.depth (length nodes + 1)
     (subst (λ n. Explored g.W.Space.after g.W.Space.wanted q nodes c.loop-depth.depth (length nodes + 1) n) all c.loop-depth.invariant.0) refl
 
-pub returns-in-Full : goal.returns-in-Full
-returns-in-Full g c =
+pub returns-in-Full-clause-says : goal.returns-in-Full-clause-says
+returns-in-Full-clause-says g c =
     let after = g.W.Space.after in
     let q = g.W.Space.origin c.args.walker.now in
     let nodes = c.loop-depth.store.nodes.items in
@@ -74,3 +78,24 @@ returns-in-Full g c =
 
 pub open_layer-requires-clause-before : goal.open_layer-requires-clause-before
 open_layer-requires-clause-before g c = c.loop-depth.invariant.5
+
+pub returns-else-begin-count-clause-leaves : goal.returns-else-begin-count-clause-leaves
+returns-else-begin-count-clause-leaves g c =
+    let after = g.W.Space.after in
+    let wanted = g.W.Space.wanted in
+    let q = g.W.Space.origin c.args.walker.now in
+    let nodes = c.loop-depth.store.nodes.items in
+    let begin = c.loop-depth.begin in
+    let explored = c.loop-depth.invariant.0 in
+    let behind = c.loop-depth.invariant.1 in
+    let near = c.loop-depth.invariant.9 in
+    let count = c.count.ensures in
+    let some = c.if-begin-count.false in
+    let few : begin ≤ length nodes = search (arith, behind, count, some) in
+    let most = c.loop-depth.auto.depth-end in
+    let past = c.loop-depth-test.false in
+    let last : c.loop-depth.depth ≡ c.args.turns = search (arith, most, past) in
+    let roots = are_roots after wanted q nodes c.loop-depth.depth begin explored near few in (
+      λ lt. absurd (omega (arith, lt)),
+      λ same. subst (λ (rs : List (List ℕ)). AreRoots after wanted q c.args.turns rs) (sym c.of.ensures) (subst (λ n. AreRoots after wanted q n (roots_of nodes begin)) last roots),
+    )

@@ -1,7 +1,7 @@
-use Rattle.std.proofs.Common.{◌≡◌, ◌≤◌, ◌+◌, length}
+use Rattle.std.proofs.Common.{◌≡◌, ◌≤◌, ◌<◌, ◌+◌, ℕ, length}
 use Rattle.fmp_search.specs.Answers.{Explored}
 use Rattle.fmp_search.specs.Growth.{AreBefore}
-use Rattle.fmp_search.specs.Trees.{StandsAt}
+use Rattle.fmp_search.specs.Trees.{found_at, StandsAt}
 use Rattle.fmp_search.proofs.exploring.explore.Given as goal
 
 abbrev pub invariant-loop-depth : goal.invariant-loop-depth
@@ -17,3 +17,4 @@ invariant-loop-depth g l =
     × (l.store.most ≡ l.fn.most)
     × (g.W.Space.origin l.trunk ≡ q)
     × StandsAt g.W.Space.after q nodes l.stem (g.W.Space.place l.trunk) (g.W.Space.room l.trunk)
+    × ((i : ℕ) → i < l.begin → (found_at g.W.Space.after q nodes i).depth < l.depth)

@@ -6,14 +6,14 @@ use Rattle.fmp_explore.specs.Walked.{origin_of}
 use Rattle.fmpsim_explore_from.proofs.searching.answered_along.Goals as goal
 
 -- all four begin where all runs do
-pub explore_along-requires-clause-origins : goal.explore_along-requires-clause-origins
-explore_along-requires-clause-origins g c = (
-  ap origin_of (c.in_ok-base.ensures ∙ sym c.in_ok-walker.ensures),
-  ap origin_of (c.in_ok-other.ensures ∙ sym c.in_ok-walker.ensures),
-  ap origin_of (c.in_ok-trunk.ensures ∙ sym c.in_ok-walker.ensures),
+pub explored_along-requires-clause-origins : goal.explored_along-requires-clause-origins
+explored_along-requires-clause-origins g c = (
+  ap origin_of (c.in_ok-walkers.ensures.second ∙ sym c.in_ok-walkers.ensures.first),
+  ap origin_of (c.in_ok-others.ensures.first ∙ sym c.in_ok-walkers.ensures.first),
+  ap origin_of (c.in_ok-others.ensures.second ∙ sym c.in_ok-walkers.ensures.first),
 )
 
 pub returns : goal.returns
 returns g c =
-    subst (λ (w : Place). IfOk c.explore_along.result (λ answer. SaysAlong after is_seen w c.args.choices.now c.args.turns c.args.more answer)) (ap origin_of c.in_ok-walker.ensures)
-    c.explore_along.ensures
+    subst (λ (w : Place). IfOk c.explored_along.result (λ answer. SaysAlong after is_seen w c.args.choices.now c.args.turns c.args.more answer)) (ap origin_of c.in_ok-walkers.ensures.first)
+    c.explored_along.ensures

@@ -1,4 +1,4 @@
-use Rattle.std.proofs.Common.{◌++◌, List, ℕ, refl, ap, ◌∙◌}
+use Rattle.std.proofs.Common.{refl, ◌∙◌}
 use Rattle.fmpsim_run.proofs.report.with_state.Goals as goal
 
 pub returns-clause-told : goal.returns-clause-told

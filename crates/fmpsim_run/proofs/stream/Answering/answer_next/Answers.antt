@@ -22,11 +22,12 @@ returns-in-None-clause-streams g c = λ d tells text whole old remaining known b
     stream_same d tells c.args.config.now text whole old c.args.self.now _ _ remaining before (same remaining) c.in-Ok.ensures.rest c.next.ensures.same.2 refl refl refl refl
 
 pub returns-in_err-answer-in-Some-clause-leaves : goal.returns-in_err-answer-in-Some-clause-leaves
-returns-in_err-answer-in-Some-clause-leaves g c = λ known d text whole old remaining before.
+returns-in_err-answer-in-Some-clause-leaves g c = λ known.
     let names = c.names-names.ensures.value in
     let next = named_next _ c.args.config.now names c.args.self.now.feed c.next.new.self _ c.in-Some.event c.in-Some.is c.in-Ok.ensures.gives in
     let p = err_from_is_err_and c.from_residual.result c.from_residual.ensures.1 in
     let failed = c.in_err-answer-in-Some.ensures in
     rw (p.1, p.2)
-    (step_leaves d true c.args.config.now text whole old c.args.self.now c.next.new.self _ _ remaining c.in-Some.event c.in_err-answer-in-Some.field-0.0 refl before (next remaining)
+    (λ d text whole old remaining before.
+    step_leaves d true c.args.config.now text whole old c.args.self.now c.next.new.self _ _ remaining c.in-Some.event c.in_err-answer-in-Some.field-0.0 refl before (next remaining)
     (λ is. failed.memory known (ap Err is)) (λ lines room is. failed.room (before.detail ∙ ap (λ (x : Detail). told_in x c.args.config.now.names (replay numbered (booted c.args.config.now) before.given)) lines) room (ap Err is)) (λ m stands is. named_begins _ c.args.config.now names _ _ _ _ _ (failed.write known m stands (ap Err is))) failed.kinds)

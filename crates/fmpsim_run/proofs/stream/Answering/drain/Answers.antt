@@ -19,11 +19,15 @@ loop-preserved g c =
     }
 
 pub returns-in_err-answer_next-clause-first : goal.returns-in_err-answer_next-clause-first
-returns-in_err-answer_next-clause-first g c = λ d text whole old remaining before.
+returns-in_err-answer_next-clause-first g c =
     let p = err_from_is_err_and c.from_residual.result c.from_residual.ensures.1 in
-    rw (p.1, p.2) (c.in_err-answer_next.ensures.first d text whole old remaining (c.loop.invariant.streams d false text whole old remaining (λ e. absurd (false≢true e)) before))
+    rw (p.1, p.2)
+    (λ d text whole old remaining before.
+    c.in_err-answer_next.ensures.first d text whole old remaining (c.loop.invariant.streams d false text whole old remaining (λ e. absurd (false≢true e)) before))
 
 pub returns-in_err-answer_next-clause-leaves : goal.returns-in_err-answer_next-clause-leaves
-returns-in_err-answer_next-clause-leaves g c = λ known d text whole old remaining before.
+returns-in_err-answer_next-clause-leaves g c = λ known.
     let p = err_from_is_err_and c.from_residual.result c.from_residual.ensures.1 in
-    rw (p.1, p.2) (c.in_err-answer_next.ensures.leaves (c.loop.invariant.known known) d text whole old remaining (c.loop.invariant.streams d true text whole old remaining (λ e. known) before))
+    rw (p.1, p.2)
+    (λ d text whole old remaining before.
+    c.in_err-answer_next.ensures.leaves (c.loop.invariant.known known) d text whole old remaining (c.loop.invariant.streams d true text whole old remaining (λ e. known) before))

@@ -1,0 +1,31 @@
+//! The steps to a place.
+ghost use Rattle.std.specs.Prelude.{◌≡◌, ◌≤◌, ◌++◌, ◌⊎◌, length, IfOk};
+ghost use Rattle.fmp_search.specs.Roots.{path_at, AreBehind};
+
+use crate::nodes::Node;
+use std::alloc::{AllocError, Global};
+
+/// The numbers of the steps to the place of a number, the first step first: from the stem, where a run through it leads there, and else from
+/// where all runs begin. The number of the place from which they lead stands before them. The error is want of memory.
+pub(crate) fn path_from(
+    alloc: Global,
+    nodes: &[Node],
+    stem: usize,
+    at: usize,
+) -> Result<(usize, Vec<u8>), AllocError>
+    requires behind { AreBehind nodes.now }
+    requires place { at ≤ length nodes.now }
+    ensures from { IfOk result (λ r. (r.0 ≡ stem) ⊎ (r.0 ≡ 0)) }
+    ensures path { IfOk result (λ r. path_at nodes.now r.0 ++ r.1.items ≡ path_at nodes.now at) }
+    ensures place { IfOk result (λ r. r.0 ≤ length nodes.now) }
+{
+    let mut steps = Vec::new(alloc);
+    let mut place = at;
+    while place > 0 && place != stem {
+        let node = nodes[place - 1];
+        steps.push(node.step)?;
+        place = node.parent as usize;
+    }
+    steps.reverse();
+    Ok((place, steps))
+}
