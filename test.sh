@@ -67,6 +67,7 @@ program=test.sh
 for file in "$top"/tests/program/*.sh; do
     name=$(basename "$file" .sh)
     [[ " common ${subjects[*]} " = *" $name "* ]] || count no "$name" is in no list
+    ! grep -q '[<>](' "$file" || count no "$name" has a process substitution: see as_file
 done
 case ${1-} in
     '') prove ;;

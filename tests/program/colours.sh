@@ -16,7 +16,7 @@ colours() {
     from=events.txt run 0 coloured.txt /dev/null calls machine.cfg - --color always
     # a state has no colours
     head -n 1 events.txt > one.txt
-    run 0 <(printf '%s\n' '  P1 run=T1' '  P2 run=-' '  end' "$(head -n 1 coloured.txt)" '  P1 run=E_T ready=T1' '  P2 run=-' '  end') /dev/null \
+    run 0 "$(as_file printf '%s\n' '  P1 run=T1' '  P2 run=-' '  end' "$(head -n 1 coloured.txt)" '  P1 run=E_T ready=T1' '  P2 run=-' '  end')" /dev/null \
         calls --state --color=always machine.cfg one.txt
     # without the colours it is the trace
     for folder in "$top"/examples/*/; do

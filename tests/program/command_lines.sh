@@ -2,12 +2,12 @@
 
 command_lines() {
     write_again
-    run 2 /dev/null <(echo fmpsim: a word of the command line is not UTF-8) calls "$late/machine.cfg" $'\xff'
+    run 2 /dev/null "$(as_file echo fmpsim: a word of the command line is not UTF-8)" calls "$late/machine.cfg" $'\xff'
     refused_lines
     options_anywhere
-    run 2 /dev/null <(value 0 turns '0 is not in 1..=1000000') smp again.cfg again.txt --ticks 0 --turns 0
-    run 2 /dev/null <(value 1000001 ticks '1000001 is not in 0..=1000000') smp again.cfg again.txt --ticks 1000001 --turns 1
-    run 2 /dev/null <(value none seed 'invalid digit found in string') smp again.cfg again.txt --ticks 0 --turns 1 --seed none
+    run 2 /dev/null "$(as_file value 0 turns '0 is not in 1..=1000000')" smp again.cfg again.txt --ticks 0 --turns 0
+    run 2 /dev/null "$(as_file value 1000001 ticks '1000001 is not in 0..=1000000')" smp again.cfg again.txt --ticks 1000001 --turns 1
+    run 2 /dev/null "$(as_file value none seed 'invalid digit found in string')" smp again.cfg again.txt --ticks 0 --turns 1 --seed none
     usage 0 output errors --help
     usage 0 output errors calls --help
     usage 0 output errors check --help

@@ -18,6 +18,13 @@ left_out() {
     printf 'left out of %s, since %s:' "${program##*/}" "$1" && printf ' %q' "${@:2}" && echo
 }
 
+# as_file WORD..: the path of a file with what this command writes, or without one with what comes in. It stands where a process substitution
+# would, which no test may have: bash gives a later child that gets the same process number the status of that one, and does not wait for it.
+as_file() {
+    local file
+    file=$(mktemp "$room/as_file.XXXXXX") && "${@:-cat}" > "$file" && echo "$file"
+}
+
 # play WORD..: runs the program in so many KiB of memory and seconds of processor time, if $memory and $seconds say how many, with
 # its output into the file $to and its input from the file $from. In little memory there is room for nothing beside the program;
 # else it is ended after ten minutes, so that one that waits for ever does not stop the test.
@@ -59,7 +66,7 @@ unread() {
 
 # unwritten WORD..: the program cannot write what these words ask for.
 unwritten() {
-    to=/dev/full run 3 /dev/null <(echo fmpsim: write failed) "$@"
+    to=/dev/full run 3 /dev/null "$(as_file echo fmpsim: write failed)" "$@"
 }
 
 # usage STATUS TOLD SILENT WORD..: the program on these words ends so, tells its usage in one file, and the other is empty.

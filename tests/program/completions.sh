@@ -12,8 +12,8 @@ completions() {
     count "$right" '<Tab>'
     for command in $(sed -nE "s/.* words='(.*) help --help --version'.*/\1/p" "$top/completions/fmpsim.bash"); do
         same=no
-        diff <(long_options "$command" | grep -vx -e --help) \
-            <(sed -n "/^\.SS $command\$/,/^\.S[SH]/p" "$top/man/fmpsim.1" | sed -nE 's/^\.BI? \\-\\-([a-z]+).*/--\1/p') && same=yes
+        diff "$(long_options "$command" | grep -vx -e --help | as_file)" \
+            "$(sed -n "/^\.SS $command\$/,/^\.S[SH]/p" "$top/man/fmpsim.1" | sed -nE 's/^\.BI? \\-\\-([a-z]+).*/--\1/p' | as_file)" && same=yes
         count "$same" "$command" --help '# as in the manual'
     done
 }

@@ -4,25 +4,25 @@ contexts() {
     local machine=$late/machine.cfg task='  task: its name, TSK_SELF for 0, or a number of 32 bits with a sign'
     write_again
     printf 'P1 tick\nP1 act_tsk(T9)\n' > events.txt
-    run 1 <(echo 1 P1 T1 tick taken) <(printf '%s\n' 'fmpsim: events.txt: line 2: E3 unknown name' '  P1 act_tsk(T9)' \
-        '             ^' '  wanted: act_tsk(task)' "$task") calls --context "$machine" events.txt
-    from=events.txt run 1 <(echo 1 P1 T1 tick taken) <(printf '%s\n' 'fmpsim: -: line 2: E3 unknown name' \
-        '  Use the name of an object of the configuration, or a constant.') calls "$machine" - --context
+    run 1 "$(as_file echo 1 P1 T1 tick taken)" "$(as_file printf '%s\n' 'fmpsim: events.txt: line 2: E3 unknown name' '  P1 act_tsk(T9)' \
+        '             ^' '  wanted: act_tsk(task)' "$task")" calls --context "$machine" events.txt
+    from=events.txt run 1 "$(as_file echo 1 P1 T1 tick taken)" "$(as_file printf '%s\n' 'fmpsim: -: line 2: E3 unknown name' \
+        '  Use the name of an object of the configuration, or a constant.')" calls "$machine" - --context
     printf 'PROCESSORS(1);\nDEF_CLASS(C, 1, {1});\nCLASS(C) { CRE_SEM(S, {TA_NULL, 0, 0}); }\n' > number.cfg
-    run 1 /dev/null <(printf '%s\n' 'fmpsim: number.cfg: line 3: F7 value out of range' '  CLASS(C) { CRE_SEM(S, {TA_NULL, 0, 0}); }' \
+    run 1 /dev/null "$(as_file printf '%s\n' 'fmpsim: number.cfg: line 3: F7 value out of range' '  CLASS(C) { CRE_SEM(S, {TA_NULL, 0, 0}); }' \
         '                                     ^' '  wanted: CRE_SEM(semid, {sematr | .., isemcnt, maxsem});' \
         '  sematr: TA_NULL TA_TFIFO TA_TPRI' '  maxsem: within 1 to 65535' '  isemcnt: within 0 to maxsem' \
-        '  Give a number within the range that `fmpsim list` tells, without leading zeros, or a name defined before.') \
+        '  Give a number within the range that `fmpsim list` tells, without leading zeros, or a name defined before.')" \
         check number.cfg "$late/trace.txt" --context
     printf '1 P1 T1 tick taken' > cut.txt
-    run 1 /dev/null <(printf '%s\n' 'fmpsim: cut.txt: line 1: E6 cut short' '  1 P1 T1 tick taken' '                    ^' \
-        '  End the last line with a line feed, and the last script with `end`.') check "$machine" --context cut.txt
+    run 1 /dev/null "$(as_file printf '%s\n' 'fmpsim: cut.txt: line 1: E6 cut short' '  1 P1 T1 tick taken' '                    ^' \
+        '  End the last line with a line feed, and the last script with `end`.')" check "$machine" --context cut.txt
     printf 'script main\nact_tsk(T9)\nend\n' > name.txt
-    run 1 /dev/null <(printf '%s\n' 'fmpsim: name.txt: line 2: E3 unknown name' '  act_tsk(T9)' '          ^' \
-        '  wanted: act_tsk(task)' "$task") smp again.cfg name.txt --ticks 0 --turns 1 --context
+    run 1 /dev/null "$(as_file printf '%s\n' 'fmpsim: name.txt: line 2: E3 unknown name' '  act_tsk(T9)' '          ^' \
+        '  wanted: act_tsk(task)' "$task")" smp again.cfg name.txt --ticks 0 --turns 1 --context
     run 0 "$late/trace.txt" /dev/null calls --context "$machine" "$late/events.txt"
     sed '3s/taken/none/' "$late/trace.txt" > changed.txt
-    run 5 <(echo no 3) /dev/null check --context "$machine" changed.txt
+    run 5 "$(as_file echo no 3)" /dev/null check --context "$machine" changed.txt
     unread_with_causes
     configuration_from_a_pipe
     greatest_with_context
@@ -33,12 +33,12 @@ configuration_from_a_pipe() {
     local unset='  Begin with `PROCESSORS(n);`.'
     mkfifo pipe.cfg
     printf 'DEF_CLASS(C, 1, {1});\n' > pipe.cfg &
-    run 1 /dev/null <(printf '%s\n' 'fmpsim: pipe.cfg: line 1: F10 no PROCESSORS line DEF_CLASS' '  DEF_CLASS(C, 1, {1});' '  ^' "$unset") \
+    run 1 /dev/null "$(as_file printf '%s\n' 'fmpsim: pipe.cfg: line 1: F10 no PROCESSORS line DEF_CLASS' '  DEF_CLASS(C, 1, {1});' '  ^' "$unset")" \
         calls --context pipe.cfg events.txt
     wait
     cat "$machine" > pipe.cfg &
-    run 1 <(echo 1 P1 T1 tick taken) <(printf '%s\n' 'fmpsim: events.txt: line 2: E3 unknown name' '  P1 act_tsk(T9)' \
-        '             ^' '  wanted: act_tsk(task)' "$task") calls --context pipe.cfg events.txt
+    run 1 "$(as_file echo 1 P1 T1 tick taken)" "$(as_file printf '%s\n' 'fmpsim: events.txt: line 2: E3 unknown name' '  P1 act_tsk(T9)' \
+        '             ^' '  wanted: act_tsk(task)' "$task")" calls --context pipe.cfg events.txt
     wait
 }
 
@@ -46,32 +46,32 @@ configuration_from_a_pipe() {
 # input are no file, and a trace always is one.
 unread_with_causes() {
     local missing='missing: No such file or directory (os error 2)'
-    run 3 /dev/null <(printf 'fmpsim: read failed\n  %s\n' "$missing") calls missing "$late/events.txt"
-    run 3 /dev/null <(printf 'fmpsim: read failed\n  %s\n' "$missing") calls --context missing "$late/events.txt"
-    run 3 /dev/null <(printf 'fmpsim: read failed\n  %s\n' "$top: Is a directory (os error 21)") check "$late/machine.cfg" "$top"
-    run 3 /dev/null <(printf 'fmpsim: read failed\n  %s\n' "$top: Is a directory (os error 21)") check "$top" "$late/trace.txt" --context
-    from=$late/events.txt run 3 /dev/null <(printf 'fmpsim: read failed\n  %s\n' "$missing") calls --context missing -
-    from=again.txt run 3 /dev/null <(printf 'fmpsim: read failed\n  %s\n' "$missing") smp missing - --ticks 0 --turns 1
-    from=$late/trace.txt run 3 /dev/null <(printf 'fmpsim: read failed\n  %s\n' "${missing/missing/-}") check "$late/machine.cfg" -
-    run 3 /dev/null <(printf 'fmpsim: read failed\n  %s\n' "$missing") check --context missing -
+    run 3 /dev/null "$(as_file printf 'fmpsim: read failed\n  %s\n' "$missing")" calls missing "$late/events.txt"
+    run 3 /dev/null "$(as_file printf 'fmpsim: read failed\n  %s\n' "$missing")" calls --context missing "$late/events.txt"
+    run 3 /dev/null "$(as_file printf 'fmpsim: read failed\n  %s\n' "$top: Is a directory (os error 21)")" check "$late/machine.cfg" "$top"
+    run 3 /dev/null "$(as_file printf 'fmpsim: read failed\n  %s\n' "$top: Is a directory (os error 21)")" check "$top" "$late/trace.txt" --context
+    from=$late/events.txt run 3 /dev/null "$(as_file printf 'fmpsim: read failed\n  %s\n' "$missing")" calls --context missing -
+    from=again.txt run 3 /dev/null "$(as_file printf 'fmpsim: read failed\n  %s\n' "$missing")" smp missing - --ticks 0 --turns 1
+    from=$late/trace.txt run 3 /dev/null "$(as_file printf 'fmpsim: read failed\n  %s\n' "${missing/missing/-}")" check "$late/machine.cfg" -
+    run 3 /dev/null "$(as_file printf 'fmpsim: read failed\n  %s\n' "$missing")" check --context missing -
 }
 
 # Texts at their greatest length, and above it. The pipe has more than 1 GiB of comments.
 greatest_with_context() {
     local fault='fmpsim: full.cfg: line 1: F10 no PROCESSORS line DEF_CLASS'
     { echo 'DEF_CLASS(C, 1, {1});' && yes '' | head -c $((1048576 - 22)); } > full.cfg
-    run 1 /dev/null <(printf '%s\n' "$fault" '  DEF_CLASS(C, 1, {1});' '  ^' '  Begin with `PROCESSORS(n);`.') \
+    run 1 /dev/null "$(as_file printf '%s\n' "$fault" '  DEF_CLASS(C, 1, {1});' '  ^' '  Begin with `PROCESSORS(n);`.')" \
         calls --context full.cfg "$late/events.txt"
     { cat full.cfg && echo; } > over.cfg
-    run 1 /dev/null <(echo fmpsim: over.cfg: line 0: F9 too many) calls --context over.cfg "$late/events.txt"
-    run 1 /dev/null <(printf '%s\n' 'fmpsim: /dev/zero: line 0: F9 too many') calls /dev/zero "$late/events.txt" --context
+    run 1 /dev/null "$(as_file echo fmpsim: over.cfg: line 0: F9 too many)" calls --context over.cfg "$late/events.txt"
+    run 1 /dev/null "$(as_file printf '%s\n' 'fmpsim: /dev/zero: line 0: F9 too many')" calls /dev/zero "$late/events.txt" --context
     if [ "$kind" != llvm ]; then
         left_out 'it is not optimized' calls --context "$late/machine.cfg" endless.txt
         return
     fi
     mkfifo endless.txt
     yes "$(printf '#%.0s' {1..1000})" > endless.txt &
-    run 1 /dev/null <(printf '%s\n' 'fmpsim: endless.txt: line 0: E7 too many' \
-        '  There may be 1000000 events, 1073741824 bytes, and 256 steps in a script.') calls --context "$late/machine.cfg" endless.txt
+    run 1 /dev/null "$(as_file printf '%s\n' 'fmpsim: endless.txt: line 0: E7 too many' \
+        '  There may be 1000000 events, 1073741824 bytes, and 256 steps in a script.')" calls --context "$late/machine.cfg" endless.txt
     wait
 }

@@ -14,6 +14,6 @@ devices_that_fail() {
     yes '#' | head -c 50000000 > long.txt
     head -c 50000000 /dev/zero | tr '\0' '#' > line.txt
     seconds=30 memory=40000 run 0 /dev/null /dev/null calls "$late/machine.cfg" long.txt
-    seconds=30 memory=40000 run 4 /dev/null <(echo fmpsim: line.txt: line 0: E8 want of memory) calls "$late/machine.cfg" line.txt
-    seconds=30 memory=40000 run 4 /dev/null <(echo fmpsim: want of memory) check "$late/machine.cfg" long.txt
+    seconds=30 memory=40000 run 4 /dev/null "$(as_file echo fmpsim: line.txt: line 0: E8 want of memory)" calls "$late/machine.cfg" line.txt
+    seconds=30 memory=40000 run 4 /dev/null "$(as_file echo fmpsim: want of memory)" check "$late/machine.cfg" long.txt
 }

@@ -6,46 +6,46 @@ diagnostics() {
     write_again
     printf 'P1 tick\nP1 act_tsk(T9)\n' > events.txt
     echo 1 P1 T1 tick taken > tick.txt
-    run 1 tick.txt <(echo "$told") calls --diagnostics=gcc "$machine" events.txt
-    run 1 tick.txt <(echo "$told") --diagnostics=plain calls "$machine" events.txt --diagnostics=gcc
-    run 1 tick.txt <(printf '%s\n' "$told" '  P1 act_tsk(T9)' '             ^' '  wanted: act_tsk(task)' "$task") \
+    run 1 tick.txt "$(as_file echo "$told")" calls --diagnostics=gcc "$machine" events.txt
+    run 1 tick.txt "$(as_file echo "$told")" --diagnostics=plain calls "$machine" events.txt --diagnostics=gcc
+    run 1 tick.txt "$(as_file printf '%s\n' "$told" '  P1 act_tsk(T9)' '             ^' '  wanted: act_tsk(task)' "$task")" \
         --diagnostics=gcc calls --context "$machine" events.txt
-    run 1 tick.txt <(echo fmpsim: events.txt: line 2: E3 unknown name) calls --diagnostics=plain "$machine" events.txt
-    from=events.txt run 1 tick.txt <(echo '-:2: error: E3 unknown name') calls "$machine" - --diagnostics=gcc
-    run 1 /dev/null <(echo "$told") shrink "$machine" events.txt --find tick --diagnostics=gcc
+    run 1 tick.txt "$(as_file echo fmpsim: events.txt: line 2: E3 unknown name)" calls --diagnostics=plain "$machine" events.txt
+    from=events.txt run 1 tick.txt "$(as_file echo '-:2: error: E3 unknown name')" calls "$machine" - --diagnostics=gcc
+    run 1 /dev/null "$(as_file echo "$told")" shrink "$machine" events.txt --find tick --diagnostics=gcc
     printf 'script main\nact_tsk(T9)\nend\n' > name.txt
-    run 1 /dev/null <(echo name.txt:2:9: error: E3 unknown name) smp again.cfg name.txt --ticks 0 --turns 1 --diagnostics=gcc
-    run 1 /dev/null <(echo name.txt:2:9: error: E3 unknown name) explore again.cfg name.txt --ticks 0 --turns 1 --find end --diagnostics=gcc
+    run 1 /dev/null "$(as_file echo name.txt:2:9: error: E3 unknown name)" smp again.cfg name.txt --ticks 0 --turns 1 --diagnostics=gcc
+    run 1 /dev/null "$(as_file echo name.txt:2:9: error: E3 unknown name)" explore again.cfg name.txt --ticks 0 --turns 1 --find end --diagnostics=gcc
     traces_and_questions
     configurations
-    run 3 /dev/null <(printf 'fmpsim: read failed\n  missing: No such file or directory (os error 2)\n') --diagnostics=gcc calls missing events.txt
-    run 2 /dev/null <(echo 'fmpsim: --diagnostics: wanted plain or gcc, as in --diagnostics=gcc') calls --diagnostics=json "$machine" events.txt
-    run 2 /dev/null <(echo 'fmpsim: --diagnostics: wanted plain or gcc, as in --diagnostics=gcc') calls --diagnostics gcc "$machine" events.txt
+    run 3 /dev/null "$(as_file printf 'fmpsim: read failed\n  missing: No such file or directory (os error 2)\n')" --diagnostics=gcc calls missing events.txt
+    run 2 /dev/null "$(as_file echo 'fmpsim: --diagnostics: wanted plain or gcc, as in --diagnostics=gcc')" calls --diagnostics=json "$machine" events.txt
+    run 2 /dev/null "$(as_file echo 'fmpsim: --diagnostics: wanted plain or gcc, as in --diagnostics=gcc')" calls --diagnostics gcc "$machine" events.txt
     run 0 "$late/trace.txt" /dev/null calls --diagnostics=gcc "$machine" "$late/events.txt"
 }
 
 # A trace, one that leaves out parts, and a question, which is the one line of no file.
 traces_and_questions() {
     printf '1 P1 T1 tick taken' > cut.txt
-    run 1 /dev/null <(echo cut.txt:1:19: error: E6 cut short) check "$machine" cut.txt --diagnostics=gcc
+    run 1 /dev/null "$(as_file echo cut.txt:1:19: error: E6 cut short)" check "$machine" cut.txt --diagnostics=gcc
     printf '1 P1 T1 tick taken\n2 P1 T1 tack taken\n' > word.txt
-    run 1 /dev/null <(echo word.txt:2:9: error: E2 bad word) check --all "$machine" word.txt --diagnostics=gcc
-    run 1 /dev/null <(echo word.txt:2:9: error: E2 bad word) wave "$machine" word.txt --diagnostics=gcc
-    run 1 /dev/null <(echo word.txt:2:1: error: E2 bad word) check --partial "$machine" word.txt --diagnostics=gcc
-    run 1 /dev/null <(echo '--find:1:10: error: E2 bad word') shrink "$machine" "$late/events.txt" --find 'tick then' --diagnostics=gcc
+    run 1 /dev/null "$(as_file echo word.txt:2:9: error: E2 bad word)" check --all "$machine" word.txt --diagnostics=gcc
+    run 1 /dev/null "$(as_file echo word.txt:2:9: error: E2 bad word)" wave "$machine" word.txt --diagnostics=gcc
+    run 1 /dev/null "$(as_file echo word.txt:2:1: error: E2 bad word)" check --partial "$machine" word.txt --diagnostics=gcc
+    run 1 /dev/null "$(as_file echo '--find:1:10: error: E2 bad word')" shrink "$machine" "$late/events.txt" --find 'tick then' --diagnostics=gcc
 }
 
 # The place of the token at fault, or of what is missing before it; the line alone where there is no token; and no line at all.
 configurations() {
     printf 'PROCESSORS(1);\nDEF_CLASS(C, 1, {1});\nCLASS(C) { CRE_SEM(S, {TA_NULL, 0, 0}); }\n' > number.cfg
-    run 1 /dev/null <(echo number.cfg:3:36: error: F7 value out of range) check --diagnostics=gcc number.cfg "$late/trace.txt"
+    run 1 /dev/null "$(as_file echo number.cfg:3:36: error: F7 value out of range)" check --diagnostics=gcc number.cfg "$late/trace.txt"
     printf 'PROCESSORS(1);\n  CRE_MTX(M, {TA_NULL, 1});\n' > word.cfg
-    run 1 /dev/null <(echo word.cfg:2:3: error: F3 unsupported API CRE_MTX) list word.cfg --diagnostics=gcc
+    run 1 /dev/null "$(as_file echo word.cfg:2:3: error: F3 unsupported API CRE_MTX)" list word.cfg --diagnostics=gcc
     printf 'PROCESSORS(1)\n\nDEF_CLASS(C, 1, {1});\n' > open.cfg
-    run 1 /dev/null <(echo fmpsim: open.cfg: line 3: F1 syntax DEF_CLASS) list open.cfg
-    run 1 /dev/null <(echo open.cfg:1:14: error: F1 syntax DEF_CLASS) list open.cfg --diagnostics=gcc
+    run 1 /dev/null "$(as_file echo fmpsim: open.cfg: line 3: F1 syntax DEF_CLASS)" list open.cfg
+    run 1 /dev/null "$(as_file echo open.cfg:1:14: error: F1 syntax DEF_CLASS)" list open.cfg --diagnostics=gcc
     printf 'PROCESSORS(1);\n/* a' > comment.cfg
-    run 1 /dev/null <(echo comment.cfg:2: error: F2 cut short) list comment.cfg --diagnostics=gcc
+    run 1 /dev/null "$(as_file echo comment.cfg:2: error: F2 cut short)" list comment.cfg --diagnostics=gcc
     { echo 'DEF_CLASS(C, 1, {1});' && yes '' | head -c 1048576; } > over.cfg
-    run 1 /dev/null <(echo over.cfg: error: F9 too many) list over.cfg --diagnostics=gcc
+    run 1 /dev/null "$(as_file echo over.cfg: error: F9 too many)" list over.cfg --diagnostics=gcc
 }

@@ -11,11 +11,11 @@ examples() {
             read -ra options < "$folder/options.txt"
             run 0 "$folder/trace.txt" /dev/null smp "$folder/machine.cfg" "$folder/scripts.txt" "${options[@]}"
         fi
-        run 0 <(echo yes) /dev/null check "$folder/machine.cfg" "$folder/trace.txt"
+        run 0 "$(as_file echo yes)" /dev/null check "$folder/machine.cfg" "$folder/trace.txt"
         for events in "$folder"/*-events.txt; do
             [ -f "$events" ] || continue
             run 0 "${events%events.txt}trace.txt" /dev/null calls "$folder/machine.cfg" "$events"
-            run 0 <(echo yes) /dev/null check "$folder/machine.cfg" "${events%events.txt}trace.txt"
+            run 0 "$(as_file echo yes)" /dev/null check "$folder/machine.cfg" "${events%events.txt}trace.txt"
         done
     done
 }

@@ -53,9 +53,9 @@ reads_texts() {
         well=no
         "$tool" "$logs/machine.cfg" x.log "${words[@]}" > made 2> told
         ended=$?
-        [ "$ended" = "$status" ] && diff <(printf '%b' "$made") made && diff <(printf '%b' "$what") told && well=yes
+        [ "$ended" = "$status" ] && diff "$(as_file printf '%b' "$made")" made && diff "$(as_file printf '%b' "$what")" told && well=yes
         count "$well" '#' tools/from-log machine.cfg x.log "${words[@]}" '#' "$text"
-    done < <(grep -v '^#' "$1" | tr '\t' '\1')
+    done < "$(grep -v '^#' "$1" | tr '\t' '\1' | as_file)"
 }
 
 # Command lines that are wrong, files that are missing or no configuration, and an output that cannot be written.

@@ -56,8 +56,8 @@ tells_texts() {
         printf '%b' "$text" > x.cfg
         read -ra words <<< "$words"
         [ -z "$what" ] || what+='\n'
-        tells "$status" <(printf '%b' "$what") "${words[@]}"
-    done < <(grep -v '^#' "$1" | tr '\t' '\1')
+        tells "$status" "$(as_file printf '%b' "$what")" "${words[@]}"
+    done < "$(grep -v '^#' "$1" | tr '\t' '\1' | as_file)"
 }
 
 # Files that x.cfg includes and that are cut short: their lines are told, and nothing runs on into the file that includes them.
@@ -65,20 +65,20 @@ tells_included() {
     printf 'CLASS(TCL_1) {\n  CRE_SPN(A, {TA_NULL});\n#include "y.h"\n  INCLUDE("y.cfg");\n}\n' > x.cfg
     printf '/* nothing */\n' > y.h
     printf '\n  CRE_SPN(B, {TA_NULL})' > y.cfg
-    tells 1 <(echo 'y.cfg:2: refused: `;` is wanted behind this, the end of the CRE_SPN of line 2') x.cfg
+    tells 1 "$(as_file echo 'y.cfg:2: refused: `;` is wanted behind this, the end of the CRE_SPN of line 2')" x.cfg
     printf '\n  CRE_SPN(B, {TA_NULL' > y.cfg
-    tells 1 <(echo 'y.cfg:2: refused: cut short: CRE_SPN does not end in its file') x.cfg
+    tells 1 "$(as_file echo 'y.cfg:2: refused: cut short: CRE_SPN does not end in its file')" x.cfg
     printf '\n  CRE_SPN(B, {TA_NULL}); /* open' > y.cfg
-    tells 1 <(echo 'y.cfg:2: refused: cut short: this comment is not closed') x.cfg
+    tells 1 "$(as_file echo 'y.cfg:2: refused: cut short: this comment is not closed')" x.cfg
     printf '}\nCLASS(TCL_2) {\n' > y.cfg
-    tells 1 <(echo 'y.cfg:1: refused: this `}` closes a CLASS of another file') x.cfg
+    tells 1 "$(as_file echo 'y.cfg:1: refused: this `}` closes a CLASS of another file')" x.cfg
     printf 'CRE_SPN(B, {TA_NULL});' > y.cfg
     tells 0 /dev/null x.cfg
     printf '\nextern int open(int' > y.h
-    tells 1 <(echo 'y.h:2: refused: cut short: what begins with `extern` in this header does not end in it') x.cfg
+    tells 1 "$(as_file echo 'y.h:2: refused: cut short: what begins with `extern` in this header does not end in it')" x.cfg
     printf 'INCLUDE("y.cfg");\nCLASS(TCL_1) { CRE_SPN(C, {TA_NULL}); }\n' > x.cfg
     printf '\n\nCLASS(TCL_1) {\n' > y.cfg
-    tells 1 <(echo 'y.cfg:3: refused: cut short: this CLASS is not closed in its file') x.cfg
+    tells 1 "$(as_file echo 'y.cfg:3: refused: cut short: this CLASS is not closed in its file')" x.cfg
 }
 
 # As many objects and classes as fmpsim has room for, and one more; and files in one another without end.
@@ -88,15 +88,15 @@ tells_too_many() {
     { cat most && echo '}'; } > x.cfg
     tells 0 /dev/null x.cfg
     { cat most && printf '%s\n' 'CRE_SPN(S33, {TA_NULL});' 'CRE_TSK(T65, {TA_NULL, 0, f, 1, 1, 0});' '}'; } > x.cfg
-    tells 1 <(printf 'x.cfg:%d: refused: %s stands more often than fmpsim has room for: %d times\n' 98 CRE_SPN 32 99 CRE_TSK 64) x.cfg
+    tells 1 "$(as_file printf 'x.cfg:%d: refused: %s stands more often than fmpsim has room for: %d times\n' 98 CRE_SPN 32 99 CRE_TSK 64)" x.cfg
     { printf 'DEF_CLASS(C%d, 1, {1});\n' {1..32} && echo 'CLASS(C32) { CRE_SPN(S, {TA_NULL}); }'; } > x.cfg
     tells 0 /dev/null x.cfg
     echo 'CLASS(TCL_1) { }' >> x.cfg
-    tells 1 <(echo 'x.cfg:34: refused: more than 32 classes') x.cfg
+    tells 1 "$(as_file echo 'x.cfg:34: refused: more than 32 classes')" x.cfg
     for number in {1..400}; do
         echo "INCLUDE(\"$((number + 1)).cfg\");" > "$number.cfg"
     done
-    tells 1 <(echo '1.cfg:1: refused: more than 1000 files are included, or more than 60 in one another') 1.cfg
+    tells 1 "$(as_file echo '1.cfg:1: refused: more than 1000 files are included, or more than 60 in one another')" 1.cfg
 }
 
 # Command lines that are wrong, no cpp, and an output that cannot be written.

@@ -8,7 +8,7 @@ help_texts() {
         'output (could )?not be written' 'want of memory|memory ran out' '\bno\b|not the machine|shows it' 'turns' 'a task waits')
     local -A statuses=([calls]='0 1 2 3 4' [check]='0 1 2 3 4 5' [wave]='0 1 2 3 4 5' [view]='0 1 2 3 4 5' [smp]='0 1 2 3 4 5 6 7' [explore]='0 1 2 3 4 5 6' [shrink]='0 1 2 3 4 5' [list]='0 1 2 3 4')
     version=$(sed -nE 's/^\.TH FMPSIM 1 "" "(fmpsim [0-9.]+)" .*/\1/p' "$top/man/fmpsim.1")
-    run 0 <(echo "$version") /dev/null --version
+    run 0 "$(as_file echo "$version")" /dev/null --version
     unwritten --version
     well=no
     [ "$(sed -nE 's/^## (fmpsim [0-9.]+).*/\1/p' "$top/CHANGELOG.md" | head -n 1)" = "$version" ] && well=yes
@@ -18,14 +18,14 @@ help_texts() {
         unwritten "$command" --help
         well=no
         play "$command" --help
-        told "${statuses[$command]}" < <(sed '1,/^Exit status:/d' output | sed -E 's/^ +//') && well=yes
+        told "${statuses[$command]}" < "$(sed '1,/^Exit status:/d' output | sed -E 's/^ +//' | as_file)" && well=yes
         count "$well" "$command" --help '# its exit statuses'
     done
     well=no
-    told '0 1 2 3 4 5 6 7' < <(sed -n '/^\.SH EXIT STATUS/,/^\.SH EXAMPLES/p' "$top/man/fmpsim.1" | manual_items) && well=yes
+    told '0 1 2 3 4 5 6 7' < "$(sed -n '/^\.SH EXIT STATUS/,/^\.SH EXAMPLES/p' "$top/man/fmpsim.1" | manual_items | as_file)" && well=yes
     count "$well" '# exit statuses in the manual'
     well=no
-    told '0 1 2 3 4 5 6 7' < <(sed -n '/^## Exit statuses/,$p' "$top/docs/formats/faults.md" | sed -nE 's/^\| ([0-9]) \| (.*) \|$/\1 \2/p') && well=yes
+    told '0 1 2 3 4 5 6 7' < "$(sed -n '/^## Exit statuses/,$p' "$top/docs/formats/faults.md" | sed -nE 's/^\| ([0-9]) \| (.*) \|$/\1 \2/p' | as_file)" && well=yes
     count "$well" '# exit statuses in docs/formats/faults.md'
 }
 

@@ -7,7 +7,7 @@ installing() {
         return
     fi
     mkdir -p there/bin && touch there/bin/other
-    installed "PROGRAM=$program" install && diff installed_files <(found_in there) \
+    installed "PROGRAM=$program" install && diff installed_files "$(as_file found_in there)" \
         && cmp "$program" there/bin/fmpsim && cmp "$top/man/fmpsim.1" there/share/man/man1/fmpsim.1 \
         && [ "$(there/bin/fmpsim --version)" = "$("$program" --version)" ] && well=yes
     count "$well" '# make install'

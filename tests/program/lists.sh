@@ -2,26 +2,26 @@
 
 lists() {
     local each=no call calls
-    run 0 <(printf '%s\n' 'chg_pri(task, priority)' '  task: its name, TSK_SELF for 0, or a number of 32 bits with a sign' \
+    run 0 "$(as_file printf '%s\n' 'chg_pri(task, priority)' '  task: its name, TSK_SELF for 0, or a number of 32 bits with a sign' \
         '  priority: a number of 32 bits with a sign, TPRI_SELF for 0, or TPRI_INI for 0' \
         '  does: The task has the priority, 0 for its initial one, and comes last of it.' \
-        '  answers: E_OK; E_OBJ where it is dormant.') /dev/null list chg_pri
-    run 0 <(printf '%s\n' ret_hdr '  does: The handler is due no longer, the processor is unlocked, and a spin lock of it is freed.' \
-        '  answers: E_OK; E_CTX from a task.') /dev/null list ret_hdr
-    run 0 <(printf '%s\n' E_TMOUT '  The time of the wait is over, or what was asked for without a wait is not to be had.') /dev/null list E_TMOUT
-    run 0 <(printf '%s\n' TA_TPRI '  Tasks wait by priority, and among equals first come first.') /dev/null list TA_TPRI
-    run 2 /dev/null <(printf '%s\n' 'fmpsim: nothing is called e_tmout: see fmpsim list' '  near: E_TMOUT') list e_tmout
-    run 2 /dev/null <(printf '%s\n' 'fmpsim: nothing is called act_tks: see fmpsim list' '  near: act_tsk') list act_tks
-    run 2 /dev/null <(printf '%s\n' 'fmpsim: nothing is called DEFCLASS: see fmpsim list' '  near: DEF_CLASS') list DEFCLASS
-    run 0 <(printf '%s\n' 'CRE_SEM(semid, {sematr | .., isemcnt, maxsem});' '  sematr: TA_NULL TA_TFIFO TA_TPRI' \
-        '  maxsem: within 1 to 65535' '  isemcnt: within 0 to maxsem') /dev/null list CRE_SEM
-    run 0 <(printf '%s\n' 'CRE_MPF(mpfid, {mpfatr | .., blkcnt, blksz, mpf, mpfmb});' '  mpfatr: TA_NULL TA_TFIFO TA_TPRI' \
-        '  blkcnt: within 1 to 64') /dev/null list CRE_MPF
-    run 0 <(printf '%s\n' 'CRE_CYC(cycid, {cycatr | .., exinf, cychdr, cyctim, cycphs});' '  cycatr: TA_NULL TA_STA' \
-        '  cyctim: within 1 to 2147483647' '  cycphs: within 0 to 2147483647') /dev/null list CRE_CYC
-    run 0 <(printf '%s\n' 'F10 no PROCESSORS line' '  Begin with `PROCESSORS(n);`.') /dev/null list F10
-    run 0 <(echo ini_sem is left out) /dev/null list ini_sem
-    run 2 /dev/null <(echo fmpsim: nothing is called jump: see fmpsim list) list jump
+        '  answers: E_OK; E_OBJ where it is dormant.')" /dev/null list chg_pri
+    run 0 "$(as_file printf '%s\n' ret_hdr '  does: The handler is due no longer, the processor is unlocked, and a spin lock of it is freed.' \
+        '  answers: E_OK; E_CTX from a task.')" /dev/null list ret_hdr
+    run 0 "$(as_file printf '%s\n' E_TMOUT '  The time of the wait is over, or what was asked for without a wait is not to be had.')" /dev/null list E_TMOUT
+    run 0 "$(as_file printf '%s\n' TA_TPRI '  Tasks wait by priority, and among equals first come first.')" /dev/null list TA_TPRI
+    run 2 /dev/null "$(as_file printf '%s\n' 'fmpsim: nothing is called e_tmout: see fmpsim list' '  near: E_TMOUT')" list e_tmout
+    run 2 /dev/null "$(as_file printf '%s\n' 'fmpsim: nothing is called act_tks: see fmpsim list' '  near: act_tsk')" list act_tks
+    run 2 /dev/null "$(as_file printf '%s\n' 'fmpsim: nothing is called DEFCLASS: see fmpsim list' '  near: DEF_CLASS')" list DEFCLASS
+    run 0 "$(as_file printf '%s\n' 'CRE_SEM(semid, {sematr | .., isemcnt, maxsem});' '  sematr: TA_NULL TA_TFIFO TA_TPRI' \
+        '  maxsem: within 1 to 65535' '  isemcnt: within 0 to maxsem')" /dev/null list CRE_SEM
+    run 0 "$(as_file printf '%s\n' 'CRE_MPF(mpfid, {mpfatr | .., blkcnt, blksz, mpf, mpfmb});' '  mpfatr: TA_NULL TA_TFIFO TA_TPRI' \
+        '  blkcnt: within 1 to 64')" /dev/null list CRE_MPF
+    run 0 "$(as_file printf '%s\n' 'CRE_CYC(cycid, {cycatr | .., exinf, cychdr, cyctim, cycphs});' '  cycatr: TA_NULL TA_STA' \
+        '  cyctim: within 1 to 2147483647' '  cycphs: within 0 to 2147483647')" /dev/null list CRE_CYC
+    run 0 "$(as_file printf '%s\n' 'F10 no PROCESSORS line' '  Begin with `PROCESSORS(n);`.')" /dev/null list F10
+    run 0 "$(as_file echo ini_sem is left out)" /dev/null list ini_sem
+    run 2 /dev/null "$(as_file echo fmpsim: nothing is called jump: see fmpsim list)" list jump
     unwritten list
     # each call, statement and fault has one line, and each call of the document has one
     play list
@@ -83,9 +83,9 @@ END
     sed 's/PERIOD, 3/20, 3/; /^#define/d' each_kind.cfg > numbers.cfg
     run 0 each_kind.txt /dev/null list numbers.cfg
     printf 'PROCESSORS(8);\n' > bare.cfg
-    run 0 <(printf '%s\n' 'processors 8' 'timer local' 'limits wupcnt 1 pri 16') /dev/null list bare.cfg
+    run 0 "$(as_file printf '%s\n' 'processors 8' 'timer local' 'limits wupcnt 1 pri 16')" /dev/null list bare.cfg
     printf 'PROCESSORS(1);\nTIMER(LOCAL);\nDEF_CLASS(C, 1, {1});\nCLASS(C) {\n}\n' > class.cfg
-    run 0 <(printf '%s\n' 'processors 1' 'timer local' 'limits wupcnt 1 pri 16' 'class C initial P1 processors P1') /dev/null list class.cfg
+    run 0 "$(as_file printf '%s\n' 'processors 1' 'timer local' 'limits wupcnt 1 pri 16' 'class C initial P1 processors P1')" /dev/null list class.cfg
     unwritten list "$late/machine.cfg"
     unwritten list each_kind.cfg
 }
@@ -124,19 +124,19 @@ refused_configurations() {
     unread list ./missing
     unread list act_tsk.
     unread list "$top"
-    run 3 /dev/null <(printf '%s\n' 'fmpsim: read failed' '  ./missing: No such file or directory (os error 2)') list ./missing --context
-    run 3 /dev/null <(printf '%s\n' 'fmpsim: read failed' "  $top: Is a directory (os error 21)") list --context "$top"
+    run 3 /dev/null "$(as_file printf '%s\n' 'fmpsim: read failed' '  ./missing: No such file or directory (os error 2)')" list ./missing --context
+    run 3 /dev/null "$(as_file printf '%s\n' 'fmpsim: read failed' "  $top: Is a directory (os error 21)")" list --context "$top"
     : > empty.cfg
-    run 1 /dev/null <(echo 'fmpsim: empty.cfg: line 1: F10 no PROCESSORS line') list empty.cfg
+    run 1 /dev/null "$(as_file echo 'fmpsim: empty.cfg: line 1: F10 no PROCESSORS line')" list empty.cfg
     printf 'PROCESSORS(2);\nDEF_CLASS(C, 1, {1});\nCLASS(C) { CRE_SEM(S, {TA_NULL, 2, 1}); }\n' > count.cfg
-    run 1 /dev/null <(echo 'fmpsim: count.cfg: line 3: F7 value out of range') list count.cfg
+    run 1 /dev/null "$(as_file echo 'fmpsim: count.cfg: line 3: F7 value out of range')" list count.cfg
     printf 'PROCESSORS(1);\nDEF_CLASS(C, 1, {1});\nCLASS(C) {\n' > open.cfg
-    run 1 /dev/null <(echo 'fmpsim: open.cfg: line 3: F2 cut short') list open.cfg
+    run 1 /dev/null "$(as_file echo 'fmpsim: open.cfg: line 3: F2 cut short')" list open.cfg
     head -c 1048577 /dev/zero | tr '\0' ' ' > long.cfg
-    run 1 /dev/null <(echo 'fmpsim: long.cfg: line 0: F9 too many') list long.cfg
+    run 1 /dev/null "$(as_file echo 'fmpsim: long.cfg: line 0: F9 too many')" list long.cfg
     printf 'PROCESSORS(1);\nCRE_SPN(L, {TA_NULL});\n' > outside.cfg
-    run 1 /dev/null <(printf '%s\n' 'fmpsim: outside.cfg: line 2: F4 outside a class CRE_SPN' '  CRE_SPN(L, {TA_NULL});' '  ^' \
-        '  Put the statement into a `CLASS(..) { .. }`.') list outside.cfg --context
+    run 1 /dev/null "$(as_file printf '%s\n' 'fmpsim: outside.cfg: line 2: F4 outside a class CRE_SPN' '  CRE_SPN(L, {TA_NULL});' '  ^' \
+        '  Put the statement into a `CLASS(..) { .. }`.')" list outside.cfg --context
     # a beginning of a text is listed or has a fault, and never both
     for size in $(seq 0 40 1240); do
         head -c "$size" each_kind.cfg > begun.cfg
@@ -147,8 +147,8 @@ refused_configurations() {
             *) false ;;
         esac && count yes list || count no list "# $size bytes"
     done
-    run 2 /dev/null <(echo fmpsim: nothing is called machine: see fmpsim list) list machine
-    run 2 /dev/null <(echo fmpsim: nothing is called -: see fmpsim list) list -
+    run 2 /dev/null "$(as_file echo fmpsim: nothing is called machine: see fmpsim list)" list machine
+    run 2 /dev/null "$(as_file echo fmpsim: nothing is called -: see fmpsim list)" list -
 }
 
 # Of each call it is told what it does and what it answers, in two lines, and each answer there is one of the call's errors in
@@ -181,7 +181,7 @@ listed_words() {
 listed_names() {
     local name each=yes names
     play list
-    mapfile -t names < <(grep -v ':$' output | grep -oE '^[A-Za-z][A-Za-z0-9_]*')
+    mapfile -t names < "$(grep -v ':$' output | grep -oE '^[A-Za-z][A-Za-z0-9_]*' | as_file)"
     [ "${#names[@]}" = 113 ] || each=no
     for name in "${names[@]}"; do
         play list "$name" && [ ! -s errors ] && head -n 1 output | grep -qE "^$name\b" || { each=no && echo "list $name"; }
@@ -216,7 +216,7 @@ E7 too many
 E8 want of memory
 END
     play list
-    diff faults.txt <(grep -E '^[EF][0-9]' output) || each=no
+    diff faults.txt "$(as_file grep -E '^[EF][0-9]' output)" || each=no
     while read -r fault; do
         play list "${fault%% *}" && [ "$(head -n 1 output)" = "$fault" ] && [ "$(grep -c '^  [A-Z]' output)" = 1 ] || { each=no && echo "$fault"; }
     done < faults.txt

@@ -12,7 +12,7 @@ little_memory() {
     until { memory=$least play --help; } 2> /dev/null || [ $? = 4 ]; do
         least=$((least + 25))
     done
-    mapfile -t rooms < <(seq "$least" 25 $((least + 1000)) && echo 100000)
+    mapfile -t rooms < "$({ seq "$least" 25 $((least + 1000)) && echo 100000; } | as_file)"
     echo yes > verdict.txt
     # the last line of these events is longer than most of the rooms
     { cat "$late/events.txt" && head -c 2000000 /dev/zero | tr '\0' '#'; } > line.txt

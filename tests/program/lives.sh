@@ -34,7 +34,7 @@ lives() {
     # a name that stands twice is told twice, and one that changes nothing only at boot
     printf 'P1 act_tsk(T2)\nP1 tick\n' > events.txt
     life T2,M,T2 '  T2 dormant' '  M free=2' '  T2 dormant' '1 P1 T1 act_tsk(T2) E_OK run=T2' '  T2 running P1' '  T2 running P1'
-    from=events.txt run 0 <(printf '  M free=2\n') /dev/null calls life.cfg - --of M
+    from=events.txt run 0 "$(as_file printf '  M free=2\n')" /dev/null calls life.cfg - --of M
     names_that_name_nothing
     life_cut_short
     # what another program makes of the states
@@ -54,7 +54,7 @@ lives() {
 
 # life NAMES LINE..: the events of events.txt change these lines of them.
 life() {
-    run 0 <(printf '%s\n' "${@:2}") /dev/null calls life.cfg events.txt "--of=$1"
+    run 0 "$(as_file printf '%s\n' "${@:2}")" /dev/null calls life.cfg events.txt "--of=$1"
 }
 
 # Writes a machine with an object of each kind, and events that change most of them.
@@ -83,7 +83,7 @@ write_life() {
 names_that_name_nothing() {
     local names name
     while IFS=$'\t' read -r names name; do
-        run 2 /dev/null <(echo "fmpsim: --of: life.cfg has nothing called '$name'") calls life.cfg events.txt "--of=$names"
+        run 2 /dev/null "$(as_file echo "fmpsim: --of: life.cfg has nothing called '$name'")" calls life.cfg events.txt "--of=$names"
     done <<- END
 	T9	T9
 	t2	t2
@@ -96,9 +96,9 @@ names_that_name_nothing() {
 	main1	main1
 	K	K
 	END
-    run 2 /dev/null <(echo "fmpsim: --of: life.cfg has nothing called ''") calls life.cfg events.txt --of ''
+    run 2 /dev/null "$(as_file echo "fmpsim: --of: life.cfg has nothing called ''")" calls life.cfg events.txt --of ''
     printf 'PROCESSORS(1' > wrong.cfg
-    run 1 /dev/null <(echo 'fmpsim: wrong.cfg: line 1: F2 cut short') calls wrong.cfg events.txt --of T9
+    run 1 /dev/null "$(as_file echo 'fmpsim: wrong.cfg: line 1: F2 cut short')" calls wrong.cfg events.txt --of T9
     refused calls life.cfg events.txt --of
     usage 2 errors output calls life.cfg events.txt --of T1 --of T2
     usage 2 errors output calls life.cfg events.txt --of T1 --state
@@ -107,9 +107,9 @@ names_that_name_nothing() {
 # A fault of the events, a device that fails and a pipe that closes.
 life_cut_short() {
     printf 'P1 act_tsk(T2)\nP1 jump()\n' > wrong.txt
-    run 1 <(printf '  T2 dormant\n1 P1 T1 act_tsk(T2) E_OK run=T2\n  T2 running P1\n') <(echo fmpsim: wrong.txt: line 2: E2 bad word) calls life.cfg wrong.txt --of T2
+    run 1 "$(as_file printf '  T2 dormant\n1 P1 T1 act_tsk(T2) E_OK run=T2\n  T2 running P1\n')" "$(as_file echo fmpsim: wrong.txt: line 2: E2 bad word)" calls life.cfg wrong.txt --of T2
     printf 'P1 act_tsk(T2)\nP1 tick' > wrong.txt
-    run 1 <(printf '  T2 dormant\n1 P1 T1 act_tsk(T2) E_OK run=T2\n  T2 running P1\n') <(echo fmpsim: wrong.txt: line 2: E6 cut short) calls life.cfg wrong.txt --of T2
+    run 1 "$(as_file printf '  T2 dormant\n1 P1 T1 act_tsk(T2) E_OK run=T2\n  T2 running P1\n')" "$(as_file echo fmpsim: wrong.txt: line 2: E6 cut short)" calls life.cfg wrong.txt --of T2
     unread calls life.cfg missing --of T2
     unwritten calls life.cfg events.txt --of T2
     unread_output calls life.cfg events.txt --of T2

@@ -11,6 +11,6 @@ long_lines() {
     write_again
     head -c 200000000 /dev/zero | tr '\0' '#' > line.txt
     run 0 /dev/null /dev/null calls "$late/machine.cfg" line.txt
-    run 1 /dev/null <(echo fmpsim: line.txt: line 1: E6 cut short) check "$late/machine.cfg" line.txt
-    run 0 <(echo '1 P1 T ext_tsk() gone run=idle') /dev/null smp again.cfg line.txt --ticks 0 --turns 1 --seed 0
+    run 1 /dev/null "$(as_file echo fmpsim: line.txt: line 1: E6 cut short)" check "$late/machine.cfg" line.txt
+    run 0 "$(as_file echo '1 P1 T ext_tsk() gone run=idle')" /dev/null smp again.cfg line.txt --ticks 0 --turns 1 --seed 0
 }

@@ -15,8 +15,8 @@ paths() {
     from=$machine unread calls - -
     from=$late/trace.txt unread check "$machine" -
     from=again.cfg unread smp - again.txt "${numbers[@]}"
-    run 1 /dev/null <(echo "fmpsim: $machine: line 1: E1 bad byte") calls "$machine" "$machine"
-    run 1 /dev/null <(echo "fmpsim: $events: line 1: F3 unsupported API P1") calls "$events" "$events"
-    run 1 /dev/null <(echo "fmpsim: $machine: line 1: E2 bad word") check "$machine" "$machine"
-    run 1 /dev/null <(echo fmpsim: again.cfg: line 1: E1 bad byte) smp again.cfg again.cfg "${numbers[@]}"
+    run 1 /dev/null "$(as_file echo "fmpsim: $machine: line 1: E1 bad byte")" calls "$machine" "$machine"
+    run 1 /dev/null "$(as_file echo "fmpsim: $events: line 1: F3 unsupported API P1")" calls "$events" "$events"
+    run 1 /dev/null "$(as_file echo "fmpsim: $machine: line 1: E2 bad word")" check "$machine" "$machine"
+    run 1 /dev/null "$(as_file echo fmpsim: again.cfg: line 1: E1 bad byte)" smp again.cfg again.cfg "${numbers[@]}"
 }

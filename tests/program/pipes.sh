@@ -8,7 +8,7 @@ pipes() {
     one_by_one events.txt trace.txt "$program" calls "$late/machine.cfg" - && at_once=yes
     count "$at_once" calls "$late/machine.cfg" - '# one event after the other'
     printf 'P1 tick\nP1 jump()\n' > events.txt
-    from=events.txt run 1 <(echo 1 P1 T1 tick taken) <(echo fmpsim: -: line 2: E2 bad word) calls "$late/machine.cfg" -
+    from=events.txt run 1 "$(as_file echo 1 P1 T1 tick taken)" "$(as_file echo fmpsim: -: line 2: E2 bad word)" calls "$late/machine.cfg" -
     yes 'P1 tick' | head -n 1000000 > long.txt
     ("$program" calls "$late/machine.cfg" - < long.txt 2> errors; echo $? > ended) | head -n 1 > output
     ended=no

@@ -88,7 +88,7 @@ ring_wanted() {
 
 # is_quiet N TIMER TICKS: trace.txt is that of a run of such a ring that ended quiet.
 is_quiet() {
-    diff <(ring_wanted "$@") <(ring_told) && is_checked ring.cfg
+    diff "$(as_file ring_wanted "$@")" "$(as_file ring_told)" && is_checked ring.cfg
 }
 
 # trace.txt came to its limit of turns since ticks were held and a lock was asked for again and again: the other lines are few.
@@ -291,7 +291,7 @@ limits() {
     write_limit_scripts > limits.txt
     meet_limits "$1" "$2"
     run 0 limits.told /dev/null calls limits.cfg limits.events
-    run 0 <(echo yes) /dev/null check limits.cfg limits.told
+    run 0 "$(as_file echo yes)" /dev/null check limits.cfg limits.told
     states_at_limits "$1"
     differences_at_limits
     { echo '# At the limits.' && echo '--- machine.cfg' && cat limits.cfg && echo '--- events' && cat limits.events; } > limits.test
@@ -318,8 +318,8 @@ differences_at_limits() {
     wrong=${right/E_TMOUT/E_OK}
     sed "1025s/E_TMOUT/E_OK/" limits.told > wrong.txt
     "$program" calls --state limits.cfg limits.events | sed -n '/^1024 /,/^  end/{/^  /p}' > before
-    run 5 <(echo no 1025; cat before; printf '%s\n' "- $wrong" "+ $right") /dev/null check --show limits.cfg wrong.txt
-    run 5 <(printf '%s\n' '--- trace' '+++ machine' '@@ -1025,1 +1025,1 @@' "-$wrong" "+$right") /dev/null check --all limits.cfg wrong.txt
+    run 5 "$({ echo no 1025; cat before; printf '%s\n' "- $wrong" "+ $right"; } | as_file)" /dev/null check --show limits.cfg wrong.txt
+    run 5 "$(as_file printf '%s\n' '--- trace' '+++ machine' '@@ -1025,1 +1025,1 @@' "-$wrong" "+$right")" /dev/null check --all limits.cfg wrong.txt
 }
 
 # turns_at_limits --turns TURNS WORD..: a run by the scripts comes to this limit, its trace is the machine's, and `calls` answers its

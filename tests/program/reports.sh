@@ -15,17 +15,17 @@ reports() {
         patch -s wrong.txt output && diff wrong.txt "$late/trace.txt" && patch -s wrong.txt /dev/null && patched=yes
         count "$patched" check --all "$late/machine.cfg" wrong.txt '|' patch wrong.txt
     fi
-    run 0 <(echo yes) /dev/null check --show "$late/machine.cfg" "$late/trace.txt"
+    run 0 "$(as_file echo yes)" /dev/null check --show "$late/machine.cfg" "$late/trace.txt"
     run 0 /dev/null /dev/null check "$late/machine.cfg" "$late/trace.txt" --all
     # far behind the first line
     seq 150 | sed 's/$/ P1 T1 tick taken/; 120s/taken/none/' > far.txt
-    run 5 <(printf '%s\n' 'no 120' '  P1 run=T1' '  P2 run=-' '  end' '- 120 P1 T1 tick none' '+ 120 P1 T1 tick taken') /dev/null check --show "$late/machine.cfg" far.txt
-    run 5 <(printf '%s\n' '--- trace' '+++ machine' '@@ -120,1 +120,1 @@' '-120 P1 T1 tick none' '+120 P1 T1 tick taken') /dev/null \
+    run 5 "$(as_file printf '%s\n' 'no 120' '  P1 run=T1' '  P2 run=-' '  end' '- 120 P1 T1 tick none' '+ 120 P1 T1 tick taken')" /dev/null check --show "$late/machine.cfg" far.txt
+    run 5 "$(as_file printf '%s\n' '--- trace' '+++ machine' '@@ -120,1 +120,1 @@' '-120 P1 T1 tick none' '+120 P1 T1 tick taken')" /dev/null \
         check --all "$late/machine.cfg" far.txt
     # a fault behind a line that differs
     (sed '1s/ ipi=2//' "$late/trace.txt" && printf '11 P1 T1 tick taken') > cut.txt
-    run 1 /dev/null <(echo fmpsim: cut.txt: line 11: E6 cut short) check --all "$late/machine.cfg" cut.txt
-    run 1 /dev/null <(echo fmpsim: cut.txt: line 11: E6 cut short) check --show "$late/machine.cfg" cut.txt
+    run 1 /dev/null "$(as_file echo fmpsim: cut.txt: line 11: E6 cut short)" check --all "$late/machine.cfg" cut.txt
+    run 1 /dev/null "$(as_file echo fmpsim: cut.txt: line 11: E6 cut short)" check --show "$late/machine.cfg" cut.txt
     unread check --all "$late/machine.cfg" missing
     unwritten check --show "$late/machine.cfg" "$late/trace.txt"
     for wrong in "$top"/examples/*/trace.txt; do

@@ -6,7 +6,7 @@ scripts() {
     printf '%s\n' 'P1 SENDER ext_tsk() gone run=idle' 'P1 SENDER get_tid() E_OK:1' 'P1 tick taken' \
         'P2 RECEIVER ext_tsk() gone run=idle' 'P2 RECEIVER get_tid() E_OK:2' 'P2 tick taken' > lines.txt
     play smp "$spin/machine.cfg" user.txt "${numbers[@]}"
-    [ $? = 0 ] && [ ! -s errors ] && diff lines.txt <(sed -E 's/^[0-9]+ //; s/ [^ ]+ tick / tick /' output | LC_ALL=C sort) && well=yes
+    [ $? = 0 ] && [ ! -s errors ] && diff lines.txt "$(sed -E 's/^[0-9]+ //; s/ [^ ]+ tick / tick /' output | LC_ALL=C sort | as_file)" && well=yes
     count "$well" smp "$spin/machine.cfg" user.txt "${numbers[@]}"
     # one that spins may do so for all turns, so this run may end full; only one without a lock has to end quiet
     play smp "$spin/machine.cfg" "$spin/scripts.txt" "${numbers[@]}"
@@ -18,22 +18,22 @@ scripts() {
     [ ! -s errors ] || well=no
     count "$well" smp "$spin/machine.cfg" "$spin/scripts.txt" "${numbers[@]}"
     cp output trace.txt
-    run 0 <(echo yes) /dev/null check "$spin/machine.cfg" trace.txt
+    run 0 "$(as_file echo yes)" /dev/null check "$spin/machine.cfg" trace.txt
     from=$spin/scripts.txt run 0 "$spin/trace.txt" /dev/null smp "$spin/machine.cfg" - "${numbers[@]}" --seed 11
     # the first four lines of the trace, and no room for more
-    from=$spin/scripts.txt run 6 <(head -n 4 "$spin/trace.txt") /dev/null smp "$spin/machine.cfg" - --ticks 1 --turns 4 --seed 11
+    from=$spin/scripts.txt run 6 "$(as_file head -n 4 "$spin/trace.txt")" /dev/null smp "$spin/machine.cfg" - --ticks 1 --turns 4 --seed 11
     write_again
-    run 6 <(printf '1 P1 T act_tsk(TSK_SELF) E_OK\n2 P1 T ext_tsk() gone\n3 P1 T act_tsk(TSK_SELF) E_OK\n') /dev/null \
+    run 6 "$(as_file printf '1 P1 T act_tsk(TSK_SELF) E_OK\n2 P1 T ext_tsk() gone\n3 P1 T act_tsk(TSK_SELF) E_OK\n')" /dev/null \
         smp again.cfg again.txt --ticks 0 --turns 3
     printf 'script main\nslp_tsk()\ntick\nend\n' > tick.txt
     printf 'script main\nslp_tsk()\n' > open.txt
-    run 1 /dev/null <(echo fmpsim: tick.txt: line 3: E2 bad word) smp again.cfg tick.txt --ticks 0 --turns 1
-    run 1 /dev/null <(echo fmpsim: open.txt: line 1: E6 cut short) smp again.cfg open.txt --ticks 0 --turns 1 --seed 1
-    run 1 /dev/null <(echo fmpsim: tick.txt: line 1: F3 unsupported API script) smp tick.txt again.txt --ticks 0 --turns 1
+    run 1 /dev/null "$(as_file echo fmpsim: tick.txt: line 3: E2 bad word)" smp again.cfg tick.txt --ticks 0 --turns 1
+    run 1 /dev/null "$(as_file echo fmpsim: open.txt: line 1: E6 cut short)" smp again.cfg open.txt --ticks 0 --turns 1 --seed 1
+    run 1 /dev/null "$(as_file echo fmpsim: tick.txt: line 1: F3 unsupported API script)" smp tick.txt again.txt --ticks 0 --turns 1
     unread smp again.cfg missing --ticks 0 --turns 1
     unwritten smp again.cfg again.txt --ticks 0 --turns 1 --seed 0
     # a million records of over a kilobyte each
-    memory=100000 run 4 /dev/null <(echo fmpsim: want of memory) smp again.cfg again.txt --ticks 0 --turns 1000000 --seed 0
+    memory=100000 run 4 /dev/null "$(as_file echo fmpsim: want of memory)" smp again.cfg again.txt --ticks 0 --turns 1000000 --seed 0
     waiting
 }
 
@@ -52,17 +52,17 @@ waiting() {
     for seed in '' '--seed 0' '--seed 18446744073709551615'; do
         # shellcheck disable=SC2086
         {
-            run 0 <(printf '%s\n' "${trace[@]}") waits.txt "${words[@]}" --turns 10 $seed
-            run 7 <(printf '%s\n' "${trace[@]}") waits.txt "${words[@]}" --turns 10 --strict $seed
+            run 0 "$(as_file printf '%s\n' "${trace[@]}")" waits.txt "${words[@]}" --turns 10 $seed
+            run 7 "$(as_file printf '%s\n' "${trace[@]}")" waits.txt "${words[@]}" --turns 10 --strict $seed
             # full and quiet at once is quiet
-            run 7 <(printf '%s\n' "${trace[@]}") waits.txt "${words[@]}" --turns 4 --strict $seed
+            run 7 "$(as_file printf '%s\n' "${trace[@]}")" waits.txt "${words[@]}" --turns 4 --strict $seed
             # at its limit of turns it has the status of that
-            run 6 <(printf '%s\n' "${trace[@]:0:3}") waits.txt "${words[@]}" --turns 3 --strict $seed
-            run 6 <(echo "${trace[0]}") <(head -n 1 waits.txt) "${words[@]}" --turns 1 $seed
+            run 6 "$(as_file printf '%s\n' "${trace[@]:0:3}")" waits.txt "${words[@]}" --turns 3 --strict $seed
+            run 6 "$(as_file echo "${trace[0]}")" "$(as_file head -n 1 waits.txt)" "${words[@]}" --turns 1 $seed
         }
     done
     # nobody waits where all came to the ends of their scripts
-    run 0 <(printf '%s\n' '1 P1 T3 get_tid() E_OK:1' '2 P1 T3 ext_tsk() gone run=idle') /dev/null smp one.cfg one.txt --ticks 0 --turns 9 --strict
+    run 0 "$(as_file printf '%s\n' '1 P1 T3 get_tid() E_OK:1' '2 P1 T3 ext_tsk() gone run=idle')" /dev/null smp one.cfg one.txt --ticks 0 --turns 9 --strict
     # what cannot be written is told alone
-    to=/dev/full run 3 /dev/null <(echo fmpsim: write failed) "${words[@]}" --turns 10 --strict
+    to=/dev/full run 3 /dev/null "$(as_file echo fmpsim: write failed)" "${words[@]}" --turns 10 --strict
 }

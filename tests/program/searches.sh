@@ -23,7 +23,7 @@ searches() {
     leaves_traces
     tells_how_far
     # no room for a table of a hundred million places
-    memory=400000 run 4 /dev/null <(echo fmpsim: want of memory) \
+    memory=400000 run 4 /dev/null "$(as_file echo fmpsim: want of memory)" \
         explore "$folder/machine.cfg" "$folder/scripts.txt" --ticks 0 --turns 100 --find E_PAR --places 100000000
 }
 
@@ -34,8 +34,8 @@ asks() {
         eval "options=($options)"
         words=(explore "$1/machine.cfg" "$1/scripts.txt" "${options[@]}")
         case $right in
-            never) run 0 <(echo never) /dev/null "${words[@]}" ;;
-            not\ within\ *) run 6 <(echo "$right") /dev/null "${words[@]}" ;;
+            never) run 0 "$(as_file echo never)" /dev/null "${words[@]}" ;;
+            not\ within\ *) run 6 "$(as_file echo "$right")" /dev/null "${words[@]}" ;;
             *.txt) run 5 "$1/$right" /dev/null "${words[@]}" && judged "$1/machine.cfg" ;;
             *\ lines)
                 well=no
@@ -51,7 +51,7 @@ asks() {
 # judged CFG: the checker says yes to what was written last.
 judged() {
     cp output trace.txt
-    run 0 <(echo yes) /dev/null check "$1" trace.txt
+    run 0 "$(as_file echo yes)" /dev/null check "$1" trace.txt
 }
 
 # has_places FOLDER N WORD..: an example has so many places under these options: there is room for all of them, and with one place less
@@ -62,7 +62,7 @@ has_places() {
         left_out 'it takes minutes there' explore "$1" "${@:3}" --places "$2"
         return
     fi
-    run 0 <(echo never) /dev/null explore "$cfg" "$scripts" "${@:3}" "${question[@]}" --places "$2"
+    run 0 "$(as_file echo never)" /dev/null explore "$cfg" "$scripts" "${@:3}" "${question[@]}" --places "$2"
     play explore "$cfg" "$scripts" "${@:3}" "${question[@]}" --places $(($2 - 1))
     [ $? = 6 ] && [ ! -s errors ] && grep -qxE 'not within [0-9]+' output && well=yes
     count "$well" explore "$cfg" "$scripts" "${@:3}" "${question[@]}" --places $(($2 - 1))
@@ -78,35 +78,35 @@ begins_behind() {
     done
     # it sleeps before the first wakeup, which ends the sleep: none is refused, and the second ends the other sleep
     echo '1 P2 WORKER slp_tsk() wait run=idle' > begun.txt
-    run 0 <(echo never) /dev/null "${words[@]}" --ticks 0 --from begun.txt
+    run 0 "$(as_file echo never)" /dev/null "${words[@]}" --ticks 0 --from begun.txt
     # a tick in the trace is one that was taken
     echo '1 P1 PRODUCER tick taken' > begun.txt
     awk '{ $1 = NR + 1; print }' "$folder/trace.txt" | cat begun.txt - > later.txt
     run 5 later.txt /dev/null "${words[@]}" --ticks 1 --from begun.txt
     strays 1 --ticks 0 < begun.txt
-    strays 2 --ticks 1 < <(cat begun.txt && echo '2 P1 PRODUCER tick taken')
+    strays 2 --ticks 1 < "$({ cat begun.txt && echo '2 P1 PRODUCER tick taken'; } | as_file)"
     # another answer, half a line, a carriage return, a number that is not the line's, a blank line, and one that tells nothing
-    strays 2 --ticks 0 < <(sed '2s/E_OK/E_QOVR/' "$folder/trace.txt")
-    strays 8 --ticks 0 < <(head -c -1 "$folder/trace.txt")
-    strays 3 --ticks 0 < <(sed $'3s/$/\r/' "$folder/trace.txt")
-    strays 1 --ticks 0 < <(tail -n +2 "$folder/trace.txt")
-    strays 4 --ticks 0 < <(sed 3G "$folder/trace.txt")
-    strays 9 --ticks 0 < <(cat "$folder/trace.txt" && echo end)
+    strays 2 --ticks 0 < "$(as_file sed '2s/E_OK/E_QOVR/' "$folder/trace.txt")"
+    strays 8 --ticks 0 < "$(as_file head -c -1 "$folder/trace.txt")"
+    strays 3 --ticks 0 < "$(as_file sed $'3s/$/\r/' "$folder/trace.txt")"
+    strays 1 --ticks 0 < "$(as_file tail -n +2 "$folder/trace.txt")"
+    strays 4 --ticks 0 < "$(as_file sed 3G "$folder/trace.txt")"
+    strays 9 --ticks 0 < "$({ cat "$folder/trace.txt" && echo end; } | as_file)"
     # what the machine answers to calls that the scripts do not make there, and to an interrupt that was not asked for
-    strays 1 --ticks 0 < <(echo '1 P1 PRODUCER wup_tsk(WORKER) E_OK')
-    strays 1 --ticks 0 < <(echo '1 P2 WORKER ipi none')
-    run 1 /dev/null <(echo 'stray.txt:1: error: no order of these scripts has it here') "${words[@]}" --ticks 0 --from stray.txt --diagnostics=gcc
+    strays 1 --ticks 0 < "$(as_file echo '1 P1 PRODUCER wup_tsk(WORKER) E_OK')"
+    strays 1 --ticks 0 < "$(as_file echo '1 P2 WORKER ipi none')"
+    run 1 /dev/null "$(as_file echo 'stray.txt:1: error: no order of these scripts has it here')" "${words[@]}" --ticks 0 --from stray.txt --diagnostics=gcc
     unread "${words[@]}" --ticks 0 --from missing
     folder=$top/examples/explore-lock-order
     words=(explore "$folder/machine.cfg" "$folder/scripts.txt" --ticks 0)
     head -n 3 "$folder/trace.txt" > begun.txt
-    run 6 <(echo not within 3) /dev/null "${words[@]}" --turns 3 --find 'end & waits sem' --from begun.txt
+    run 6 "$(as_file echo not within 3)" /dev/null "${words[@]}" --turns 3 --find 'end & waits sem' --from begun.txt
     run 5 "$folder/trace.txt" /dev/null "${words[@]}" --turns 4 --find 'end & waits sem' --from begun.txt
     # it has both, and gives both back
     printf '1 P1 READER wai_sem(FLASH) E_OK\n2 P1 READER wai_sem(BUFFER) E_OK\n' > begun.txt
-    run 0 <(echo never) /dev/null "${words[@]}" --turns 100 --find 'end & waits sem' --from begun.txt
+    run 0 "$(as_file echo never)" /dev/null "${words[@]}" --turns 100 --find 'end & waits sem' --from begun.txt
     # what must not come before came at the first line: that is no fault of the trace
-    run 0 <(echo never) /dev/null "${words[@]}" --turns 100 --find 'wai_sem(BUFFER) E_OK without wai_sem(FLASH) E_OK' --from begun.txt
+    run 0 "$(as_file echo never)" /dev/null "${words[@]}" --turns 100 --find 'wai_sem(BUFFER) E_OK without wai_sem(FLASH) E_OK' --from begun.txt
 }
 
 # leaves_traces: a search that came to its last line leaves the trace of each place that was found there, and what is answered from each of
@@ -115,32 +115,32 @@ leaves_traces() {
     local folder=$top/examples/explore-lock-order words file
     words=(explore "$folder/machine.cfg" "$folder/scripts.txt" --ticks 0 --find)
     rm -rf layer
-    run 6 <(echo not within 2) /dev/null "${words[@]}" 'end & waits sem' --turns 2 --layer layer
+    run 6 "$(as_file echo not within 2)" /dev/null "${words[@]}" 'end & waits sem' --turns 2 --layer layer
     # each task has both semaphores, or each has one
     left_traces layer 3 '1 P1 READER wai_sem(FLASH) E_OK' '2 P1 READER wai_sem(BUFFER) E_OK'
     left_traces layer 3 '1 P1 READER wai_sem(FLASH) E_OK' '2 P2 WRITER wai_sem(BUFFER) E_OK'
     left_traces layer 3 '1 P2 WRITER wai_sem(BUFFER) E_OK' '2 P2 WRITER wai_sem(FLASH) E_OK'
     for file in layer/*.trace; do
-        run 0 <(echo yes) /dev/null check "$folder/machine.cfg" "$file"
-        run 0 <(echo never) /dev/null "${words[@]}" E_PAR --turns 100 --from "$file"
+        run 0 "$(as_file echo yes)" /dev/null check "$folder/machine.cfg" "$file"
+        run 0 "$(as_file echo never)" /dev/null "${words[@]}" E_PAR --turns 100 --from "$file"
         if grep -q READER "$file" && grep -q WRITER "$file"; then
             run 5 "$folder/trace.txt" /dev/null "${words[@]}" 'end & waits sem' --turns 100 --from "$file"
         else
-            run 0 <(echo never) /dev/null "${words[@]}" 'end & waits sem' --turns 100 --from "$file"
+            run 0 "$(as_file echo never)" /dev/null "${words[@]}" 'end & waits sem' --turns 100 --from "$file"
         fi
     done
     # a file that is there is not written over, and the answer stands before that
-    run 3 <(echo not within 1) <(printf 'fmpsim: write failed\n  layer/1.trace: File exists (os error 17)\n') \
+    run 3 "$(as_file echo not within 1)" "$(as_file printf 'fmpsim: write failed\n  layer/1.trace: File exists (os error 17)\n')" \
         "${words[@]}" E_PAR --turns 1 --layer layer
     left_traces layer 3 '1 P1 READER wai_sem(FLASH) E_OK' '2 P1 READER wai_sem(BUFFER) E_OK'
     # the folders before it are made, and where nothing is to be gone on from it stays empty
-    run 0 <(echo never) /dev/null "${words[@]}" E_PAR --turns 100 --layer new/layer
+    run 0 "$(as_file echo never)" /dev/null "${words[@]}" E_PAR --turns 100 --layer new/layer
     run 5 "$folder/trace.txt" /dev/null "${words[@]}" 'end & waits sem' --turns 4 --layer new/layer
-    run 6 <(echo not within 1) /dev/null "${words[@]}" E_PAR --turns 100 --places 3 --layer new/layer
+    run 6 "$(as_file echo not within 1)" /dev/null "${words[@]}" E_PAR --turns 100 --places 3 --layer new/layer
     [ -d new/layer ] && [ -z "$(ls -A new/layer)" ]
     count "$([ $? = 0 ] && echo yes || echo no)" '# nothing is left in a new folder'
     : > file
-    run 3 /dev/null <(printf 'fmpsim: write failed\n  file/layer: Not a directory (os error 20)\n') "${words[@]}" E_PAR --turns 1 --layer file/layer
+    run 3 /dev/null "$(as_file printf 'fmpsim: write failed\n  file/layer: Not a directory (os error 20)\n')" "${words[@]}" E_PAR --turns 1 --layer file/layer
     refused "${words[@]}" E_PAR --turns 1 --layer new/layer --from /dev/null
 }
 
@@ -157,7 +157,7 @@ left_traces() {
 # strays LINE WORD..: the trace on standard input has this line, and no order of the scripts has it there.
 strays() {
     cat > stray.txt
-    run 1 /dev/null <(echo "fmpsim: stray.txt: line $1: no order of these scripts has it here") "${words[@]}" "${@:2}" --from stray.txt
+    run 1 /dev/null "$(as_file echo "fmpsim: stray.txt: line $1: no order of these scripts has it here")" "${words[@]}" "${@:2}" --from stray.txt
 }
 
 # tells_how_far: at a terminal a search of more than a second tells how far it has come, and takes that away before its answer. A signal ends

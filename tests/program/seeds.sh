@@ -81,9 +81,9 @@ END
     count "$well" "${words[@]}" 25 --seed '# the first seed, by trying each'
     # the seeds are wrong, or stand beside one
     for wrong in '5..4' 5 5.6 ..5 5.. 5..x 5..6..7 5..18446744073709551616 ''; do
-        run 2 /dev/null <(echo 'fmpsim: --seeds: wanted two numbers as in 0..999, the second not below the first, and no --seed') "${words[@]}" 25 --seeds "$wrong"
+        run 2 /dev/null "$(as_file echo 'fmpsim: --seeds: wanted two numbers as in 0..999, the second not below the first, and no --seed')" "${words[@]}" 25 --seeds "$wrong"
     done
-    run 2 /dev/null <(echo 'fmpsim: --seeds: wanted two numbers as in 0..999, the second not below the first, and no --seed') "${words[@]}" 25 --seeds 0..1 --seed 0
+    run 2 /dev/null "$(as_file echo 'fmpsim: --seeds: wanted two numbers as in 0..999, the second not below the first, and no --seed')" "${words[@]}" 25 --seeds 0..1 --seed 0
     unread smp dead.cfg missing --ticks 0 --turns 25 --seeds 0..99
     unwritten "${words[@]}" 25 --seeds 0..99
 }
@@ -104,12 +104,12 @@ seeds_that_show() {
     run 0 /dev/null /dev/null "${words[@]}" 25 --seeds 4..10 --find "$late"
     # the fourth number of seed 11 is even: with a tick more there is one left at the call, and with one less none
     run 0 /dev/null /dev/null smp wait.cfg wait.txt --ticks 4 --turns 25 --seeds 11..11 --find "$late"
-    run 5 wait.trace <(sed 's/seed 3/seed 11/' wait.errors) "${words[@]}" 25 --seeds 11..11 --find "$late"
+    run 5 wait.trace "$(as_file sed 's/seed 3/seed 11/' wait.errors)" "${words[@]}" 25 --seeds 11..11 --find "$late"
     # a run at its limit of turns may show it too
-    run 5 <(head -n 3 wait.trace) <(echo fmpsim: seed 3) "${words[@]}" 3 --seeds 0..99 --find '3 times tick taken without dly_tsk(100)'
+    run 5 "$(as_file head -n 3 wait.trace)" "$(as_file echo fmpsim: seed 3)" "${words[@]}" 3 --seeds 0..99 --find '3 times tick taken without dly_tsk(100)'
     # behind `end` nothing comes, but for ticks for which nothing waits
     run 0 /dev/null /dev/null "${words[@]}" 25 --seeds 0..99 --find 'end then *'
-    run 5 <(head -n 2 ticks.txt) <(echo fmpsim: seed 7) smp idle.cfg none.txt --ticks 2 --turns 3 --seeds 7..9 --find 'end then *'
+    run 5 "$(as_file head -n 2 ticks.txt)" "$(as_file echo fmpsim: seed 7)" smp idle.cfg none.txt --ticks 2 --turns 3 --seeds 7..9 --find 'end then *'
     # the two that wait for each other
     run 5 dead.trace dead.errors smp dead.cfg dead.txt --ticks 0 --turns 25 --seeds 0..99 --find 'end & waits sem'
     run 0 /dev/null /dev/null smp dead.cfg dead.txt --ticks 0 --turns 25 --seeds 22..72 --find 'end & waits sem'
@@ -119,12 +119,12 @@ seeds_that_show() {
         calls=$(grep -oE 'E_OK:[12]$' five.txt | head -n 5 | sort -u)
         [ "$calls" != E_OK:2 ] || break
     done
-    run 5 five.txt <(echo "fmpsim: seed $seed") smp two.cfg two.txt --ticks 10 --turns 80 --seeds 0..99 --find '5 times E_OK:2 without E_OK:1'
+    run 5 five.txt "$(as_file echo "fmpsim: seed $seed")" smp two.cfg two.txt --ticks 10 --turns 80 --seeds 0..99 --find '5 times E_OK:2 without E_OK:1'
     # faults of the question, behind those of the texts, and a question without seeds
-    run 1 /dev/null <(echo 'fmpsim: --find: byte 1: E3 unknown name') "${words[@]}" 25 --seeds 0..99 --find 'act_tsk(NOBODY)'
-    run 1 /dev/null <(echo 'fmpsim: --find: byte 10: E2 bad word') "${words[@]}" 25 --seeds 0..99 --find 'tick then'
-    run 1 /dev/null <(echo 'fmpsim: wait.cfg: line 1: E1 bad byte') smp wait.cfg wait.cfg --ticks 3 --turns 25 --seeds 0..99 --find 'tick then'
-    run 2 /dev/null <(echo 'fmpsim: --find: wanted --seeds too, as in --seeds 0..999') "${words[@]}" 25 --find end
-    run 2 /dev/null <(echo 'fmpsim: --find: wanted --seeds too, as in --seeds 0..999') "${words[@]}" 25 --seed 3 --find end
+    run 1 /dev/null "$(as_file echo 'fmpsim: --find: byte 1: E3 unknown name')" "${words[@]}" 25 --seeds 0..99 --find 'act_tsk(NOBODY)'
+    run 1 /dev/null "$(as_file echo 'fmpsim: --find: byte 10: E2 bad word')" "${words[@]}" 25 --seeds 0..99 --find 'tick then'
+    run 1 /dev/null "$(as_file echo 'fmpsim: wait.cfg: line 1: E1 bad byte')" smp wait.cfg wait.cfg --ticks 3 --turns 25 --seeds 0..99 --find 'tick then'
+    run 2 /dev/null "$(as_file echo 'fmpsim: --find: wanted --seeds too, as in --seeds 0..999')" "${words[@]}" 25 --find end
+    run 2 /dev/null "$(as_file echo 'fmpsim: --find: wanted --seeds too, as in --seeds 0..999')" "${words[@]}" 25 --seed 3 --find end
     unwritten "${words[@]}" 25 --seeds 0..99 --find "$late"
 }

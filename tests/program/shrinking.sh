@@ -19,23 +19,23 @@ shrinking() {
     from=loose.txt run 0 "$folder/left.txt" /dev/null shrink "$cfg" - --find "$late"
     # steps that have to come one behind the other, and one that must not come between
     printf 'P1 sig_sem(GATE)\nP1 get_tid()\nP1 pol_sem(GATE)\nP1 sig_sem(GATE)\nP1 pol_sem(GATE)\n' > steps.txt
-    run 0 <(printf 'P1 sig_sem(GATE)\nP1 pol_sem(GATE)\nP1 sig_sem(GATE)\nP1 pol_sem(GATE)\n') /dev/null \
+    run 0 "$(as_file printf 'P1 sig_sem(GATE)\nP1 pol_sem(GATE)\nP1 sig_sem(GATE)\nP1 pol_sem(GATE)\n')" /dev/null \
         shrink "$cfg" steps.txt --find '2 times pol_sem(GATE) E_OK'
     # the semaphore is empty after the last of them alone
-    run 0 <(printf 'P1 pol_sem(GATE)\n') /dev/null shrink "$cfg" <(cat steps.txt && echo 'P1 pol_sem(GATE)') --find 'pol_sem(GATE) E_TMOUT'
-    run 0 <(printf 'P1 sig_sem(GATE)\nP1 pol_sem(GATE)\n') /dev/null shrink "$cfg" steps.txt --find 'pol_sem(GATE) E_OK without get_tid'
+    run 0 "$(as_file printf 'P1 pol_sem(GATE)\n')" /dev/null shrink "$cfg" "$({ cat steps.txt && echo 'P1 pol_sem(GATE)'; } | as_file)" --find 'pol_sem(GATE) E_TMOUT'
+    run 0 "$(as_file printf 'P1 sig_sem(GATE)\nP1 pol_sem(GATE)\n')" /dev/null shrink "$cfg" steps.txt --find 'pol_sem(GATE) E_OK without get_tid'
     # the state behind an event is looked at too
-    run 0 <(printf 'P1 act_tsk(WORKER)\n') /dev/null shrink "$cfg" "$folder/events.txt" --find 'ready=WORKER latch'
+    run 0 "$(as_file printf 'P1 act_tsk(WORKER)\n')" /dev/null shrink "$cfg" "$folder/events.txt" --find 'ready=WORKER latch'
     for silent in 'rel=WORKER:E_RLWAI' 'end' 'act_tsk(WORKER) then act_tsk(WORKER)' 'tslp_tsk(2) * then act_tsk(WORKER) *'; do
-        run 5 /dev/null <(echo "fmpsim: $folder/events.txt: the answers to these events do not show it") \
+        run 5 /dev/null "$(as_file echo "fmpsim: $folder/events.txt: the answers to these events do not show it")" \
             shrink "$cfg" "$folder/events.txt" --find "$silent"
     done
-    run 5 /dev/null <(echo 'fmpsim: -: the answers to these events do not show it') shrink "$cfg" - --find tick
-    run 1 /dev/null <(printf 'fmpsim: --find: byte 1: E3 unknown name\n') shrink "$cfg" many.txt --find 'act_tsk(NOBODY)'
-    run 1 /dev/null <(printf 'fmpsim: --find: byte 10: E2 bad word\n') shrink "$cfg" many.txt --find 'tick then'
+    run 5 /dev/null "$(as_file echo 'fmpsim: -: the answers to these events do not show it')" shrink "$cfg" - --find tick
+    run 1 /dev/null "$(as_file printf 'fmpsim: --find: byte 1: E3 unknown name\n')" shrink "$cfg" many.txt --find 'act_tsk(NOBODY)'
+    run 1 /dev/null "$(as_file printf 'fmpsim: --find: byte 10: E2 bad word\n')" shrink "$cfg" many.txt --find 'tick then'
     printf 'P1 get_tid()\nP3 tick\n' > wrong.txt
-    run 1 /dev/null <(echo 'fmpsim: wrong.txt: line 2: E5 number out of range') shrink "$cfg" wrong.txt --find end
-    run 1 /dev/null <(printf 'fmpsim: %s: line 1: F3 unsupported API P1\n' "$folder/left.txt") shrink "$folder/left.txt" wrong.txt --find end
+    run 1 /dev/null "$(as_file echo 'fmpsim: wrong.txt: line 2: E5 number out of range')" shrink "$cfg" wrong.txt --find end
+    run 1 /dev/null "$(as_file printf 'fmpsim: %s: line 1: F3 unsupported API P1\n' "$folder/left.txt")" shrink "$folder/left.txt" wrong.txt --find end
     unread shrink missing "$folder/events.txt" --find end
     unread shrink "$cfg" missing --find end
     unwritten shrink "$cfg" "$folder/events.txt" --find "$late"
@@ -66,7 +66,7 @@ none_can_go() {
     local line
     for ((line = 1; line <= $(wc -l < "$2"); line++)); do
         sed "${line}d" "$2" > fewer.txt
-        run 5 /dev/null <(echo 'fmpsim: fewer.txt: the answers to these events do not show it') shrink "$1" fewer.txt --find "$3"
+        run 5 /dev/null "$(as_file echo 'fmpsim: fewer.txt: the answers to these events do not show it')" shrink "$1" fewer.txt --find "$3"
     done
     play calls "$1" "$2"
     local well=no

@@ -16,7 +16,7 @@ states() {
     done
     count "$same" calls --state
     printf 'P1 tick\nP3 tick\n' > events.txt
-    run 1 <(printf '  P1 run=T1\n  P2 run=-\n  end\n1 P1 T1 tick taken\n  P1 run=T1\n  P2 run=-\n  end\n') <(echo fmpsim: events.txt: line 2: E5 number out of range) \
+    run 1 "$(as_file printf '  P1 run=T1\n  P2 run=-\n  end\n1 P1 T1 tick taken\n  P1 run=T1\n  P2 run=-\n  end\n')" "$(as_file echo fmpsim: events.txt: line 2: E5 number out of range)" \
         calls --state "$late/machine.cfg" events.txt
     unread calls --state missing events.txt
     unwritten calls --state "$late/machine.cfg" "$late/events.txt"
@@ -30,5 +30,5 @@ states() {
     } > many.cfg
     echo 'P1 get_tid()' > events.txt
     { seq -s ,T 2 64 | sed 's/^/  P1 run=T1 ready=T/' && echo '  end'; } > state.txt
-    run 0 <(cat state.txt && echo '1 P1 T1 get_tid() E_OK:1' && cat state.txt) /dev/null calls --state many.cfg events.txt
+    run 0 "$({ cat state.txt && echo '1 P1 T1 get_tid() E_OK:1' && cat state.txt; } | as_file)" /dev/null calls --state many.cfg events.txt
 }

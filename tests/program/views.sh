@@ -18,12 +18,12 @@ views() {
     every_value
     tags_in_fields
     sed '3s/taken/none/' "$late/trace.txt" > changed.txt
-    run 5 /dev/null <(echo fmpsim: changed.txt: no 3: see fmpsim check --show) view "$late/machine.cfg" changed.txt
+    run 5 /dev/null "$(as_file echo fmpsim: changed.txt: no 3: see fmpsim check --show)" view "$late/machine.cfg" changed.txt
     printf '1 P1 T1 tick taken' > cut.txt
-    run 1 /dev/null <(echo fmpsim: cut.txt: line 1: E6 cut short) view "$late/machine.cfg" cut.txt
-    run 1 /dev/null <(printf '%s\n' 'fmpsim: cut.txt: line 1: E6 cut short' '  1 P1 T1 tick taken' '                    ^' \
-        '  End the last line with a line feed, and the last script with `end`.') view --context "$late/machine.cfg" cut.txt
-    run 1 /dev/null <(echo fmpsim: cut.txt: line 1: F1 syntax) view cut.txt "$late/trace.txt"
+    run 1 /dev/null "$(as_file echo fmpsim: cut.txt: line 1: E6 cut short)" view "$late/machine.cfg" cut.txt
+    run 1 /dev/null "$(as_file printf '%s\n' 'fmpsim: cut.txt: line 1: E6 cut short' '  1 P1 T1 tick taken' '                    ^' \
+        '  End the last line with a line feed, and the last script with `end`.')" view --context "$late/machine.cfg" cut.txt
+    run 1 /dev/null "$(as_file echo fmpsim: cut.txt: line 1: F1 syntax)" view cut.txt "$late/trace.txt"
     unread view missing "$late/trace.txt"
     unread view "$late/machine.cfg" missing
     unwritten view "$late/machine.cfg" "$late/trace.txt"
@@ -93,7 +93,7 @@ half_a_page() {
     mv output whole
     (trap '' XFSZ && ulimit -f 32 && exec "$program" view "$late/machine.cfg" "$late/trace.txt") > half 2> errors
     [ $? = 3 ] && [ "$(wc -c < half)" = 32768 ] && head -c 32768 whole | cmp - half || well=no
-    diff errors <(echo fmpsim: write failed) || well=no
+    diff errors "$(as_file echo fmpsim: write failed)" || well=no
     count "$well" view '# half a page'
 }
 
@@ -124,11 +124,11 @@ differences() {
     done
     # a text that cannot be read has its fault, also where an earlier line differs, and no page
     { sed '2s/CONSUMER/PRODUCER/' "$folder/trace.txt" && printf '16 P2 CONSUMER tick taken'; } > cut.txt
-    run 1 /dev/null <(echo fmpsim: cut.txt: line 16: E6 cut short) view --differences "$folder/machine.cfg" cut.txt
-    run 1 /dev/null <(echo fmpsim: "$folder/machine.cfg": line 1: E2 bad word) view --differences "$folder/machine.cfg" "$folder/machine.cfg"
-    run 1 /dev/null <(printf '%s\n' 'fmpsim: cut.txt: line 16: E6 cut short' '  16 P2 CONSUMER tick taken' '                           ^' \
-        '  End the last line with a line feed, and the last script with `end`.') view --context --differences "$folder/machine.cfg" cut.txt
-    run 1 /dev/null <(echo fmpsim: cut.txt: line 1: F1 syntax) view --differences cut.txt "$folder/trace.txt"
+    run 1 /dev/null "$(as_file echo fmpsim: cut.txt: line 16: E6 cut short)" view --differences "$folder/machine.cfg" cut.txt
+    run 1 /dev/null "$(as_file echo fmpsim: "$folder/machine.cfg": line 1: E2 bad word)" view --differences "$folder/machine.cfg" "$folder/machine.cfg"
+    run 1 /dev/null "$(as_file printf '%s\n' 'fmpsim: cut.txt: line 16: E6 cut short' '  16 P2 CONSUMER tick taken' '                           ^' \
+        '  End the last line with a line feed, and the last script with `end`.')" view --context --differences "$folder/machine.cfg" cut.txt
+    run 1 /dev/null "$(as_file echo fmpsim: cut.txt: line 1: F1 syntax)" view --differences cut.txt "$folder/trace.txt"
     unread view --differences missing "$folder/trace.txt"
     unread view --differences "$folder/machine.cfg" -
     unwritten view --differences "$folder/machine.cfg" changed.txt
@@ -147,7 +147,7 @@ shown_instead() {
         part_of own.html $part | cmp - told || return
     done
     awk 'NR == FNR { own[FNR] = $0; next } own[FNR] != $0 { print FNR " " $0 }' "$2" "$3" > wanted
-    [ -s wanted ] && part_of output given | diff wanted - && cmp <(frame_of output) <(frame_of own.html)
+    [ -s wanted ] && part_of output given | diff wanted - && cmp "$(as_file frame_of output)" "$(as_file frame_of own.html)"
 }
 
 # The room on the disk is over behind half of such a page.
@@ -157,7 +157,7 @@ half_of_differences() {
     mv output whole
     (trap '' XFSZ && ulimit -f 32 && exec "$program" view --differences "$folder/machine.cfg" changed.txt) > half 2> errors
     [ $? = 3 ] && [ "$(wc -c < half)" = 32768 ] && head -c 32768 whole | cmp - half || well=no
-    diff errors <(echo fmpsim: write failed) || well=no
+    diff errors "$(as_file echo fmpsim: write failed)" || well=no
     count "$well" view --differences '# half a page'
 }
 
