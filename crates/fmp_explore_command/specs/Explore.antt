@@ -1,50 +1,19 @@
 -- The command line of a search through all orders, and what it gives.
-use Rattle.std.specs.Prelude.{◌≡◌, ◌≤◌, ℕ, true, List, [], Option, Some, None, codes, option_map, unwrap_or}
+use Rattle.std.specs.Prelude.{◌≡◌, ◌≤◌, ℕ, List, [], ◌∷◌, Option, Some, None, codes, option_map}
 use Rattle.std.specs.Option.{SomeIff}
 use Rattle.std.specs.Str.Parse.{IsNumeral, without_leading_plus}
-use Rattle.clap.specs.Words.{App, Row, Rule, Text, first_of, matches_of, new_app, new_rule, one_of, with_rule}
-use Rattle.clap.specs.declared.builder.action.ArgAction.TheVariants.{Set, SetTrue}
+use Rattle.clap.specs.Words.{App, Row, Text, first_of, matches_of, one_of}
+use Rattle.fmp_smp_command.specs.Found.{IsFlag, text_of}
 use Rattle.fmp_smp_command.specs.Numbers.{number_of}
-use Rattle.fmp_smp_command.specs.Smp.{IsFlag, path_rule}
+use Rattle.fmp_smp_command.specs.Parts.{flag_rule, line_of, path_rule, value_rule, wanted_rule}
 use Rattle.fmp_explore_command.specs.declared.ExploreRequest.{ExploreRequest}
 
--- what a parse reads of an option with a value that has to be given
-abbrev pub wanted_rule : Text → Rule
-wanted_rule id = record (new_rule id) { long = Some id; value_names = 1; required = true; action = Some Set }
-
--- of one with a value that may be left out
-abbrev pub value_rule : Text → Rule
-value_rule id = record (new_rule id) { long = Some id; value_names = 1; action = Some Set }
-
--- and of a flag
-abbrev pub flag_rule : Text → Rule
-flag_rule id = record (new_rule id) { long = Some id; action = Some SetTrue }
-
--- the command line up to what has to be given
-abbrev pub wanted_line : App
-wanted_line = with_rule
-    (with_rule
-    (with_rule
-    (with_rule
-    (with_rule (new_app (codes "explore")) (path_rule (codes "CFG")))
-    (path_rule (codes "SCRIPTS")))
-    (wanted_rule (codes "ticks")))
-    (wanted_rule (codes "turns")))
-    (wanted_rule (codes "find"))
-
--- the whole of it, as a parse reads it
+-- the whole command line, as a parse reads it
 abbrev pub explore_line : App
-explore_line = with_rule
-    (with_rule
-    (with_rule
-    (with_rule
-    (with_rule
-    (with_rule wanted_line (flag_rule (codes "prompt")))
-    (value_rule (codes "drift")))
-    (value_rule (codes "places")))
-    (value_rule (codes "from")))
-    (value_rule (codes "layer")))
-    (flag_rule (codes "context"))
+explore_line = line_of (codes "explore") (
+    path_rule (codes "CFG") ∷ path_rule (codes "SCRIPTS") ∷ wanted_rule (codes "ticks") ∷ wanted_rule (codes "turns") ∷ wanted_rule (codes "find")
+    ∷ flag_rule (codes "prompt") ∷ value_rule (codes "drift") ∷ value_rule (codes "places") ∷ value_rule (codes "from") ∷ value_rule (codes "layer")
+    ∷ flag_rule (codes "context") ∷ [])
 
 -- what clap finds in the words of that command line, by the ids of the arguments
 unfoldable pub found_in : List Text → List Row
@@ -69,10 +38,6 @@ IsDrift (Some t) n = (k : ℕ) × (n ≡ Some k) × IsNumberWithin 1 1000000 t (
 abbrev pub IsPlaces : Option Text → ℕ → Type 0
 IsPlaces None n = n ≡ 1000000
 IsPlaces (Some t) n = IsNumberWithin 1 100000000 t (Some n)
-
--- the first text of an id, or none
-abbrev pub text_of : Text → List Row → Text
-text_of id rows = unwrap_or (first_of id rows) []
 
 -- the request is what was found: each of its parts is that of one id
 pub record Asks (rows : List Row) (r : ExploreRequest) : Type 0 where

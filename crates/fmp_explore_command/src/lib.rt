@@ -6,9 +6,9 @@
 #![tactic(auto)]
 
 ghost use Rattle.std.specs.Prelude.{◌≡◌, IfOk, IfSome, Some, codes, map};
-ghost use Rattle.clap.specs.Words.{app_of, first_of, rule_of};
-ghost use Rattle.fmp_smp_command.specs.Smp.{IsOptional, rows_in};
-ghost use Rattle.fmp_explore_command.specs.Explore.{Asks, IsNumberWithin, IsPlaces, explore_line, flag_rule, found_in, text_of, value_rule, wanted_line, wanted_rule};
+ghost use Rattle.clap.specs.Words.{app_of, first_of};
+ghost use Rattle.fmp_smp_command.specs.Found.{rows_in, text_of};
+ghost use Rattle.fmp_explore_command.specs.Explore.{Asks, IsNumberWithin, IsPlaces, explore_line, found_in};
 
 mod bounds;
 mod numbers;
@@ -16,8 +16,10 @@ mod numbers;
 use crate::numbers::{drift_in, number_in, places_in, ticks_in};
 pub use bounds::Bounds;
 use clap::error::ErrorKind;
-use clap::{Arg, ArgAction, ArgMatches, Command, Error};
-use fmp_smp_command::path;
+use clap::{ArgMatches, Command, Error};
+use fmp_smp_command::{
+    CONFIG_PART, CONTEXT_PART, Form, Part, SCRIPTS_PART, Title, flag_in, line, option_in, text_in,
+};
 use std::alloc::{AllocError, Global};
 
 const ABOUT: &str = "Goes through every order of what scripts ask, and answers a question";
@@ -71,6 +73,59 @@ const WRONG_NUMBER: &str =
 
 const TWO_BEGINNINGS: &str = "--layer writes traces for --from, and does not go with it";
 
+const TITLE: Title<'static> = Title {
+    name: "explore",
+    bin_name: "fmpsim explore",
+    about: ABOUT,
+    help: HELP,
+};
+
+const PARTS: &[Part<'static>] = &[
+    CONFIG_PART,
+    SCRIPTS_PART,
+    Part {
+        id: "ticks",
+        form: Form::Wanted("N"),
+        about: "How many ticks each processor takes at most, 0 to 1000000, or any",
+    },
+    Part {
+        id: "turns",
+        form: Form::Wanted("N"),
+        about: "How many lines the orders have at most, 1 to 1000000",
+    },
+    Part {
+        id: "find",
+        form: Form::Wanted("QUESTION"),
+        about: "What is looked for in the orders",
+    },
+    Part {
+        id: "prompt",
+        form: Form::Flag,
+        about: "Takes each interrupt before the next call of its processor, as smp does",
+    },
+    Part {
+        id: "drift",
+        form: Form::Value("N"),
+        about: "How many ticks more than another a processor may have taken, 1 to 1000000",
+    },
+    Part {
+        id: "places",
+        form: Form::Value("N"),
+        about: "For how many places there is room, 1 to 100000000, or else for 1000000",
+    },
+    Part {
+        id: "from",
+        form: Form::Value("TRACE"),
+        about: "Begins where this trace ends, and not at boot",
+    },
+    Part {
+        id: "layer",
+        form: Form::Value("DIR"),
+        about: "Writes there the traces from which longer orders go on, one a file",
+    },
+    CONTEXT_PART,
+];
+
 /// What the command line of `fmpsim explore` asks for.
 #[derive(Clone, Copy, Debug)]
 pub struct ExploreRequest<'a> {
@@ -94,135 +149,11 @@ pub struct ExploreRequest<'a> {
     pub context: bool,
 }
 
-/// An option with a value that has to be given.
-pub fn wanted<'a>(alloc: Global, id: &'a str, value: &'a str, about: &'a str) -> Arg<'a>
-    ensures kind { IsOptional result id.entry.now }
-    ensures rule { rule_of result ≡ wanted_rule id.entry.now }
-{
-    Arg::new(alloc, id)
-        .long(id)
-        .value_name(value)
-        .required(true)
-        .action(ArgAction::Set)
-        .help(about)
-}
-
-/// An option with a value that may be left out.
-fn value<'a>(alloc: Global, id: &'a str, value: &'a str, about: &'a str) -> Arg<'a>
-    ensures kind { IsOptional result id.entry.now }
-    ensures rule { rule_of result ≡ value_rule id.entry.now }
-{
-    Arg::new(alloc, id)
-        .long(id)
-        .value_name(value)
-        .action(ArgAction::Set)
-        .help(about)
-}
-
-/// An option without a value.
-pub fn flag<'a>(alloc: Global, id: &'a str, about: &'a str) -> Arg<'a>
-    ensures kind { IsOptional result id.entry.now }
-    ensures rule { rule_of result ≡ flag_rule id.entry.now }
-{
-    Arg::new(alloc, id)
-        .long(id)
-        .action(ArgAction::SetTrue)
-        .help(about)
-}
-
-/// The command with what has to be given.
-fn wanted_command<'a>(alloc: Global) -> Result<Command<'a>, AllocError>
-    ensures { IfOk result (λ c. app_of c ≡ wanted_line) }
-{
-    let config = path(alloc, "CFG", "Path of the configuration");
-    let scripts = path(
-        alloc,
-        "SCRIPTS",
-        "Path of the scripts, or - for standard input",
-    );
-    let ticks = wanted(
-        alloc,
-        "ticks",
-        "N",
-        "How many ticks each processor takes at most, 0 to 1000000, or any",
-    );
-    let turns = wanted(
-        alloc,
-        "turns",
-        "N",
-        "How many lines the orders have at most, 1 to 1000000",
-    );
-    let find = wanted(
-        alloc,
-        "find",
-        "QUESTION",
-        "What is looked for in the orders",
-    );
-    let start = Command::new(alloc, "explore")
-        .about(ABOUT)
-        .after_help(HELP)
-        .bin_name("fmpsim explore")?;
-    let one = start.arg(config)?;
-    let two = one.arg(scripts)?;
-    let three = two.arg(ticks)?;
-    let four = three.arg(turns)?;
-    let five = four.arg(find)?;
-    Ok(five)
-}
-
 /// The command, for its help and for what is wrong in it.
 pub fn explore_command<'a>(alloc: Global) -> Result<Command<'a>, AllocError>
     ensures { IfOk result (λ c. app_of c ≡ explore_line) }
 {
-    let prompt = flag(
-        alloc,
-        "prompt",
-        "Takes each interrupt before the next call of its processor, as smp does",
-    );
-    let drift = value(
-        alloc,
-        "drift",
-        "N",
-        "How many ticks more than another a processor may have taken, 1 to 1000000",
-    );
-    let places = value(
-        alloc,
-        "places",
-        "N",
-        "For how many places there is room, 1 to 100000000, or else for 1000000",
-    );
-    let from = value(
-        alloc,
-        "from",
-        "TRACE",
-        "Begins where this trace ends, and not at boot",
-    );
-    let layer = value(
-        alloc,
-        "layer",
-        "DIR",
-        "Writes there the traces from which longer orders go on, one a file",
-    );
-    let context = flag(
-        alloc,
-        "context",
-        "Shows below a fault its line, its place and what is wanted there",
-    );
-    let start = wanted_command(alloc)?;
-    let one = start.arg(prompt)?;
-    let two = one.arg(drift)?;
-    let three = two.arg(places)?;
-    let four = three.arg(from)?;
-    let five = four.arg(layer)?;
-    let six = five.arg(context)?;
-    Ok(six)
-}
-
-/// The value of an option, or nothing.
-pub fn text_in<'a>(matches: &ArgMatches<'a>, id: &str) -> &'a str
-    ensures { result.now ≡ text_of id.now (rows_in matches.now) }
-{
-    matches.get_str(id).unwrap_or("")
+    line(alloc, TITLE, PARTS)
 }
 
 /// How far the search goes, if the numbers are within their ranges.
@@ -231,7 +162,7 @@ fn bounds_of<'a>(matches: &ArgMatches<'a>) -> Option<Bounds>
     ensures places { IfSome result (λ b. IsPlaces (first_of (codes "places") (rows_in matches.now)) b.places) }
 {
     let turns = number_in(text_in(matches, "turns"), 1, 1_000_000)?;
-    let places = places_in(matches.get_str("places"))?;
+    let places = places_in(option_in(matches, "places"))?;
     Some(Bounds { turns, places })
 }
 
@@ -243,12 +174,12 @@ fn request_of<'a>(matches: &ArgMatches<'a>) -> Option<ExploreRequest<'a>>
     let scripts = text_in(matches, "SCRIPTS");
     let question = text_in(matches, "find");
     let ticks = ticks_in(text_in(matches, "ticks"))?;
-    let prompt = matches.get_flag("prompt");
-    let drift = drift_in(matches.get_str("drift"))?;
+    let prompt = flag_in(matches, "prompt");
+    let drift = drift_in(option_in(matches, "drift"))?;
     let bounds = bounds_of(matches)?;
-    let from = matches.get_str("from");
-    let layer = matches.get_str("layer");
-    let context = matches.get_flag("context");
+    let from = option_in(matches, "from");
+    let layer = option_in(matches, "layer");
+    let context = flag_in(matches, "context");
     Some(ExploreRequest {
         config,
         scripts,
@@ -263,6 +194,22 @@ fn request_of<'a>(matches: &ArgMatches<'a>) -> Option<ExploreRequest<'a>>
     })
 }
 
+/// The request that the matches of a command are, or what is wrong with it.
+fn request_from<'a>(
+    command: &mut Command<'a>,
+    matches: &ArgMatches<'a>,
+) -> Result<ExploreRequest<'a>, Error>
+    ensures { IfOk result (Asks (rows_in matches.now)) }
+{
+    let Some(request) = request_of(matches) else {
+        return Err(command.error(ErrorKind::ValueValidation, WRONG_NUMBER)?);
+    };
+    if request.from.is_some() && request.layer.is_some() {
+        return Err(command.error(ErrorKind::ArgumentConflict, TWO_BEGINNINGS)?);
+    }
+    Ok(request)
+}
+
 /// What the words of the command line ask for, from `explore` on. Each part of the request is what clap finds in these words under one
 /// name. Otherwise the error says what is wrong, or that memory ran out.
 pub fn parse_explore<'a>(alloc: Global, words: &'a [String]) -> Result<ExploreRequest<'a>, Error>
@@ -270,11 +217,5 @@ pub fn parse_explore<'a>(alloc: Global, words: &'a [String]) -> Result<ExploreRe
 {
     let mut command = explore_command(alloc)?;
     let matches = command.try_get_matches_from_mut(words)?;
-    let Some(request) = request_of(&matches) else {
-        return Err(command.error(ErrorKind::ValueValidation, WRONG_NUMBER)?);
-    };
-    if request.from.is_some() && request.layer.is_some() {
-        return Err(command.error(ErrorKind::ArgumentConflict, TWO_BEGINNINGS)?);
-    }
-    Ok(request)
+    request_from(&mut command, &matches)
 }

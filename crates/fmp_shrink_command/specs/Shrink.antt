@@ -1,23 +1,18 @@
 -- The command line of leaving events out, and what it gives.
-use Rattle.std.specs.Prelude.{◌≡◌, List, codes}
-use Rattle.clap.specs.Words.{App, Row, Text, matches_of, new_app, one_of, with_rule}
-use Rattle.fmp_smp_command.specs.Smp.{IsFlag, path_rule}
-use Rattle.fmp_explore_command.specs.Explore.{flag_rule, text_of, wanted_rule}
+use Rattle.std.specs.Prelude.{◌≡◌, List, [], ◌∷◌, codes}
+use Rattle.clap.specs.Words.{App, Row, Text, one_of}
+use Rattle.fmp_smp_command.specs.Found.{IsFlag, found_by, text_of}
+use Rattle.fmp_smp_command.specs.Parts.{flag_rule, line_of, path_rule, wanted_rule}
 use Rattle.fmp_shrink_command.specs.declared.ShrinkRequest.{ShrinkRequest}
 
 -- the command line, as a parse reads it
 abbrev pub shrink_line : App
-shrink_line = with_rule
-    (with_rule
-    (with_rule
-    (with_rule (new_app (codes "shrink")) (path_rule (codes "CFG")))
-    (path_rule (codes "EVENTS")))
-    (wanted_rule (codes "find")))
-    (flag_rule (codes "context"))
+shrink_line = line_of (codes "shrink") (
+    path_rule (codes "CFG") ∷ path_rule (codes "EVENTS") ∷ wanted_rule (codes "find") ∷ flag_rule (codes "context") ∷ [])
 
 -- what clap finds in the words of that command line, by the ids of the arguments
-unfoldable pub found_in : List Text → List Row
-found_in words = matches_of shrink_line words
+abbrev pub found_in : List Text → List Row
+found_in words = found_by shrink_line words
 
 -- the request is what was found: each of its parts is that of one id
 pub record Asks (rows : List Row) (r : ShrinkRequest) : Type 0 where

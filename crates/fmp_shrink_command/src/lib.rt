@@ -6,12 +6,13 @@
 
 ghost use Rattle.std.specs.Prelude.{◌≡◌, IfOk, map};
 ghost use Rattle.clap.specs.Words.{app_of};
-ghost use Rattle.fmp_smp_command.specs.Smp.{rows_in};
+ghost use Rattle.fmp_smp_command.specs.Found.{rows_in};
 ghost use Rattle.fmp_shrink_command.specs.Shrink.{Asks, found_in, shrink_line};
 
 use clap::{ArgMatches, Command, Error};
-use fmp_explore_command::{flag, text_in, wanted};
-use fmp_smp_command::path;
+use fmp_smp_command::{
+    CONFIG_PART, CONTEXT_PART, EVENTS_PART, Form, Part, Title, flag_in, line, matched, text_in,
+};
 use std::alloc::{AllocError, Global};
 
 const ABOUT: &str = "Leaves out the events that are not needed to show something";
@@ -37,6 +38,24 @@ Exit status:
   4  want of memory
   5  no: the answers to the events do not show it, and nothing was written";
 
+const TITLE: Title<'static> = Title {
+    name: "shrink",
+    bin_name: "fmpsim shrink",
+    about: ABOUT,
+    help: HELP,
+};
+
+const PARTS: &[Part<'static>] = &[
+    CONFIG_PART,
+    EVENTS_PART,
+    Part {
+        id: "find",
+        form: Form::Wanted("QUESTION"),
+        about: "What the answers to the events have to show",
+    },
+    CONTEXT_PART,
+];
+
 /// What the command line of `fmpsim shrink` asks for.
 #[derive(Clone, Copy, Debug)]
 pub struct ShrinkRequest<'a> {
@@ -53,32 +72,7 @@ pub struct ShrinkRequest<'a> {
 pub fn shrink_command<'a>(alloc: Global) -> Result<Command<'a>, AllocError>
     ensures { IfOk result (λ c. app_of c ≡ shrink_line) }
 {
-    let config = path(alloc, "CFG", "Path of the configuration");
-    let events = path(
-        alloc,
-        "EVENTS",
-        "Path of the list of events, or - for standard input",
-    );
-    let find = wanted(
-        alloc,
-        "find",
-        "QUESTION",
-        "What the answers to the events have to show",
-    );
-    let context = flag(
-        alloc,
-        "context",
-        "Shows below a fault its line, its place and what is wanted there",
-    );
-    let start = Command::new(alloc, "shrink")
-        .about(ABOUT)
-        .after_help(HELP)
-        .bin_name("fmpsim shrink")?;
-    let one = start.arg(config)?;
-    let two = one.arg(events)?;
-    let three = two.arg(find)?;
-    let four = three.arg(context)?;
-    Ok(four)
+    line(alloc, TITLE, PARTS)
 }
 
 /// The request that the matches are: each of its parts is what they have under one name.
@@ -88,7 +82,7 @@ fn request_of<'a>(matches: &ArgMatches<'a>) -> ShrinkRequest<'a>
     let config = text_in(matches, "CFG");
     let events = text_in(matches, "EVENTS");
     let question = text_in(matches, "find");
-    let context = matches.get_flag("context");
+    let context = flag_in(matches, "context");
     ShrinkRequest {
         config,
         events,
@@ -102,7 +96,6 @@ fn request_of<'a>(matches: &ArgMatches<'a>) -> ShrinkRequest<'a>
 pub fn parse_shrink<'a>(alloc: Global, words: &'a [String]) -> Result<ShrinkRequest<'a>, Error>
     ensures { IfOk result (Asks (found_in (map (λ w. w.bytes.items) words.now))) }
 {
-    let mut command = shrink_command(alloc)?;
-    let matches = command.try_get_matches_from_mut(words)?;
+    let matches = matched(alloc, TITLE, PARTS, words)?;
     Ok(request_of(&matches))
 }

@@ -13,7 +13,8 @@ use Rattle.clap.specs.declared.builder.arg.Arg.{Arg}
 use Rattle.clap.specs.declared.builder.command.Command.{Command}
 use Rattle.clap.specs.declared.builder.value_parser.ValueParser.TheVariants as parser
 use Rattle.clap.specs.declared.parser.matches.ArgMatches.{ArgMatches}
-use Rattle.fmp_smp_command.specs.Smp.{IsOptional, IsRequired, IsNumber, IsSmp, Gives, GivesAll, GivesLimits}
+use Rattle.fmp_smp_command.specs.Parts.{IsNumber, IsOptional, IsRequired}
+use Rattle.fmp_smp_command.specs.Smp.{IsSmp, Gives, GivesAll, GivesLimits}
 use Rattle.fmp_smp_command.proofs.Chains.{reads_in_chain}
 
 differs : (a b : List ℕ) → bytes_eq a b ≡ false → a ≡ b → ⊥

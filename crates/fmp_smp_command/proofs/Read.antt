@@ -1,22 +1,31 @@
 -- What the getters of the matches give, by the ids.
-use Rattle.std.proofs.Common.{◌≡◌, ◌∙◌, ap, subst, sym, refl, ℕ, Bool, true, false, List, Option, Some, None, codes}
+use Rattle.std.proofs.Common.{◌≡◌, ◌∙◌, ap, subst, sym, refl, ℕ, Bool, true, false, List, [], Option, Some, None, codes}
 use Rattle.std.specs.Prelude.{Ok, Err, Result, is_some, option_map, unwrap_or}
 use Rattle.std.specs.Borrow.{Bor}
 use Rattle.std.specs.Str.Parse.{ParsesUnsigned}
 use Rattle.clap.specs.Matches.{ReadsOne, first_value, one_text}
-use Rattle.clap.specs.Walk.{first_of, one_of, rows_of}
+use Rattle.clap.specs.Walk.{Text, first_of, one_of, rows_of}
 use Rattle.clap.specs.declared.parser.matches.Found.{Found}
 use Rattle.clap.proofs.WalkLemmas.{first_value-rows, one_text-rows}
 use Rattle.fmp_smp_command.specs.Numbers.{IsNumberIn, number_of}
-use Rattle.fmp_smp_command.specs.Smp.{IsFlag}
+use Rattle.fmp_smp_command.specs.Found.{IsFlag}
 
--- a path that is given
-pub path_read : (f : Found) (id : List ℕ) (o : Option (Bor (List ℕ))) (d r : Bor (List ℕ)) → option_map (λ s. s.now) o ≡ first_value f id
-    → is_some (first_value f id) ≡ true → r ≡ unwrap_or o d → first_of id (rows_of f) ≡ Some r.now
-path_read f id None d r same has is =
-    let none : is_some (first_value f id) ≡ false = rw (← same) refl in
-    cc
-path_read f id (Some p) d r same has is = sym (first_value-rows f id) ∙ (sym same ∙ ap (λ (b : Bor (List ℕ)). Some b.now) (sym is))
+-- a text that is given
+pub given_text : (f : Found) (id t : Text) → is_some (first_value f id) ≡ true → t ≡ unwrap_or (first_of id (rows_of f)) [] → first_of id (rows_of f) ≡ Some t
+given_text f id t has is = go (first_of id (rows_of f)) (subst (λ (o : Option Text). is_some o ≡ true) (first_value-rows f id) has) is
+  where
+    go : (o : Option Text) → is_some o ≡ true → t ≡ unwrap_or o [] → o ≡ Some t
+    go None has is = cc
+    go (Some u) has is = ap Some (sym is)
+
+-- the first text of an id, or nothing
+pub text_or : (f : Found) (id : Text) (o : Option (Bor Text)) (d r : Bor Text) → option_map (λ s. s.now) o ≡ first_of id (rows_of f)
+    → d.now ≡ [] → r ≡ unwrap_or o d → r.now ≡ unwrap_or (first_of id (rows_of f)) []
+text_or f id o d r same empty is = ap (λ (b : Bor Text). b.now) is ∙ (go o ∙ ap (λ v. unwrap_or v []) same)
+  where
+    go : (o : Option (Bor Text)) → (unwrap_or o d).now ≡ unwrap_or (option_map (λ s. s.now) o) []
+    go None = empty
+    go (Some p) = refl
 
 -- a number that a text gives
 pub number_read : (E : Type 0) (G : List ℕ → Result ℕ E → Type 0) (k : ℕ) (f : Found) (id t : List ℕ) (r : Option ℕ) (n : ℕ)

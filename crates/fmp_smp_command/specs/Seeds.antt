@@ -1,15 +1,10 @@
 -- The seeds of a run that goes through many, and how they are written.
 use Rattle.std.specs.Prelude.{◌≡◌, ◌⊎◌, ℕ, Option, Some, None, codes, nat_le, if◌then◌else◌}
 use Rattle.std.specs.Str.Pattern.{FindsText, SplitsAroundMatch}
-use Rattle.clap.specs.Words.{Rule, Text, new_rule}
-use Rattle.clap.specs.declared.builder.action.ArgAction.TheVariants.{Set}
+use Rattle.clap.specs.Words.{Text}
 use Rattle.fmp_smp_command.specs.declared.seeds.Seeds.{Seeds}
 use Rattle.fmp_smp_command.specs.declared.seeds.Seeds.TheVariants.{Unasked, Range, Other}
 use Rattle.fmp_smp_command.specs.Numbers.{IsNumberIn}
-
--- what a parse reads of the option
-abbrev pub seeds_rule : Rule
-seeds_rule = record (new_rule (codes "seeds")) { long = Some (codes "seeds"); value_names = 1; action = Some Set }
 
 -- those from one number to another, which is not less
 abbrev pub range_of : Option ℕ → Option ℕ → Seeds

@@ -1,10 +1,11 @@
 //! When a trace is coloured, as the command line says it.
 ghost use Rattle.std.specs.Prelude.{◌≡◌, codes, option_map};
-ghost use Rattle.clap.specs.Words.{first_of, rule_of};
-ghost use Rattle.fmp_smp_command.specs.Smp.{IsOptional, colour_by, colour_rule, rows_in};
+ghost use Rattle.clap.specs.Words.{first_of};
+ghost use Rattle.fmp_smp_command.specs.Found.{rows_in};
+ghost use Rattle.fmp_smp_command.specs.Smp.{colour_by};
 
-use clap::{Arg, ArgAction, ArgMatches};
-use std::alloc::Global;
+use crate::found::option_in;
+use clap::ArgMatches;
 
 /// When a trace is coloured.
 #[derive(Clone, Copy, Debug, PartialEq, Eq)]
@@ -15,18 +16,6 @@ pub enum Colour {
     Never,
     /// The command line has another word there, which is to be refused.
     Other,
-}
-
-/// The option that says when a trace is coloured.
-pub fn colour_option<'a>(alloc: Global) -> Arg<'a>
-    ensures kind { IsOptional result (codes "color") }
-    ensures rule { rule_of result ≡ colour_rule }
-{
-    Arg::new(alloc, "color")
-        .long("color")
-        .value_name("WHEN")
-        .action(ArgAction::Set)
-        .help("When the trace is coloured: auto, always or never")
 }
 
 /// When a trace is coloured, by a word for it. It is `auto` without one.
@@ -45,5 +34,5 @@ fn colour_for(word: Option<&str>) -> Colour
 pub fn colour_of<'a>(matches: &ArgMatches<'a>) -> Colour
     ensures { result ≡ colour_by (first_of (codes "color") (rows_in matches.now)) }
 {
-    colour_for(matches.get_str("color"))
+    colour_for(option_in(matches, "color"))
 }

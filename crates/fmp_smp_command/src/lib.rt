@@ -6,21 +6,26 @@
 //! How the help and the texts of errors read is tested in `fmpsim`.
 #![tactic(auto)]
 
-ghost use Rattle.std.specs.Prelude.{◌≡◌, IfOk, map, pos, Some, codes};
-ghost use Rattle.clap.specs.Words.{FailsBy, rule_of};
-ghost use Rattle.clap.specs.declared.builder.value_parser.ValueParser.TheVariants as parser;
-ghost use Rattle.fmp_smp_command.specs.Smp.{IsOptional, IsRequired, IsNumber, IsStart, IsSmp, GivesLimits, GivesAll};
-ghost use Rattle.fmp_smp_command.specs.Smp.{Asks, AsksLimits, context_rule, faults_in, find_rule, found_in, number_rule, path_rule, rows_in, seed_rule, strict_rule};
+ghost use Rattle.std.specs.Prelude.{◌≡◌, IfOk, map};
+ghost use Rattle.clap.specs.Words.{FailsBy};
+ghost use Rattle.fmp_smp_command.specs.Found.{rows_in};
+ghost use Rattle.fmp_smp_command.specs.Smp.{Asks, AsksLimits, GivesAll, GivesLimits, IsSmp, faults_in, found_in};
 
 mod colours;
+mod found;
 mod limits;
+mod parts;
 mod seeds;
 
-use clap::{Arg, ArgAction, ArgMatches, Command, Error};
-pub use colours::{Colour, colour_of, colour_option};
+use clap::{ArgMatches, Command, Error};
+pub use colours::{Colour, colour_of};
+pub use found::{flag_in, matched, option_in, text_in};
 pub use limits::Limits;
+pub use parts::{
+    COLOUR_PART, CONFIG_PART, CONTEXT_PART, EVENTS_PART, Form, Part, SCRIPTS_PART, Title, line,
+};
 pub use seeds::Seeds;
-use seeds::{seeds_of, seeds_option};
+use seeds::seeds_of;
 use std::alloc::{AllocError, Global};
 
 const ABOUT: &str = "Runs processors that follow scripts, each in a thread of its own";
@@ -66,6 +71,50 @@ Exit status:
   6  there were as many events as --turns says; their trace was written
   7  with --strict, or with --seeds and no --find: as 0, but a task waits";
 
+const TITLE: Title<'static> = Title {
+    name: "smp",
+    bin_name: "fmpsim smp",
+    about: ABOUT,
+    help: HELP,
+};
+
+const PARTS: &[Part<'static>] = &[
+    CONFIG_PART,
+    SCRIPTS_PART,
+    Part {
+        id: "ticks",
+        form: Form::Number(0, 1_000_000),
+        about: "How many ticks each processor takes whose ticks count, 0 to 1000000",
+    },
+    Part {
+        id: "turns",
+        form: Form::Number(1, 1_000_000),
+        about: "How many events the run has at most, 1 to 1000000",
+    },
+    Part {
+        id: "seed",
+        form: Form::Seed,
+        about: "Runs without threads, in an order that this number determines",
+    },
+    Part {
+        id: "seeds",
+        form: Form::Value("SEEDS"),
+        about: "Goes through the orders of the seeds A..B, up to one that ends while a task waits",
+    },
+    Part {
+        id: "find",
+        form: Form::Value("QUESTION"),
+        about: "What is looked for in the orders of --seeds",
+    },
+    Part {
+        id: "strict",
+        form: Form::Flag,
+        about: "Ends with status 7 where a task waits at the end, and nothing else is left to do",
+    },
+    CONTEXT_PART,
+    COLOUR_PART,
+];
+
 /// What the command line of `fmpsim smp` asks for.
 #[derive(Clone, Copy, Debug)]
 pub struct SmpRequest<'a> {
@@ -88,132 +137,11 @@ pub struct SmpRequest<'a> {
     pub colour: Colour,
 }
 
-/// The path of a text, which has to be given.
-pub fn path<'a>(alloc: Global, id: &'a str, about: &'a str) -> Arg<'a>
-    ensures kind { IsRequired result id.entry.now }
-    ensures rule { rule_of result ≡ path_rule id.entry.now }
-{
-    Arg::new(alloc, id)
-        .required(true)
-        .action(ArgAction::Set)
-        .help(about)
-}
-
-/// The option for the number of ticks, which has to be given.
-fn ticks<'a>(alloc: Global) -> Arg<'a>
-    ensures kind { IsNumber result (codes "ticks") 0 1000000 }
-    ensures rule { rule_of result ≡ number_rule (codes "ticks") 0 1000000 }
-{
-    Arg::new(alloc, "ticks")
-        .long("ticks")
-        .value_name("N")
-        .required(true)
-        .action(ArgAction::Set)
-        .value_parser(clap::value_parser!(u32).range(0..=1_000_000))
-        .help("How many ticks each processor takes whose ticks count, 0 to 1000000")
-}
-
-/// The option for the greatest number of events, which has to be given.
-fn turns<'a>(alloc: Global) -> Arg<'a>
-    ensures kind { IsNumber result (codes "turns") 1 1000000 }
-    ensures rule { rule_of result ≡ number_rule (codes "turns") 1 1000000 }
-{
-    Arg::new(alloc, "turns")
-        .long("turns")
-        .value_name("N")
-        .required(true)
-        .action(ArgAction::Set)
-        .value_parser(clap::value_parser!(u32).range(1..=1_000_000))
-        .help("How many events the run has at most, 1 to 1000000")
-}
-
-/// The option for what determines the order of a run without threads.
-fn seed<'a>(alloc: Global) -> Arg<'a>
-    ensures kind { IsOptional result (codes "seed") }
-    ensures rule { rule_of result ≡ seed_rule }
-{
-    Arg::new(alloc, "seed")
-        .long("seed")
-        .value_name("N")
-        .action(ArgAction::Set)
-        .value_parser(clap::value_parser!(u64))
-        .help("Runs without threads, in an order that this number determines")
-}
-
-/// The option for the question that is asked of the orders of seeds.
-fn find<'a>(alloc: Global) -> Arg<'a>
-    ensures kind { IsOptional result (codes "find") }
-    ensures rule { rule_of result ≡ find_rule }
-{
-    Arg::new(alloc, "find")
-        .long("find")
-        .value_name("QUESTION")
-        .action(ArgAction::Set)
-        .help("What is looked for in the orders of --seeds")
-}
-
-/// The flag by which it is a status of its own that a task waits at a quiet end.
-fn strict<'a>(alloc: Global) -> Arg<'a>
-    ensures kind { IsOptional result (codes "strict") }
-    ensures rule { rule_of result ≡ strict_rule }
-{
-    Arg::new(alloc, "strict")
-        .long("strict")
-        .action(ArgAction::SetTrue)
-        .help("Ends with status 7 where a task waits at the end, and nothing else is left to do")
-}
-
-/// The flag to show what stands beside a fault.
-fn context<'a>(alloc: Global) -> Arg<'a>
-    ensures kind { IsOptional result (codes "context") }
-    ensures rule { rule_of result ≡ context_rule }
-{
-    Arg::new(alloc, "context")
-        .long("context")
-        .action(ArgAction::SetTrue)
-        .help("Shows below a fault its line, its place and what is wanted there")
-}
-
-/// The command without its arguments.
-fn start<'a>(alloc: Global) -> Result<Command<'a>, AllocError>
-    ensures { IfOk result IsStart }
-{
-    Command::new(alloc, "smp")
-        .about(ABOUT)
-        .after_help(HELP)
-        .bin_name("fmpsim smp")
-}
-
 /// The command, for its help and for what is wrong in it.
 pub fn smp_command<'a>(alloc: Global) -> Result<Command<'a>, AllocError>
     ensures { IfOk result IsSmp }
 {
-    let config = path(alloc, "CFG", "Path of the configuration");
-    let scripts = path(
-        alloc,
-        "SCRIPTS",
-        "Path of the scripts, or - for standard input",
-    );
-    let ticks = ticks(alloc);
-    let turns = turns(alloc);
-    let seed = seed(alloc);
-    let seeds = seeds_option(alloc);
-    let find = find(alloc);
-    let strict = strict(alloc);
-    let context = context(alloc);
-    let colour = colour_option(alloc);
-    let start = start(alloc)?;
-    let one = start.arg(config)?;
-    let two = one.arg(scripts)?;
-    let three = two.arg(ticks)?;
-    let four = three.arg(turns)?;
-    let five = four.arg(seed)?;
-    let six = five.arg(seeds)?;
-    let seven = six.arg(find)?;
-    let eight = seven.arg(strict)?;
-    let nine = eight.arg(context)?;
-    let ten = nine.arg(colour)?;
-    Ok(ten)
+    line(alloc, TITLE, PARTS)
 }
 
 /// The numbers of `--ticks` and `--turns`, each in its own place.
@@ -231,14 +159,14 @@ fn request_of<'a>(matches: &ArgMatches<'a>) -> SmpRequest<'a>
     requires { GivesAll matches.now }
     ensures { Asks (rows_in matches.now) result }
 {
-    let config = matches.get_str("CFG").unwrap_or("");
-    let scripts = matches.get_str("SCRIPTS").unwrap_or("");
+    let config = text_in(matches, "CFG");
+    let scripts = text_in(matches, "SCRIPTS");
     let limits = limits_of(matches);
     let seed = matches.get_one::<u64>("seed");
     let seeds = seeds_of(matches);
-    let find = matches.get_str("find");
-    let strict = matches.get_flag("strict");
-    let context = matches.get_flag("context");
+    let find = option_in(matches, "find");
+    let strict = flag_in(matches, "strict");
+    let context = flag_in(matches, "context");
     let colour = colour_of(matches);
     SmpRequest {
         config,

@@ -1,13 +1,13 @@
 //! The seeds of a run that goes through many, as the command line says them.
 ghost use Rattle.std.specs.Prelude.{◌≡◌, Some, codes, option_map};
-ghost use Rattle.clap.specs.Words.{first_of, rule_of};
+ghost use Rattle.clap.specs.Words.{first_of};
+ghost use Rattle.fmp_smp_command.specs.Found.{rows_in};
 ghost use Rattle.fmp_smp_command.specs.Numbers.{IsNumberIn};
 ghost use Rattle.fmp_smp_command.specs.Seeds as spec;
-ghost use Rattle.fmp_smp_command.specs.Seeds.{AreSeeds, seeds_rule};
-ghost use Rattle.fmp_smp_command.specs.Smp.{IsOptional, rows_in};
+ghost use Rattle.fmp_smp_command.specs.Seeds.{AreSeeds};
 
-use clap::{Arg, ArgAction, ArgMatches};
-use std::alloc::Global;
+use crate::found::option_in;
+use clap::ArgMatches;
 
 /// The seeds that a run goes through.
 #[derive(Clone, Copy, Debug, PartialEq, Eq)]
@@ -18,18 +18,6 @@ pub enum Seeds {
     Range(u64, u64),
     /// The command line has another word there, which is to be refused.
     Other,
-}
-
-/// The option that gives them.
-pub(crate) fn seeds_option<'a>(alloc: Global) -> Arg<'a>
-    ensures kind { IsOptional result (codes "seeds") }
-    ensures rule { rule_of result ≡ seeds_rule }
-{
-    Arg::new(alloc, "seeds")
-        .long("seeds")
-        .value_name("SEEDS")
-        .action(ArgAction::Set)
-        .help("Goes through the orders of the seeds A..B, up to one that ends while a task waits")
 }
 
 /// The number that a text writes, if it is one of 64 bits.
@@ -76,5 +64,5 @@ fn seeds_for(word: Option<&str>) -> Seeds
 pub(crate) fn seeds_of<'a>(matches: &ArgMatches<'a>) -> Seeds
     ensures { AreSeeds (first_of (codes "seeds") (rows_in matches.now)) result }
 {
-    seeds_for(matches.get_str("seeds"))
+    seeds_for(option_in(matches, "seeds"))
 }

@@ -1,1 +1,0 @@
-pub mod Lines  -- What clap finds in the words of a command line.

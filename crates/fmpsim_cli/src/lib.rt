@@ -3,11 +3,10 @@
 //! and which words are refused but for those of `smp`, is run by tests/program.
 #![tactic(auto)]
 
-ghost use Rattle.std.specs.Prelude.{◌≡◌, ◌≤◌, IfOk, Some, codes, drop, false, length, map, true, option_map, slice_get};
-ghost use Rattle.clap.specs.Words.{app_of, rule_of};
-ghost use Rattle.fmp_smp_command.specs.Smp.{IsOptional};
-ghost use Rattle.fmpsim_cli.specs.Cli.{AsksFor, AsksList, IsCalls, IsCheck, IsListedBy, IsView, IsWave, NamesPaths, found_by, rows_in};
-ghost use Rattle.fmpsim_cli.specs.Cli.{calls_line, check_line, choice_rule, flag_rule, list_line, name_rule, names_rule, view_line, wave_line};
+ghost use Rattle.std.specs.Prelude.{◌≡◌, ◌≤◌, IfOk, IsErr, codes, drop, false, length, map, option_map, slice_get, true};
+ghost use Rattle.fmp_smp_command.specs.Found.{found_by, rows_in};
+ghost use Rattle.fmpsim_cli.specs.Cli.{AsksFor, AsksList, IsAsked, IsCalls, IsCheck, IsListedBy, IsView, IsWave, NamesPaths, subcommand_by};
+ghost use Rattle.fmpsim_cli.specs.Cli.{calls_line, check_line, list_line, view_line, wave_line};
 ghost use Rattle.fmpsim_cli.specs.Flags.{asked_by, form_by, is_path, page_by, told_by};
 
 use clap::error::ErrorKind;
@@ -17,7 +16,10 @@ use fmp_context::TextForm;
 use fmp_explore_command::{ExploreRequest, explore_command, parse_explore};
 use fmp_shrink_command::{ShrinkRequest, parse_shrink, shrink_command};
 pub use fmp_smp_command::Colour;
-use fmp_smp_command::{SmpRequest, colour_of, colour_option, parse_smp, path, smp_command};
+use fmp_smp_command::{
+    COLOUR_PART, CONFIG_PART, CONTEXT_PART, EVENTS_PART, Form, Part, SmpRequest, Title, colour_of,
+    flag_in, line, matched, option_in, parse_smp, smp_command, text_in,
+};
 use std::alloc::{AllocError, Global};
 
 const ABOUT: &str = "Simulates a multiprocessor real-time kernel in the manner of TOPPERS/FMP";
@@ -220,6 +222,144 @@ const DIFFERENCES: &str = "differences";
 
 const CONTEXT: &str = "context";
 
+const TRACE: &str = "TRACE";
+
+const NAME: &str = "NAME";
+
+const CALLS: Title<'static> = Title {
+    name: "calls",
+    bin_name: "fmpsim calls",
+    about: CALLS_ABOUT,
+    help: CALLS_HELP,
+};
+
+const CALLS_PARTS: &[Part<'static>] = &[
+    CONFIG_PART,
+    EVENTS_PART,
+    Part {
+        id: STATE,
+        form: Form::Choice(OF),
+        about: "Also writes the state at boot and after each event",
+    },
+    Part {
+        id: OF,
+        form: Form::Value("NAMES"),
+        about: "Writes only what changes these: names of tasks, handlers and objects, with commas between",
+    },
+    CONTEXT_PART,
+    COLOUR_PART,
+];
+
+const CHECK: Title<'static> = Title {
+    name: "check",
+    bin_name: "fmpsim check",
+    about: CHECK_ABOUT,
+    help: CHECK_HELP,
+};
+
+const CHECK_PARTS: &[Part<'static>] = &[
+    CONFIG_PART,
+    TRACE_PART,
+    Part {
+        id: SHOW,
+        form: Form::Choice(ALL),
+        about: "Also shows the first line that differs",
+    },
+    Part {
+        id: ALL,
+        form: Form::Choice(PARTIAL),
+        about: "Shows each line that differs, as a unified diff",
+    },
+    Part {
+        id: PARTIAL,
+        form: Form::Choice(SHOW),
+        about: "Judges only what is written of each line",
+    },
+    CONTEXT_PART,
+];
+
+const WAVE: Title<'static> = Title {
+    name: "wave",
+    bin_name: "fmpsim wave",
+    about: WAVE_ABOUT,
+    help: WAVE_HELP,
+};
+
+const WAVE_PARTS: &[Part<'static>] = &[
+    CONFIG_PART,
+    TRACE_PART,
+    Part {
+        id: GTKW,
+        form: Form::Choice(TRACE),
+        about: "Writes GTKWave's save file for CFG, without TRACE",
+    },
+    CONTEXT_PART,
+];
+
+const VIEW: Title<'static> = Title {
+    name: "view",
+    bin_name: "fmpsim view",
+    about: VIEW_ABOUT,
+    help: VIEW_HELP,
+};
+
+const VIEW_PARTS: &[Part<'static>] = &[
+    CONFIG_PART,
+    TRACE_PART,
+    Part {
+        id: DIFFERENCES,
+        form: Form::Flag,
+        about: "Shows any trace, with each line that differs from the machine",
+    },
+    CONTEXT_PART,
+];
+
+const LIST: Title<'static> = Title {
+    name: "list",
+    bin_name: "fmpsim list",
+    about: LIST_ABOUT,
+    help: LIST_HELP,
+};
+
+const LIST_PARTS: &[Part<'static>] = &[
+    Part {
+        id: NAME,
+        form: Form::Name,
+        about: "A call, a statement, the number of a fault, or the path of a configuration",
+    },
+    CONTEXT_PART,
+];
+
+const TRACE_PART: Part<'static> = Part {
+    id: TRACE,
+    form: Form::Path,
+    about: "Path of the trace",
+};
+
+/// The subcommands.
+#[derive(Clone, Copy, Debug)]
+pub enum Subcommand {
+    Calls,
+    Check,
+    Wave,
+    View,
+    Smp,
+    Explore,
+    Shrink,
+    List,
+}
+
+const SUBCOMMANDS: &[Subcommand] = &[
+    Subcommand::Calls,
+    Subcommand::Check,
+    Subcommand::Wave,
+    Subcommand::View,
+    Subcommand::Smp,
+    Subcommand::Explore,
+    Subcommand::Shrink,
+    Subcommand::List,
+];
+
 /// The paths of a configuration and of the other text.
 #[derive(Clone, Copy, Debug)]
 pub struct Paths<'a> {
@@ -287,194 +427,6 @@ pub enum Request<'a> {
     Describe(Described<'a>),
 }
 
-/// The option that names the tasks, handlers and objects of which something is told.
-fn names_option<'a>(alloc: Global) -> Arg<'a>
-    ensures kind { IsOptional result (codes "of") }
-    ensures rule { rule_of result ≡ names_rule }
-{
-    Arg::new(alloc, OF)
-        .long(OF)
-        .value_name("NAMES")
-        .action(ArgAction::Set)
-        .help(
-            "Writes only what changes these: names of tasks, handlers and objects, with commas between",
-        )
-}
-
-/// The command for what a configuration answers to a list of events.
-fn calls_command<'a>(alloc: Global) -> Result<Command<'a>, AllocError>
-    ensures { IfOk result (λ c. app_of c ≡ calls_line) }
-{
-    let config = path(alloc, "CFG", "Path of the configuration");
-    let events = path(
-        alloc,
-        "EVENTS",
-        "Path of the list of events, or - for standard input",
-    );
-    let state = choice(
-        alloc,
-        STATE,
-        "Also writes the state at boot and after each event",
-        OF,
-    )?;
-    let names = names_option(alloc);
-    let context = context(alloc);
-    let colour = colour_option(alloc);
-    let start = Command::new(alloc, "calls")
-        .about(CALLS_ABOUT)
-        .after_help(CALLS_HELP)
-        .bin_name("fmpsim calls")?;
-    let one = start.arg(config)?;
-    let two = one.arg(events)?;
-    let three = two.arg(state)?;
-    let four = three.arg(names)?;
-    let five = four.arg(context)?;
-    let six = five.arg(colour)?;
-    Ok(six)
-}
-
-/// An option without a value.
-fn flag<'a>(alloc: Global, id: &'a str, about: &'a str) -> Arg<'a>
-    ensures kind { IsOptional result id.entry.now }
-    ensures rule { rule_of result ≡ flag_rule id.entry.now }
-{
-    Arg::new(alloc, id)
-        .long(id)
-        .action(ArgAction::SetTrue)
-        .help(about)
-}
-
-/// The flag to show what stands beside a fault.
-fn context<'a>(alloc: Global) -> Arg<'a>
-    ensures kind { IsOptional result (codes "context") }
-    ensures rule { rule_of result ≡ flag_rule (codes "context") }
-{
-    flag(
-        alloc,
-        CONTEXT,
-        "Shows below a fault its line, its place and what is wanted there",
-    )
-}
-
-/// A flag that goes without another one.
-fn choice<'a>(
-    alloc: Global,
-    id: &'a str,
-    about: &'a str,
-    other: &'a str,
-) -> Result<Arg<'a>, AllocError>
-    ensures { IfOk result (λ a. (a.global ≡ false) × (rule_of a ≡ choice_rule id.entry.now)) }
-{
-    let start = flag(alloc, id, about);
-    let choice = start.conflicts_with(other)?;
-    Ok(choice)
-}
-
-/// The command for whether a trace is the machine's, and where it is not.
-fn check_command<'a>(alloc: Global) -> Result<Command<'a>, AllocError>
-    ensures { IfOk result (λ c. app_of c ≡ check_line) }
-{
-    let config = path(alloc, "CFG", "Path of the configuration");
-    let trace = path(alloc, "TRACE", "Path of the trace");
-    let show = choice(alloc, SHOW, "Also shows the first line that differs", ALL)?;
-    let all = choice(
-        alloc,
-        ALL,
-        "Shows each line that differs, as a unified diff",
-        PARTIAL,
-    )?;
-    let partial = choice(
-        alloc,
-        PARTIAL,
-        "Judges only what is written of each line",
-        SHOW,
-    )?;
-    let context = context(alloc);
-    let start = Command::new(alloc, "check")
-        .about(CHECK_ABOUT)
-        .after_help(CHECK_HELP)
-        .bin_name("fmpsim check")?;
-    let one = start.arg(config)?;
-    let two = one.arg(trace)?;
-    let three = two.arg(show)?;
-    let four = three.arg(all)?;
-    let five = four.arg(partial)?;
-    let six = five.arg(context)?;
-    Ok(six)
-}
-
-/// The command for the waveform of a trace, or for the save file that has no trace.
-fn wave_command<'a>(alloc: Global) -> Result<Command<'a>, AllocError>
-    ensures { IfOk result (λ c. app_of c ≡ wave_line) }
-{
-    let config = path(alloc, "CFG", "Path of the configuration");
-    let trace = path(alloc, "TRACE", "Path of the trace");
-    let save = choice(
-        alloc,
-        GTKW,
-        "Writes GTKWave's save file for CFG, without TRACE",
-        "TRACE",
-    )?;
-    let context = context(alloc);
-    let start = Command::new(alloc, "wave")
-        .about(WAVE_ABOUT)
-        .after_help(WAVE_HELP)
-        .bin_name("fmpsim wave")?;
-    let one = start.arg(config)?;
-    let two = one.arg(trace)?;
-    let three = two.arg(save)?;
-    let four = three.arg(context)?;
-    Ok(four)
-}
-
-/// The command for a page that shows a trace in a browser.
-fn view_command<'a>(alloc: Global) -> Result<Command<'a>, AllocError>
-    ensures { IfOk result (λ c. app_of c ≡ view_line) }
-{
-    let config = path(alloc, "CFG", "Path of the configuration");
-    let trace = path(alloc, "TRACE", "Path of the trace");
-    let differences = flag(
-        alloc,
-        DIFFERENCES,
-        "Shows any trace, with each line that differs from the machine",
-    );
-    let context = context(alloc);
-    let start = Command::new(alloc, "view")
-        .about(VIEW_ABOUT)
-        .after_help(VIEW_HELP)
-        .bin_name("fmpsim view")?;
-    let one = start.arg(config)?;
-    let two = one.arg(trace)?;
-    let three = two.arg(differences)?;
-    let four = three.arg(context)?;
-    Ok(four)
-}
-
-/// The name of what is to be listed or the path of a configuration, which may be left out.
-fn name<'a>(alloc: Global) -> Arg<'a>
-    ensures local { result.global ≡ false }
-    ensures rule { rule_of result ≡ name_rule }
-{
-    Arg::new(alloc, "NAME").action(ArgAction::Set).help(
-        "A call, a statement, the number of a fault, or the path of a configuration",
-    )
-}
-
-/// The command for what may be written, and for what was read of a configuration.
-fn list_command<'a>(alloc: Global) -> Result<Command<'a>, AllocError>
-    ensures { IfOk result (λ c. app_of c ≡ list_line) }
-{
-    let name = name(alloc);
-    let context = context(alloc);
-    let start = Command::new(alloc, "list")
-        .about(LIST_ABOUT)
-        .after_help(LIST_HELP)
-        .bin_name("fmpsim list")?;
-    let one = start.arg(name)?;
-    let two = one.arg(context)?;
-    Ok(two)
-}
-
 /// The option for the form of fault lines, which goes with every command and is taken from the words before these are parsed.
 fn diagnostics<'a>(alloc: Global) -> Arg<'a> {
     Arg::new(alloc, "diagnostics")
@@ -484,32 +436,46 @@ fn diagnostics<'a>(alloc: Global) -> Arg<'a> {
         .help("How each command tells faults, plain or gcc, by which editors jump to the place")
 }
 
-/// The whole command line, for its help and for what is wrong in it.
-fn whole_command<'a>(alloc: Global) -> Result<Command<'a>, AllocError> {
+/// The command of a subcommand, for its help and for what is wrong in it.
+fn command_of<'a>(alloc: Global, subcommand: Subcommand) -> Result<Command<'a>, AllocError> {
+    match subcommand {
+        Subcommand::Calls => line(alloc, CALLS, CALLS_PARTS),
+        Subcommand::Check => line(alloc, CHECK, CHECK_PARTS),
+        Subcommand::Wave => line(alloc, WAVE, WAVE_PARTS),
+        Subcommand::View => line(alloc, VIEW, VIEW_PARTS),
+        Subcommand::Smp => smp_command(alloc),
+        Subcommand::Explore => explore_command(alloc),
+        Subcommand::Shrink => shrink_command(alloc),
+        Subcommand::List => line(alloc, LIST, LIST_PARTS),
+    }
+}
+
+/// The program's command without its subcommands.
+fn program<'a>(alloc: Global) -> Result<Command<'a>, AllocError> {
     Command::new(alloc, "fmpsim")
         .about(ABOUT)
         .version("0.1.0")
         .subcommand_required(true)
         .arg_required_else_help(true)
-        .arg(diagnostics(alloc))?
-        .subcommand(calls_command(alloc)?)?
-        .subcommand(check_command(alloc)?)?
-        .subcommand(wave_command(alloc)?)?
-        .subcommand(view_command(alloc)?)?
-        .subcommand(smp_command(alloc)?)?
-        .subcommand(explore_command(alloc)?)?
-        .subcommand(shrink_command(alloc)?)?
-        .subcommand(list_command(alloc)?)
+        .arg(diagnostics(alloc))
+}
+
+/// The whole command line, for its help and for what is wrong in it.
+fn whole_command<'a>(alloc: Global) -> Result<Command<'a>, AllocError> {
+    let mut whole = program(alloc)?;
+    for subcommand in SUBCOMMANDS {
+        whole = whole.subcommand(command_of(alloc, *subcommand)?)?;
+    }
+    Ok(whole)
 }
 
 /// The two paths that the words behind a subcommand name.
 fn named_paths<'a>(matches: &ArgMatches<'a>, text: &str, form: TextForm) -> Paths<'a>
     ensures { NamesPaths (rows_in matches.now) text.now form result }
 {
-    let config = matches.get_str("CFG").unwrap_or("");
-    let named = matches.get_str(text).unwrap_or("");
-    let shown = matches.get_flag(CONTEXT);
-    let context = shown.then_some(form);
+    let config = text_in(matches, "CFG");
+    let named = text_in(matches, text);
+    let context = flag_in(matches, CONTEXT).then_some(form);
     Paths {
         config,
         text: named,
@@ -537,17 +503,15 @@ fn asked_for(partial: bool, show: bool, all: bool) -> Asked
 }
 
 /// What `calls` is asked for: what of some things changes where `--of` stands, and the state too where `--state` does.
-fn parse_calls<'a>(alloc: Global, words: &'a [String]) -> Result<Request<'a>, Error>
-    ensures { IfOk result (IsCalls (found_by calls_line (map (λ w. w.bytes.items) words.now))) }
+fn calls_in<'a>(matches: &ArgMatches<'a>) -> Request<'a>
+    ensures { IsCalls (rows_in matches.now) result }
 {
-    let command = calls_command(alloc)?;
-    let matches = command.try_get_matches_from(words)?;
-    let paths = named_paths(&matches, "EVENTS", TextForm::Events);
-    let state = matches.get_flag(STATE);
-    let colour = colour_of(&matches);
-    match matches.get_str(OF) {
-        Some(names) => Ok(Request::Life(paths, names, colour)),
-        None => Ok(Request::Calls(paths, told_for(state), colour)),
+    let paths = named_paths(matches, "EVENTS", TextForm::Events);
+    let told = told_for(flag_in(matches, STATE));
+    let colour = colour_of(matches);
+    match option_in(matches, OF) {
+        Some(names) => Request::Life(paths, names, colour),
+        None => Request::Calls(paths, told, colour),
     }
 }
 
@@ -563,30 +527,26 @@ fn checked_form(partial: bool) -> TextForm
 }
 
 /// What `check` is asked for: by `--partial`, by `--show`, by `--all`, or by none of them.
-fn parse_check<'a>(alloc: Global, words: &'a [String]) -> Result<Request<'a>, Error>
-    ensures { IfOk result (IsCheck (found_by check_line (map (λ w. w.bytes.items) words.now))) }
+fn check_in<'a>(matches: &ArgMatches<'a>) -> Request<'a>
+    ensures { IsCheck (rows_in matches.now) result }
 {
-    let command = check_command(alloc)?;
-    let matches = command.try_get_matches_from(words)?;
-    let partial = matches.get_flag(PARTIAL);
-    let paths = named_paths(&matches, "TRACE", checked_form(partial));
-    let show = matches.get_flag(SHOW);
-    let all = matches.get_flag(ALL);
-    Ok(Request::Trace(paths, asked_for(partial, show, all)))
+    let partial = flag_in(matches, PARTIAL);
+    let paths = named_paths(matches, TRACE, checked_form(partial));
+    let show = flag_in(matches, SHOW);
+    let all = flag_in(matches, ALL);
+    Request::Trace(paths, asked_for(partial, show, all))
 }
 
 /// What `wave` is asked for: the save file where `--gtkw` stands, and else the waveform.
-fn parse_wave<'a>(alloc: Global, words: &'a [String]) -> Result<Request<'a>, Error>
-    ensures { IfOk result (IsWave (found_by wave_line (map (λ w. w.bytes.items) words.now))) }
+fn wave_in<'a>(matches: &ArgMatches<'a>) -> Request<'a>
+    ensures { IsWave (rows_in matches.now) result }
 {
-    let command = wave_command(alloc)?;
-    let matches = command.try_get_matches_from(words)?;
-    let paths = named_paths(&matches, "TRACE", TextForm::Trace);
-    let save = matches.get_flag(GTKW);
-    if save {
-        return Ok(Request::Save(paths));
+    let paths = named_paths(matches, TRACE, TextForm::Trace);
+    if flag_in(matches, GTKW) {
+        Request::Save(paths)
+    } else {
+        Request::Trace(paths, Asked::Waveform)
     }
-    Ok(Request::Trace(paths, Asked::Waveform))
 }
 
 /// Which page is asked for, by the flag.
@@ -601,14 +561,12 @@ fn page_for(differences: bool) -> Asked
 }
 
 /// What `view` is asked for: the lines that differ too where `--differences` stands.
-fn parse_view<'a>(alloc: Global, words: &'a [String]) -> Result<Request<'a>, Error>
-    ensures { IfOk result (IsView (found_by view_line (map (λ w. w.bytes.items) words.now))) }
+fn view_in<'a>(matches: &ArgMatches<'a>) -> Request<'a>
+    ensures { IsView (rows_in matches.now) result }
 {
-    let command = view_command(alloc)?;
-    let matches = command.try_get_matches_from(words)?;
-    let paths = named_paths(&matches, "TRACE", TextForm::Trace);
-    let differences = matches.get_flag(DIFFERENCES);
-    Ok(Request::Trace(paths, page_for(differences)))
+    let paths = named_paths(matches, TRACE, TextForm::Trace);
+    let differences = flag_in(matches, DIFFERENCES);
+    Request::Trace(paths, page_for(differences))
 }
 
 /// Whether a word behind `list` is the path of a configuration: it has a `.` or a `/` in it, as nothing has that is called so.
@@ -638,13 +596,71 @@ fn listed<'a>(name: Option<&'a str>, context: bool) -> Request<'a>
 }
 
 /// What `list` is asked for: what was read of a configuration where a path stands behind it, and else what may be written.
+fn list_in<'a>(matches: &ArgMatches<'a>) -> Request<'a>
+    ensures { AsksList (rows_in matches.now) result }
+{
+    let context = flag_in(matches, CONTEXT);
+    listed(option_in(matches, NAME), context)
+}
+
+/// What the words of `calls` ask for.
+fn parse_calls<'a>(alloc: Global, words: &'a [String]) -> Result<Request<'a>, Error>
+    ensures { IfOk result (IsCalls (found_by calls_line (map (λ w. w.bytes.items) words.now))) }
+{
+    let matches = matched(alloc, CALLS, CALLS_PARTS, words)?;
+    Ok(calls_in(&matches))
+}
+
+/// What the words of `check` ask for.
+fn parse_check<'a>(alloc: Global, words: &'a [String]) -> Result<Request<'a>, Error>
+    ensures { IfOk result (IsCheck (found_by check_line (map (λ w. w.bytes.items) words.now))) }
+{
+    let matches = matched(alloc, CHECK, CHECK_PARTS, words)?;
+    Ok(check_in(&matches))
+}
+
+/// What the words of `wave` ask for.
+fn parse_wave<'a>(alloc: Global, words: &'a [String]) -> Result<Request<'a>, Error>
+    ensures { IfOk result (IsWave (found_by wave_line (map (λ w. w.bytes.items) words.now))) }
+{
+    let matches = matched(alloc, WAVE, WAVE_PARTS, words)?;
+    Ok(wave_in(&matches))
+}
+
+/// What the words of `view` ask for.
+fn parse_view<'a>(alloc: Global, words: &'a [String]) -> Result<Request<'a>, Error>
+    ensures { IfOk result (IsView (found_by view_line (map (λ w. w.bytes.items) words.now))) }
+{
+    let matches = matched(alloc, VIEW, VIEW_PARTS, words)?;
+    Ok(view_in(&matches))
+}
+
+/// What the words of `list` ask for.
 fn parse_list<'a>(alloc: Global, words: &'a [String]) -> Result<Request<'a>, Error>
     ensures { IfOk result (AsksList (found_by list_line (map (λ w. w.bytes.items) words.now))) }
 {
-    let command = list_command(alloc)?;
-    let matches = command.try_get_matches_from(words)?;
-    let shown = matches.get_flag(CONTEXT);
-    Ok(listed(matches.get_str("NAME"), shown))
+    let matches = matched(alloc, LIST, LIST_PARTS, words)?;
+    Ok(list_in(&matches))
+}
+
+/// What the words behind the program's name ask for, of which the first names the subcommand.
+fn parse_as<'a>(
+    alloc: Global,
+    subcommand: Subcommand,
+    words: &'a [String],
+) -> Result<Request<'a>, Error>
+    ensures { IfOk result (IsAsked subcommand (map (λ w. w.bytes.items) words.now)) }
+{
+    match subcommand {
+        Subcommand::Calls => parse_calls(alloc, words),
+        Subcommand::Check => parse_check(alloc, words),
+        Subcommand::Wave => parse_wave(alloc, words),
+        Subcommand::View => parse_view(alloc, words),
+        Subcommand::Smp => Ok(Request::Smp(parse_smp(alloc, words)?)),
+        Subcommand::Explore => Ok(Request::Explore(parse_explore(alloc, words)?)),
+        Subcommand::Shrink => Ok(Request::Shrink(parse_shrink(alloc, words)?)),
+        Subcommand::List => parse_list(alloc, words),
+    }
 }
 
 /// The word behind the program's name, which names the command.
@@ -654,11 +670,21 @@ fn command_word<'a>(words: &'a [String]) -> Option<&'a str>
     words.get(1).map(|word| word.as_str())
 }
 
-/// Whether the command is the one of this name.
-fn is_named(command: Option<&str>, name: &str) -> bool
-    ensures { result ≡ true → option_map (λ w. w.now) command.entry ≡ Some name.entry.now }
+/// The subcommand that a word names, if it names one.
+fn subcommand_for(word: Option<&str>) -> Option<Subcommand>
+    ensures { result ≡ subcommand_by (option_map (λ w. w.now) word.entry) }
 {
-    command == Some(name)
+    match word {
+        Some("calls") => Some(Subcommand::Calls),
+        Some("check") => Some(Subcommand::Check),
+        Some("wave") => Some(Subcommand::Wave),
+        Some("view") => Some(Subcommand::View),
+        Some("smp") => Some(Subcommand::Smp),
+        Some("explore") => Some(Subcommand::Explore),
+        Some("shrink") => Some(Subcommand::Shrink),
+        Some("list") => Some(Subcommand::List),
+        _ => None,
+    }
 }
 
 /// The words behind the program's name.
@@ -669,38 +695,23 @@ fn behind<'a>(words: &'a [String]) -> &'a [String]
     &words[1..]
 }
 
+/// What is wrong in a command line that names no subcommand.
+fn refuse<'a>(alloc: Global, words: &'a [String]) -> Result<Request<'a>, Error>
+    ensures { IsErr result }
+{
+    let mut whole = whole_command(alloc)?;
+    whole.try_get_matches_from_mut(words)?;
+    Err(whole.error(ErrorKind::MissingSubcommand, "a subcommand is wanted")?)
+}
+
 /// What the words of the command line ask for: the word behind the program's name says which command, and each part of the
 /// request is what clap finds in that word and those behind it under one name of that command.
 pub fn parse<'a>(alloc: Global, words: &'a [String]) -> Result<Request<'a>, Error>
     ensures { IfOk result (AsksFor (option_map (λ w. w.bytes.items) (slice_get words.now 1))
         (map (λ w. w.bytes.items) (drop 1 words.now))) }
 {
-    let command = command_word(words);
-    if is_named(command, "calls") {
-        return parse_calls(alloc, behind(words));
+    match subcommand_for(command_word(words)) {
+        Some(subcommand) => parse_as(alloc, subcommand, behind(words)),
+        None => refuse(alloc, words),
     }
-    if is_named(command, "check") {
-        return parse_check(alloc, behind(words));
-    }
-    if is_named(command, "wave") {
-        return parse_wave(alloc, behind(words));
-    }
-    if is_named(command, "view") {
-        return parse_view(alloc, behind(words));
-    }
-    if is_named(command, "smp") {
-        return Ok(Request::Smp(parse_smp(alloc, behind(words))?));
-    }
-    if is_named(command, "explore") {
-        return Ok(Request::Explore(parse_explore(alloc, behind(words))?));
-    }
-    if is_named(command, "shrink") {
-        return Ok(Request::Shrink(parse_shrink(alloc, behind(words))?));
-    }
-    if is_named(command, "list") {
-        return parse_list(alloc, behind(words));
-    }
-    let mut whole = whole_command(alloc)?;
-    whole.try_get_matches_from_mut(words)?;
-    Err(whole.error(ErrorKind::MissingSubcommand, "a subcommand is wanted")?)
 }

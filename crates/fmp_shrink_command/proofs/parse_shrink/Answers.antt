@@ -1,11 +1,7 @@
-use Rattle.std.proofs.Common.{ap, map, subst, ◌∙◌, List}
-use Rattle.clap.specs.Words.{App, Row, is_simple, matches_of}
-use Rattle.fmp_shrink_command.specs.Shrink.{Asks, found_in}
+use Rattle.std.proofs.Common.{List, subst}
+use Rattle.clap.specs.Words.{Row}
+use Rattle.fmp_shrink_command.specs.Shrink.{Asks}
 use Rattle.fmp_shrink_command.proofs.parse_shrink.Goals as goal
 
 pub returns : goal.returns
-unfolding found_in
-returns c =
-    let line = c.in_ok-command.ensures in
-    let rows = (c.in_ok-matches.ensures.ok.2 (ap is_simple line)).0 ∙ ap (λ (a : App). matches_of a (map (λ w. w.bytes.items) c.args.words.now)) line in
-    subst (λ (r : List Row). Asks r c.request_of.result) rows c.request_of.ensures
+returns c = subst (λ (r : List Row). Asks r c.request_of.result) c.in_ok-matches.ensures c.request_of.ensures

@@ -1,11 +1,5 @@
-use Rattle.std.proofs.Common.{rules, ap₂, ◌≡◌, ◌∙◌, codes}
-use Rattle.clap.specs.Words.{app_of, new_app, with_rule}
+use Rattle.fmp_smp_command.proofs.Table.{by_line}
 use Rattle.fmp_shrink_command.proofs.shrink_command.Goals as goal
 
 pub returns : goal.returns
-returns c =
-    let start_is : app_of c.in_ok-start.start ≡ new_app (codes "shrink") = search rules in
-    let one_is = c.in_ok-one.ensures.shape c.path-config.ensures.kind.optional.local ∙ ap₂ with_rule start_is c.path-config.ensures.rule in
-    let two_is = c.in_ok-two.ensures.shape c.path-events.ensures.kind.optional.local ∙ ap₂ with_rule one_is c.path-events.ensures.rule in
-    let three_is = c.in_ok-three.ensures.shape c.wanted-find.ensures.kind.local ∙ ap₂ with_rule two_is c.wanted-find.ensures.rule in
-    c.in_ok-four.ensures.shape c.flag-context.ensures.kind.local ∙ ap₂ with_rule three_is c.flag-context.ensures.rule
+returns c = by_line c.line.result _ _ _ c.line.ensures (λ d h. h.line)

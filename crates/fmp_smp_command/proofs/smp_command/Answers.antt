@@ -1,42 +1,42 @@
-use Rattle.std.proofs.Common.{refl, ap₂, ◌∙◌}
-use Rattle.clap.specs.Words.{with_rule}
+use Rattle.fmp_smp_command.specs.Smp.{IsSmp}
+use Rattle.fmp_smp_command.proofs.Table.{by_line}
 use Rattle.fmp_smp_command.proofs.smp_command.Goals as goal
 
 pub returns : goal.returns
-returns c = record {
-  start = c.in_ok-start.start;
-  config = c.path-config.result;
-  scripts = c.path-scripts.result;
-  ticks = c.ticks-ticks.result;
-  turns = c.turns-turns.result;
-  seed = c.seed-seed.result;
-  seeds = c.seeds_option-seeds.result;
-  find = c.find-find.result;
-  strict = c.strict-strict.result;
-  context = c.context-context.result;
-  colour = c.colour_option-colour.result;
-  chain = (c.in_ok-one.one, c.in_ok-one.ensures, (c.in_ok-two.two, c.in_ok-two.ensures, (c.in_ok-three.three, c.in_ok-three.ensures, (c.in_ok-four.four, c.in_ok-four.ensures, (c.in_ok-five.five, c.in_ok-five.ensures, (c.in_ok-six.six, c.in_ok-six.ensures, (c.in_ok-seven.seven, c.in_ok-seven.ensures, (c.in_ok-eight.eight, c.in_ok-eight.ensures, (c.in_ok-nine.nine, c.in_ok-nine.ensures, (c.in_ok-ten.ten, c.in_ok-ten.ensures, refl))))))))));
-  is_start = c.in_ok-start.ensures;
-  is_config = c.path-config.ensures.kind;
-  is_scripts = c.path-scripts.ensures.kind;
-  is_ticks = c.ticks-ticks.ensures.kind;
-  is_turns = c.turns-turns.ensures.kind;
-  is_seed = c.seed-seed.ensures.kind;
-  is_seeds = c.seeds_option-seeds.ensures.kind;
-  is_find = c.find-find.ensures.kind;
-  is_strict = c.strict-strict.ensures.kind;
-  is_context = c.context-context.ensures.kind;
-  is_colour = c.colour_option-colour.ensures.kind;
-  line =
-      let start_is = c.in_ok-start.ensures.line in
-      let one_is = c.in_ok-one.ensures.shape c.path-config.ensures.kind.optional.local ∙ ap₂ with_rule start_is c.path-config.ensures.rule in
-      let two_is = c.in_ok-two.ensures.shape c.path-scripts.ensures.kind.optional.local ∙ ap₂ with_rule one_is c.path-scripts.ensures.rule in
-      let three_is = c.in_ok-three.ensures.shape c.ticks-ticks.ensures.kind.required.optional.local ∙ ap₂ with_rule two_is c.ticks-ticks.ensures.rule in
-      let four_is = c.in_ok-four.ensures.shape c.turns-turns.ensures.kind.required.optional.local ∙ ap₂ with_rule three_is c.turns-turns.ensures.rule in
-      let five_is = c.in_ok-five.ensures.shape c.seed-seed.ensures.kind.local ∙ ap₂ with_rule four_is c.seed-seed.ensures.rule in
-      let six_is = c.in_ok-six.ensures.shape c.seeds_option-seeds.ensures.kind.local ∙ ap₂ with_rule five_is c.seeds_option-seeds.ensures.rule in
-      let seven_is = c.in_ok-seven.ensures.shape c.find-find.ensures.kind.local ∙ ap₂ with_rule six_is c.find-find.ensures.rule in
-      let eight_is = c.in_ok-eight.ensures.shape c.strict-strict.ensures.kind.local ∙ ap₂ with_rule seven_is c.strict-strict.ensures.rule in
-      let nine_is = c.in_ok-nine.ensures.shape c.context-context.ensures.kind.local ∙ ap₂ with_rule eight_is c.context-context.ensures.rule in
-      c.in_ok-ten.ensures.shape c.colour_option-colour.ensures.kind.local ∙ ap₂ with_rule nine_is c.colour_option-colour.ensures.rule;
-}
+returns c = by_line c.line.result _ _ IsSmp c.line.ensures (λ d h.
+    let one = h.adds in
+    let two = one.4 in
+    let three = two.4 in
+    let four = three.4 in
+    let five = four.4 in
+    let six = five.4 in
+    let seven = six.4 in
+    let eight = seven.4 in
+    let nine = eight.4 in
+    let ten = nine.4 in
+    record {
+      start = h.start;
+      config = one.0;
+      scripts = two.0;
+      ticks = three.0;
+      turns = four.0;
+      seed = five.0;
+      seeds = six.0;
+      find = seven.0;
+      strict = eight.0;
+      context = nine.0;
+      colour = ten.0;
+      chain = (one.1, one.3, (two.1, two.3, (three.1, three.3, (four.1, four.3, (five.1, five.3, (six.1, six.3, (seven.1, seven.3, (eight.1, eight.3, (nine.1, nine.3, (ten.1, ten.3, ten.4))))))))));
+      is_start = h.is_start;
+      is_config = one.2.kind;
+      is_scripts = two.2.kind;
+      is_ticks = three.2.kind;
+      is_turns = four.2.kind;
+      is_seed = five.2.kind;
+      is_seeds = six.2.kind;
+      is_find = seven.2.kind;
+      is_strict = eight.2.kind;
+      is_context = nine.2.kind;
+      is_colour = ten.2.kind;
+      line = h.line;
+    })
