@@ -1,11 +1,11 @@
 //! A trace that is read and judged.
-ghost use Rattle.std.specs.Prelude.{◌≡◌, ℕ, ◌+◌, ◌-◌, ◌^◌, ◌<◌, List, [], OnOk, IfOk, IfErr, false, if◌then◌else◌};
+ghost use Rattle.std.specs.Prelude.{◌≡◌, ◌+◌, ◌-◌, ◌^◌, ◌<◌, List, [], OnOk, IfOk, IfErr, false, if◌then◌else◌};
 ghost use Rattle.fmp_codes.specs.declared.records.Event.{Event as AnyEvent};
 ghost use Rattle.fmp_check.specs.Checking.{Judges, PrintsAnswers};
 ghost use Rattle.fmp_devices.specs.Devices.{IsKnown, bytes_of};
 ghost use Rattle.fmp_judging.specs.Faults.{failed_read, failed_write, is_config, is_write, is_thread_fault};
-ghost use Rattle.fmp_judging.specs.Texts.{Answered, CountsReads, FirstConfigFault, SaysConfig};
-ghost use Rattle.fmp_judging.specs.Traces.{Checked, IsFirstOfTrace, IsOwn, IsYes, FirstTraceFault, verdict_in};
+ghost use Rattle.fmp_judging.specs.Texts.{CountsReads, SaysConfig};
+ghost use Rattle.fmp_judging.specs.Traces.{Checked, FirstTraceFault, IsFirstOfTrace, IsYes, JudgesTexts, verdict_in};
 
 use crate::fault::RunFault;
 use crate::texts::config_from;
@@ -61,17 +61,9 @@ pub fn judged_texts<R: Source, S: Source>(
     ensures text { IsKnown (S.left trace.old) → IfOk result (λ judged. judged.text.items ≡ bytes_of (S.left trace.old)) }
     ensures judged { IfOk result (λ judged. Judges judged.config judged.text.items judged.verdict) }
     ensures checked { IsKnown (R.left config.old) → IsKnown (S.left trace.old) → IfOk result (λ judged. Checked (bytes_of (R.left config.old)) (bytes_of (S.left trace.old)) judged.verdict) }
-    ensures answers { IsKnown (R.left config.old) → IsKnown (S.left trace.old) → (event_text : List ℕ) → Answered (bytes_of (R.left config.old)) event_text (bytes_of (S.left trace.old))
-        → IsYes (verdict_in result) }
-    ensures own { IsKnown (R.left config.old) → IsKnown (S.left trace.old) → IsOwn (bytes_of (R.left config.old)) (bytes_of (S.left trace.old)) → IsYes (verdict_in result) }
-    ensures config_read { IsKnown (R.left config.old) → OnOk result (bytes_of (R.left config.new) ≡ []) }
-    ensures trace_read { IsKnown (S.left trace.old) → OnOk result (bytes_of (S.left trace.new) ≡ []) }
-
-    ensures config_fault { IsKnown (R.left config.old) → IfErr result (FirstConfigFault (bytes_of (R.left config.old))) }
-    ensures text_fault { IsKnown (R.left config.old) → IsKnown (S.left trace.old) → IfErr result (FirstTraceFault (bytes_of (R.left config.old)) (bytes_of (S.left trace.old))) }
+    ensures texts { JudgesTexts FirstTraceFault (R.left config.old) (R.left config.new) (S.left trace.old) (S.left trace.new) (verdict_in result) }
     ensures reads { CountsReads result (R.failures config.old) (R.failures config.new) (S.failures trace.old) (S.failures trace.new) }
     ensures no_write { failed_write result ≡ false }
-    ensures no_thread_fault { IfErr result (λ fault. is_thread_fault fault ≡ false) }
 {
     let configuration = config_from(alloc, config)?;
     configuration.names().validity();

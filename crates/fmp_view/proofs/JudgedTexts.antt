@@ -1,12 +1,13 @@
 -- What was shown of a trace that was read and judged is what a run shows of its two texts.
-use Rattle.std.proofs.Common.{◌≡◌, ℕ, List, Err, subst, sym, inl, inr}
+use Rattle.std.proofs.Common.{◌≡◌, ℕ, List, Option, Err, refl, subst, inl, inr}
 use Rattle.fmp_setup.specs.Setup.{Setup}
 use Rattle.fmp_check.specs.declared.checking.Verdict.{Verdict}
 use Rattle.fmp_check.specs.Checking.{Judges}
 use Rattle.fmp_judging.specs.declared.fault.RunFault.{RunFault}
 use Rattle.fmp_judging.specs.declared.fault.RunFault.TheVariants as run
 use Rattle.fmp_judging.specs.Texts.{SaysConfig}
-use Rattle.fmp_judging.specs.Traces.{IsYes}
+use Rattle.fmp_judging.specs.Traces.{FirstTraceFault, JudgesTexts}
+use Rattle.fmp_judging.proofs.Owed.{failed_late}
 use Rattle.fmp_view.specs.declared.run.PageKind.{PageKind}
 use Rattle.fmp_view.specs.Runs.{IsLate, IsPageOf, IsShownBy, Leaves, LeavesShown, Shown, Shows}
 
@@ -30,7 +31,7 @@ module _ (config_text trace_text old new text : List ℕ) (c : Setup) (says : Sa
   leaves_of_texts kind =
       wider (Shows kind c text) (IsPageOf kind config_text trace_text) (λ page shows. (c, says, subst (λ (t : List ℕ). Shows kind c t page) same shows)) old new
 
--- want of memory, or a write that failed, is no answer but yes
-pub late_is_yes : (fault : RunFault) → IsLate fault → IsYes (Err fault)
-late_is_yes fault (inl memory) = subst (λ (f : RunFault). IsYes (Err f)) (sym memory) tt
-late_is_yes fault (inr write) = subst (λ (f : RunFault). IsYes (Err f)) (sym write) tt
+-- both texts were judged before memory ran out, or a write failed
+pub late_owes : (config_old config_new trace_old trace_new : Option (List ℕ)) (fault : RunFault) → IsLate fault → JudgesTexts FirstTraceFault config_old config_new trace_old trace_new (Err fault)
+late_owes config_old config_new trace_old trace_new fault (inl memory) = rw memory (failed_late FirstTraceFault config_old config_new trace_old trace_new run.Memory refl refl refl tt)
+late_owes config_old config_new trace_old trace_new fault (inr write) = rw write (failed_late FirstTraceFault config_old config_new trace_old trace_new run.Write refl refl refl tt)

@@ -1,13 +1,13 @@
 //! The run that shows a trace.
-ghost use Rattle.std.specs.Prelude.{◌≡◌, ◌≢◌, ℕ, ◌+◌, ◌-◌, ◌^◌, ◌<◌, ◌≤◌, List, ◌++◌, [], length, map, OnOk, OnErr, IfOk, IfErr, Ok, Err, false, if◌then◌else◌};
+ghost use Rattle.std.specs.Prelude.{◌≡◌, ◌≢◌, ◌+◌, ◌-◌, ◌^◌, ◌<◌, ◌≤◌, List, ◌++◌, [], length, map, OnOk, OnErr, IfOk, IfErr, Ok, Err, false, if◌then◌else◌};
 ghost use Rattle.fmp_codes.specs.declared.records.Record.{Record as AnyRecord};
 ghost use Rattle.fmp_text.specs.Limits.{most_bytes as MOST_BYTES};
 ghost use Rattle.fmp_check.specs.Checking.{Judges};
 ghost use Rattle.fmp_trace.specs.Prints.{PrintsWithin};
-ghost use Rattle.fmp_judging.specs.Traces.{FirstTraceFault, IsOwn, IsYes};
+ghost use Rattle.fmp_judging.specs.Traces.{FirstTraceFault, JudgesTexts};
 ghost use Rattle.fmp_devices.specs.Devices.{BeginsWith, IsKnown, bytes_of};
 ghost use Rattle.fmp_judging.specs.Faults.{failed_write, is_thread_fault};
-ghost use Rattle.fmp_judging.specs.Texts.{Answered, CountsReads, FirstConfigFault};
+ghost use Rattle.fmp_judging.specs.Texts.{CountsReads};
 ghost use Rattle.fmp_view.specs.Runs.{IsLate, IsPageOut, IsShownBy, Leaves, LeavesShown, Shown, Shows};
 ghost use Rattle.fmp_view.specs.Pages.{page_of};
 
@@ -128,29 +128,20 @@ pub fn run_view<R: Source, S: Source, W: Sink>(
     requires trace_calls { S.failures trace.old < 2 ^ 64 - 1 }
     requires page_calls { W.failures page.old < 2 ^ 64 - 1 }
 
-    // Both texts were read to their ends, the verdict is right, and the page was written, all of it. None of it is held back.
+    // The verdict is right, and the page was written, all of it. None of it is held back.
     ensures known { IsKnown (W.written page.old) → IsKnown (W.written page.new) }
     ensures shown { IsKnown (R.left config.old) → IsKnown (S.left trace.old) → IsKnown (W.written page.old)
         → IfOk result (Shown kind (bytes_of (R.left config.old)) (bytes_of (S.left trace.old)) (bytes_of (W.written page.old)) (bytes_of (W.written page.new))) }
     ensures passed { IfOk result (λ verdict. verdict ≡ Verdict.Yes → W.buffered page.new ≡ []) }
     ensures all_passed { kind ≡ PageKind.Differences → OnOk result (W.buffered page.new ≡ []) }
-    ensures config_read { IsKnown (R.left config.old) → OnOk result (bytes_of (R.left config.new) ≡ []) }
-    ensures trace_read { IsKnown (S.left trace.old) → OnOk result (bytes_of (S.left trace.new) ≡ []) }
 
     // Of a trace that is the machine's own both kinds are the same page, on which no line differs.
     ensures same { IsKnown (R.left config.old) → IsKnown (S.left trace.old) → IsKnown (W.written page.old)
         → IfOk result (λ verdict. verdict ≡ Verdict.Yes → Shown PageKind.Own (bytes_of (R.left config.old)) (bytes_of (S.left trace.old)) (bytes_of (W.written page.old)) (bytes_of (W.written page.new)) Verdict.Yes) }
 
-    // Such is a trace that answers some events, as `run_calls` writes it.
-    ensures answers { IsKnown (R.left config.old) → IsKnown (S.left trace.old) → (event_text : List ℕ) → Answered (bytes_of (R.left config.old)) event_text (bytes_of (S.left trace.old))
-        → IsYes result }
-
-    // So is one of processors that follow scripts.
-    ensures own { IsKnown (R.left config.old) → IsKnown (S.left trace.old) → IsOwn (bytes_of (R.left config.old)) (bytes_of (S.left trace.old)) → IsYes result }
-
-    // A fault of a text is its first one.
-    ensures config_fault { IsKnown (R.left config.old) → IfErr result (FirstConfigFault (bytes_of (R.left config.old))) }
-    ensures text_fault { IsKnown (R.left config.old) → IsKnown (S.left trace.old) → IfErr result (FirstTraceFault (bytes_of (R.left config.old)) (bytes_of (S.left trace.old))) }
+    // What it owes to both texts: they were read to their ends, a trace that is the machine's own has the verdict yes, a fault of a text is its
+    // first one, and no thread was started.
+    ensures texts { JudgesTexts FirstTraceFault (R.left config.old) (R.left config.new) (S.left trace.old) (S.left trace.new) result }
 
     // After a failed write or flush a beginning of the page is out, after want of memory such a beginning or nothing, and
     // after any other fault nothing is.
@@ -159,9 +150,6 @@ pub fn run_view<R: Source, S: Source, W: Sink>(
 
     // However the run ends, nothing is held back, unless a write failed.
     ensures none_held { W.buffered page.old ≡ [] → result ≢ Err RunFault.Write → W.buffered page.new ≡ [] }
-
-    // No thread was started.
-    ensures no_thread_fault { IfErr result (λ fault. is_thread_fault fault ≡ false) }
 
     // Which calls of the devices failed.
     ensures reads { CountsReads result (R.failures config.old) (R.failures config.new) (S.failures trace.old) (S.failures trace.new) }

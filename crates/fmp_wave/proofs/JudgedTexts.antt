@@ -1,5 +1,5 @@
 -- What was drawn of a trace that was read and judged is what a run draws of its two texts.
-use Rattle.std.proofs.Common.{◌≡◌, ℕ, false, List, ◌++◌, Err, refl, sym, subst, inl}
+use Rattle.std.proofs.Common.{◌≡◌, ℕ, false, List, ◌++◌, refl, subst, inl}
 use Rattle.std.proofs.lemmas.Bool.{true≢false}
 use Rattle.fmp_setup.specs.Setup.{Setup}
 use Rattle.fmp_check.specs.declared.checking.Verdict.{Verdict}
@@ -10,7 +10,6 @@ use Rattle.fmp_judging.specs.declared.fault.RunFault.{RunFault}
 use Rattle.fmp_judging.specs.declared.fault.RunFault.TheVariants as run
 use Rattle.fmp_judging.specs.Faults.{is_write}
 use Rattle.fmp_judging.specs.Texts.{SaysConfig}
-use Rattle.fmp_judging.specs.Traces.{IsYes}
 use Rattle.fmp_wave.specs.Runs.{Drawn, Draws, IsDrawnBy, LeavesDrawn}
 
 module _ (config_text trace_text old new text : List ℕ) (c : Setup) (says : SaysConfig config_text c) (same : text ≡ trace_text) where
@@ -40,7 +39,3 @@ nothing_left config_text trace_text old new (run.Text fault) other none = none
 nothing_left config_text trace_text old new run.Read other none = none
 nothing_left config_text trace_text old new run.Start other none = none
 nothing_left config_text trace_text old new run.Disagree other none = none
-
--- a write that failed is no answer but yes
-pub only_write : (fault : RunFault) → fault ≡ run.Write → IsYes (Err fault)
-only_write fault is = subst (λ (f : RunFault). IsYes (Err f)) (sym is) tt

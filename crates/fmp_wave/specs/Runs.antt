@@ -1,5 +1,5 @@
 -- What a run that draws a trace does.
-use Rattle.std.specs.Prelude.{◌≡◌, ◌⊎◌, ℕ, List, ◌++◌, map, Result, Ok, Err}
+use Rattle.std.specs.Prelude.{◌≡◌, ◌⊎◌, ℕ, List, ◌++◌, map, Result}
 use Rattle.fmp_codes.specs.declared.records.Record.{Record}
 use Rattle.fmp_setup.specs.Setup.{Setup}
 use Rattle.fmp_check.specs.declared.checking.Verdict.{Verdict}
@@ -10,6 +10,7 @@ use Rattle.fmp_judging.specs.declared.fault.RunFault.{RunFault}
 use Rattle.fmp_judging.specs.declared.fault.RunFault.TheVariants as run
 use Rattle.fmp_devices.specs.Devices.{BeginsWith}
 use Rattle.fmp_judging.specs.Texts.{SaysConfig}
+use Rattle.fmp_judging.specs.Traces.{verdict_by}
 use Rattle.fmp_wave.specs.Waves.{wave_of}
 use Rattle.fmp_wave.specs.declared.run.Judged.{Judged}
 
@@ -48,5 +49,4 @@ LeavesDrawn config_text trace_text old new other = new ≡ old
 
 -- the verdict on a trace that was drawn
 abbrev pub verdict_in : Result Judged RunFault → Result Verdict RunFault
-verdict_in (Ok judged) = Ok judged.verdict
-verdict_in (Err fault) = Err fault
+verdict_in = verdict_by (λ judged. judged.verdict)

@@ -2,10 +2,10 @@
 ghost use Rattle.std.specs.Prelude.{◌≡◌, ◌≢◌, ℕ, ◌+◌, ◌-◌, ◌^◌, ◌<◌, List, ◌++◌, [], OnOk, OnErr, IfOk, IfErr, Ok, Err, false, if◌then◌else◌};
 ghost use Rattle.fmp_codes.specs.declared.records.Event.{Event as AnyEvent};
 ghost use Rattle.fmp_check.specs.Checking.{Judges, PrintsAnswers};
-ghost use Rattle.fmp_judging.specs.Traces.{FirstTraceFault, IsFirstOfTrace, IsOwn, IsYes};
+ghost use Rattle.fmp_judging.specs.Traces.{FirstTraceFault, IsFirstOfTrace, IsYes, JudgesTexts};
 ghost use Rattle.fmp_devices.specs.Devices.{BeginsWith, IsKnown, bytes_of};
 ghost use Rattle.fmp_judging.specs.Faults.{failed_read, failed_write, is_config, is_thread_fault, is_write};
-ghost use Rattle.fmp_judging.specs.Texts.{Answered, CountsReads, FirstConfigFault};
+ghost use Rattle.fmp_judging.specs.Texts.{CountsReads};
 ghost use Rattle.fmp_wave.specs.Runs.{Drawn, Draws, LeavesDrawn, verdict_in};
 
 use crate::drawing::Drawing;
@@ -84,24 +84,15 @@ pub fn run_wave<R: Source, S: Source, W: Sink>(
     requires trace_calls { S.failures trace.old < 2 ^ 64 - 1 }
     requires wave_calls { W.failures wave.old < 2 ^ 64 - 1 }
 
-    // Both texts were read to their ends, the verdict is right, and the waveform was written, all of it. None of it is held back.
+    // The verdict is right, and the waveform was written, all of it. None of it is held back.
     ensures known { IsKnown (W.written wave.old) → IsKnown (W.written wave.new) }
     ensures drawn { IsKnown (R.left config.old) → IsKnown (S.left trace.old) → IsKnown (W.written wave.old)
         → IfOk result (Drawn (bytes_of (R.left config.old)) (bytes_of (S.left trace.old)) (bytes_of (W.written wave.old)) (bytes_of (W.written wave.new))) }
     ensures passed { IfOk result (λ verdict. verdict ≡ Verdict.Yes → W.buffered wave.new ≡ []) }
-    ensures config_read { IsKnown (R.left config.old) → OnOk result (bytes_of (R.left config.new) ≡ []) }
-    ensures trace_read { IsKnown (S.left trace.old) → OnOk result (bytes_of (S.left trace.new) ≡ []) }
 
-    // A trace that answers some events, as `run_calls` writes it, is drawn.
-    ensures answers { IsKnown (R.left config.old) → IsKnown (S.left trace.old) → (event_text : List ℕ) → Answered (bytes_of (R.left config.old)) event_text (bytes_of (S.left trace.old))
-        → IsYes result }
-
-    // So is any that is the machine's own, as those of processors that follow scripts.
-    ensures own { IsKnown (R.left config.old) → IsKnown (S.left trace.old) → IsOwn (bytes_of (R.left config.old)) (bytes_of (S.left trace.old)) → IsYes result }
-
-    // A fault of a text is its first one.
-    ensures config_fault { IsKnown (R.left config.old) → IfErr result (FirstConfigFault (bytes_of (R.left config.old))) }
-    ensures text_fault { IsKnown (R.left config.old) → IsKnown (S.left trace.old) → IfErr result (FirstTraceFault (bytes_of (R.left config.old)) (bytes_of (S.left trace.old))) }
+    // What it owes to both texts: they were read to their ends, a trace that is the machine's own is drawn, a fault of a text is its
+    // first one, and no thread was started.
+    ensures texts { JudgesTexts FirstTraceFault (R.left config.old) (R.left config.new) (S.left trace.old) (S.left trace.new) result }
 
     // After a failed write or flush a beginning of the waveform is out, after want of memory such a beginning or nothing, and
     // after any other fault nothing is.
@@ -110,9 +101,6 @@ pub fn run_wave<R: Source, S: Source, W: Sink>(
 
     // However the run ends, nothing is held back, unless a write failed.
     ensures none_held { W.buffered wave.old ≡ [] → result ≢ Err RunFault.Write → W.buffered wave.new ≡ [] }
-
-    // No thread was started.
-    ensures no_thread_fault { IfErr result (λ fault. is_thread_fault fault ≡ false) }
 
     // Which calls of the devices failed.
     ensures reads { CountsReads result (R.failures config.old) (R.failures config.new) (S.failures trace.old) (S.failures trace.new) }

@@ -1,5 +1,7 @@
 -- What requests ask for.
-use Rattle.std.specs.Prelude.{Option, None, Some}
+use Rattle.std.specs.Prelude.{ℕ, List, Option, None, Some}
+use Rattle.fmp_judging.specs.declared.fault.RunFault.{RunFault}
+use Rattle.fmp_judging.specs.Traces.{FirstTraceFault}
 use Rattle.fmp_orders.specs.declared.rules.Rules.{Rules}
 use Rattle.fmp_explore_command.specs.declared.ExploreRequest.{ExploreRequest}
 use Rattle.fmp_view.specs.declared.run.PageKind.{PageKind}
@@ -8,6 +10,7 @@ use Rattle.fmpsim_cli.specs.declared.Asked.{Asked}
 use Rattle.fmpsim_cli.specs.declared.Asked.TheVariants as asked
 use Rattle.fmpsim_cli.specs.declared.Told.{Told}
 use Rattle.fmpsim_cli.specs.declared.Told.TheVariants.{Line, State}
+use Rattle.fmpsim_partial.specs.Partials.{FirstPartialFault}
 use Rattle.fmpsim_run.specs.declared.stream.Detail.{Detail}
 use Rattle.fmpsim_run.specs.declared.stream.Detail.TheVariants as detail
 use Rattle.fmpsim_run.specs.Details.{detail_of}
@@ -31,3 +34,8 @@ abbrev pub page_asked : Asked → Option PageKind
 page_asked asked.Page = Some kind.Own
 page_asked asked.DifferencesPage = Some kind.Differences
 page_asked other = None
+
+-- when a fault of the trace is its first one: of a partial trace by what is written, and else by all that a trace has
+abbrev pub FirstFaultOf : Asked → List ℕ → List ℕ → RunFault → Type 0
+FirstFaultOf asked.Partial = FirstPartialFault
+FirstFaultOf other = FirstTraceFault

@@ -1,15 +1,15 @@
 //! What `fmpsim check`, `fmpsim wave` and `fmpsim view` do.
-ghost use Rattle.std.specs.Prelude.{◌≡◌, ◌≢◌, ℕ, List, [], ◌++◌, ◌+◌, ◌-◌, ◌^◌, ◌<◌, false, OnOk, IfOk, IfErr, Some, Err, if◌then◌else◌};
+ghost use Rattle.std.specs.Prelude.{◌≡◌, ◌≢◌, ℕ, List, [], ◌++◌, ◌+◌, ◌-◌, ◌^◌, ◌<◌, OnOk, IfOk, IfErr, Some, Err, if◌then◌else◌};
 ghost use Rattle.fmp_devices.specs.Devices.{IsKnown, bytes_of};
-ghost use Rattle.fmp_judging.specs.Faults.{failed_write, is_thread_fault};
-ghost use Rattle.fmp_judging.specs.Texts.{Answered, CountsReads, FirstConfigFault};
-ghost use Rattle.fmp_judging.specs.Traces.{Checked, FirstTraceFault, IsOwn, IsYes};
+ghost use Rattle.fmp_judging.specs.Faults.{failed_write};
+ghost use Rattle.fmp_judging.specs.Texts.{CountsReads};
+ghost use Rattle.fmp_judging.specs.Traces.{Checked, IsYes, JudgesTexts};
 ghost use Rattle.fmp_view.specs.Runs.{LeavesShown, Shown};
 ghost use Rattle.fmp_view.specs.declared.run.PageKind.{PageKind as AnyKind};
-ghost use Rattle.fmpsim_commands.specs.Asked.{page_asked};
+ghost use Rattle.fmpsim_commands.specs.Asked.{FirstFaultOf, page_asked};
 ghost use Rattle.fmp_wave.specs.Runs.{Drawn, LeavesDrawn};
 ghost use Rattle.fmpsim_run.specs.Checks.{IsCheckBegun, verdict_text};
-ghost use Rattle.fmpsim_partial.specs.Partials.{CheckedPartly, FirstPartialFault, IsPartialBegun, IsPartlyOwn, verdict_text as partial_text};
+ghost use Rattle.fmpsim_partial.specs.Partials.{CheckedPartly, IsPartialBegun, IsPartlyOwn, verdict_text as partial_text};
 ghost use Rattle.fmpsim_run.specs.Reports.{IsReported, IsReportBegun};
 ghost use Rattle.fmpsim_smp.specs.Scripted.{Played};
 ghost use Rattle.fmp_check.specs.declared.comparing.Shown.{Shown as AnyShown};
@@ -75,31 +75,22 @@ pub fn judge<R: Source, S: Source, W: Sink>(
         → IfErr result (LeavesShown kind (bytes_of (R.left config.old)) (bytes_of (S.left trace.old)) (bytes_of (W.written output.old)) (bytes_of (W.written output.new))) }
     ensures page_none_held { (kind : AnyKind) → page_asked asked ≡ Some kind → W.buffered output.old ≡ [] → result ≢ Err RunFault.Write → W.buffered output.new ≡ [] }
 
-    // Both texts were read to their ends, and nothing that was written is held back.
+    // Nothing that was written is held back.
     ensures known { IsKnown (W.written output.old) → IsKnown (W.written output.new) }
     ensures passed { asked ≢ Asked.Waveform → asked ≢ Asked.Page → OnOk result (W.buffered output.new ≡ []) }
     ensures drawn_passed { IfOk result (λ verdict. verdict ≡ Verdict.Yes → W.buffered output.new ≡ []) }
-    ensures config_read { IsKnown (R.left config.old) → OnOk result (bytes_of (R.left config.new) ≡ []) }
-    ensures trace_read { IsKnown (S.left trace.old) → OnOk result (bytes_of (S.left trace.new) ≡ []) }
 
-    // A trace that answers some events, as `answer` writes it, is judged with yes, and so is one of processors that follow
-    // scripts, as `play` writes it.
-    ensures answers { IsKnown (R.left config.old) → IsKnown (S.left trace.old) → (event_text : List ℕ) → Answered (bytes_of (R.left config.old)) event_text (bytes_of (S.left trace.old))
-        → IsYes result }
+    // What each of these runs owes to both texts: they were read to their ends, a trace that is the machine's own, as `answer` writes it, is
+    // judged with yes, a fault of a text is its first one, and no thread was started.
+    ensures texts { JudgesTexts (FirstFaultOf asked) (R.left config.old) (R.left config.new) (S.left trace.old) (S.left trace.new) result }
+
+    // A trace of processors that follow scripts, as `play` writes it, is judged with yes, too.
     ensures plays { IsKnown (R.left config.old) → IsKnown (S.left trace.old) → (script_text : List ℕ) (ticks turns : ℕ) (ended : AnyEnded)
         → Played (bytes_of (R.left config.old)) script_text ticks turns (bytes_of (S.left trace.old)) ended → IsYes result }
-
-    // A fault of a text is its first one.
-    ensures config_fault { IsKnown (R.left config.old) → IfErr result (FirstConfigFault (bytes_of (R.left config.old))) }
-    ensures text_fault { asked ≢ Asked.Partial → IsKnown (R.left config.old) → IsKnown (S.left trace.old) → IfErr result (FirstTraceFault (bytes_of (R.left config.old)) (bytes_of (S.left trace.old))) }
-    ensures partial_fault { asked ≡ Asked.Partial → IsKnown (R.left config.old) → IsKnown (S.left trace.old) → IfErr result (FirstPartialFault (bytes_of (R.left config.old)) (bytes_of (S.left trace.old))) }
 
     // After a fault that is no failed write nothing is out, but of a waveform or a page perhaps a beginning.
     ensures unwritten { asked ≢ Asked.Waveform → asked ≢ Asked.Page → asked ≢ Asked.DifferencesPage → IsKnown (W.written output.old)
         → IfErr result (λ fault. fault ≢ RunFault.Write → bytes_of (W.written output.new) ≡ bytes_of (W.written output.old)) }
-
-    // No thread was started.
-    ensures no_thread_fault { IfErr result (λ fault. is_thread_fault fault ≡ false) }
 
     // Which calls of the devices failed.
     ensures reads { CountsReads result (R.failures config.old) (R.failures config.new) (S.failures trace.old) (S.failures trace.new) }

@@ -1,11 +1,11 @@
 //! The run that checks a partial trace.
-ghost use Rattle.std.specs.Prelude.{◌≡◌, ◌≢◌, ℕ, List, ◌+◌, ◌-◌, ◌^◌, ◌<◌, ◌++◌, [], OnOk, IfOk, IfErr, Err, false, if◌then◌else◌};
+ghost use Rattle.std.specs.Prelude.{◌≡◌, ◌≢◌, List, ◌+◌, ◌-◌, ◌^◌, ◌<◌, ◌++◌, [], OnOk, IfOk, IfErr, Err, false, if◌then◌else◌};
 ghost use Rattle.fmp_check.specs.Checking.{PrintsAnswers};
 ghost use Rattle.fmp_codes.specs.declared.records.Event.{Event as AnyEvent};
 ghost use Rattle.fmp_devices.specs.Devices.{IsKnown, bytes_of};
 ghost use Rattle.fmp_judging.specs.Faults.{failed_read, failed_write, is_config, is_thread_fault, is_write};
-ghost use Rattle.fmp_judging.specs.Texts.{Answered, CountsReads, FirstConfigFault};
-ghost use Rattle.fmp_judging.specs.Traces.{IsOwn, IsYes};
+ghost use Rattle.fmp_judging.specs.Texts.{CountsReads};
+ghost use Rattle.fmp_judging.specs.Traces.{IsYes, JudgesTexts};
 ghost use Rattle.fmp_partial_check.specs.Verdicts.{JudgesPartly, PartlyPrintsAnswers};
 ghost use Rattle.fmpsim_partial.specs.Partials.{CheckedPartly, FirstPartialFault, IsFirstOfPartial, IsPartialBegun, IsPartlyOwn, verdict_text};
 
@@ -65,17 +65,10 @@ fn judged_texts<R: Source, S: Source>(
     requires config_calls { R.failures config.old < 2 ^ 64 - 1 }
     requires trace_calls { S.failures trace.old < 2 ^ 64 - 1 }
     ensures checked { IsKnown (R.left config.old) → IsKnown (S.left trace.old) → IfOk result (CheckedPartly (bytes_of (R.left config.old)) (bytes_of (S.left trace.old))) }
-    ensures answers { IsKnown (R.left config.old) → IsKnown (S.left trace.old) → (event_text : List ℕ) → Answered (bytes_of (R.left config.old)) event_text (bytes_of (S.left trace.old))
-        → IsYes result }
-    ensures own { IsKnown (R.left config.old) → IsKnown (S.left trace.old) → IsOwn (bytes_of (R.left config.old)) (bytes_of (S.left trace.old)) → IsYes result }
     ensures partly { IsKnown (R.left config.old) → IsKnown (S.left trace.old) → IsPartlyOwn (bytes_of (R.left config.old)) (bytes_of (S.left trace.old)) → IsYes result }
-    ensures config_read { IsKnown (R.left config.old) → OnOk result (bytes_of (R.left config.new) ≡ []) }
-    ensures trace_read { IsKnown (S.left trace.old) → OnOk result (bytes_of (S.left trace.new) ≡ []) }
-    ensures config_fault { IsKnown (R.left config.old) → IfErr result (FirstConfigFault (bytes_of (R.left config.old))) }
-    ensures text_fault { IsKnown (R.left config.old) → IsKnown (S.left trace.old) → IfErr result (FirstPartialFault (bytes_of (R.left config.old)) (bytes_of (S.left trace.old))) }
+    ensures texts { JudgesTexts FirstPartialFault (R.left config.old) (R.left config.new) (S.left trace.old) (S.left trace.new) result }
     ensures reads { CountsReads result (R.failures config.old) (R.failures config.new) (S.failures trace.old) (S.failures trace.new) }
     ensures no_write { failed_write result ≡ false }
-    ensures no_thread_fault { IfErr result (λ fault. is_thread_fault fault ≡ false) }
 {
     let configuration = config_from(alloc, config)?;
     configuration.names().validity();
@@ -94,35 +87,23 @@ pub fn run_partial<R: Source, S: Source, W: Sink>(
     requires trace_calls { S.failures trace.old < 2 ^ 64 - 1 }
     requires answer_calls { W.failures answer.old < 2 ^ 64 - 1 }
 
-    // Both texts were read to their ends, the verdict is right, and what is written is the verdict. None of it is held back.
+    // The verdict is right, and what is written is the verdict. None of it is held back.
     ensures checked { IsKnown (R.left config.old) → IsKnown (S.left trace.old) → IfOk result (CheckedPartly (bytes_of (R.left config.old)) (bytes_of (S.left trace.old))) }
     ensures written { IsKnown (W.written answer.old) → IfOk result (λ verdict. bytes_of (W.written answer.new) ≡ bytes_of (W.written answer.old) ++ verdict_text verdict) }
     ensures known { IsKnown (W.written answer.old) → IsKnown (W.written answer.new) }
     ensures passed { OnOk result (W.buffered answer.new ≡ []) }
-    ensures config_read { IsKnown (R.left config.old) → OnOk result (bytes_of (R.left config.new) ≡ []) }
-    ensures trace_read { IsKnown (S.left trace.old) → OnOk result (bytes_of (S.left trace.new) ≡ []) }
 
-    // A whole trace that answers some events, as `run_calls` writes it, is checked with yes.
-    ensures answers { IsKnown (R.left config.old) → IsKnown (S.left trace.old) → (event_text : List ℕ) → Answered (bytes_of (R.left config.old)) event_text (bytes_of (S.left trace.old))
-        → IsYes result }
+    // What it owes to both texts: they were read to their ends, a whole trace that is the machine's own is checked with yes, a fault of a text is its
+    // first one, and no thread was started.
+    ensures texts { JudgesTexts FirstPartialFault (R.left config.old) (R.left config.new) (S.left trace.old) (S.left trace.new) result }
 
-    // So is any that is the machine's own, as those of processors that follow scripts.
-    ensures own { IsKnown (R.left config.old) → IsKnown (S.left trace.old) → IsOwn (bytes_of (R.left config.old)) (bytes_of (S.left trace.old)) → IsYes result }
-
-    // And any of whose lines parts are left out.
+    // So is one of which parts may be left out.
     ensures partly { IsKnown (R.left config.old) → IsKnown (S.left trace.old) → IsPartlyOwn (bytes_of (R.left config.old)) (bytes_of (S.left trace.old)) → IsYes result }
-
-    // A fault of a text is its first one.
-    ensures config_fault { IsKnown (R.left config.old) → IfErr result (FirstConfigFault (bytes_of (R.left config.old))) }
-    ensures text_fault { IsKnown (R.left config.old) → IsKnown (S.left trace.old) → IfErr result (FirstPartialFault (bytes_of (R.left config.old)) (bytes_of (S.left trace.old))) }
 
     // After a failed write or flush a beginning of the verdict is out, and after any other fault nothing is.
     ensures write { IsKnown (R.left config.old) → IsKnown (S.left trace.old) → IsKnown (W.written answer.old) → (result ≡ Err RunFault.Write)
         → IsPartialBegun (bytes_of (R.left config.old)) (bytes_of (S.left trace.old)) (bytes_of (W.written answer.old)) (bytes_of (W.written answer.new)) }
     ensures unwritten { IsKnown (W.written answer.old) → IfErr result (λ fault. fault ≢ RunFault.Write → bytes_of (W.written answer.new) ≡ bytes_of (W.written answer.old)) }
-
-    // No thread was started.
-    ensures no_thread_fault { IfErr result (λ fault. is_thread_fault fault ≡ false) }
 
     // Which calls of the devices failed.
     ensures reads { CountsReads result (R.failures config.old) (R.failures config.new) (S.failures trace.old) (S.failures trace.new) }

@@ -1,5 +1,5 @@
 -- What a run that reports where a trace differs does.
-use Rattle.std.specs.Prelude.{◌≡◌, ℕ, List, [], ◌++◌, Result, Ok, Err, codes}
+use Rattle.std.specs.Prelude.{◌≡◌, ℕ, List, [], ◌++◌, Result, codes}
 use Rattle.fmp_setup.specs.Setup.{Setup}
 use Rattle.fmp_check.specs.declared.checking.Verdict.{Verdict}
 use Rattle.fmp_check.specs.declared.checking.Verdict.TheVariants.{Yes, No}
@@ -14,6 +14,7 @@ use Rattle.fmpsim_run.specs.Before.{state_before}
 use Rattle.fmpsim_run.specs.Checks.{verdict_text}
 use Rattle.fmp_devices.specs.Devices.{BeginsWith}
 use Rattle.fmp_judging.specs.Texts.{SaysConfig}
+use Rattle.fmp_judging.specs.Traces.{verdict_by}
 
 -- what stands before the lines that differ: the verdict, or the header of a unified diff, which an empty one has not
 abbrev pub head_text : Shown → Verdict → List ℕ
@@ -51,5 +52,4 @@ IsReportBegun shown config_text trace_text old new =
 
 -- the verdict of a comparison
 abbrev pub verdict_in : Result Comparison RunFault → Result Verdict RunFault
-verdict_in (Ok found) = Ok found.verdict
-verdict_in (Err fault) = Err fault
+verdict_in = verdict_by (λ found. found.verdict)

@@ -1,9 +1,9 @@
 //! The run that checks a trace.
-ghost use Rattle.std.specs.Prelude.{◌≡◌, ◌≢◌, ℕ, ◌+◌, ◌-◌, ◌^◌, ◌<◌, List, ◌++◌, [], OnOk, IfOk, IfErr, Err, false, if◌then◌else◌};
+ghost use Rattle.std.specs.Prelude.{◌≡◌, ◌≢◌, ◌+◌, ◌-◌, ◌^◌, ◌<◌, ◌++◌, [], OnOk, IfOk, IfErr, Err, if◌then◌else◌};
 ghost use Rattle.fmp_devices.specs.Devices.{IsKnown, bytes_of};
-ghost use Rattle.fmp_judging.specs.Faults.{failed_write, is_thread_fault};
-ghost use Rattle.fmp_judging.specs.Texts.{Answered, CountsReads, FirstConfigFault};
-ghost use Rattle.fmp_judging.specs.Traces.{Checked, IsOwn, IsYes, FirstTraceFault};
+ghost use Rattle.fmp_judging.specs.Faults.{failed_write};
+ghost use Rattle.fmp_judging.specs.Texts.{CountsReads};
+ghost use Rattle.fmp_judging.specs.Traces.{Checked, FirstTraceFault, JudgesTexts};
 ghost use Rattle.fmpsim_run.specs.Checks.{IsCheckBegun, verdict_text};
 
 use arrayvec::ArrayString;
@@ -44,32 +44,20 @@ pub fn run_check<R: Source, S: Source, W: Sink>(
     requires trace_calls { S.failures trace.old < 2 ^ 64 - 1 }
     requires answer_calls { W.failures answer.old < 2 ^ 64 - 1 }
 
-    // Both texts were read to their ends, the verdict is right, and what is written is the verdict. None of it is held back.
+    // The verdict is right, and what is written is the verdict. None of it is held back.
     ensures checked { IsKnown (R.left config.old) → IsKnown (S.left trace.old) → IfOk result (Checked (bytes_of (R.left config.old)) (bytes_of (S.left trace.old))) }
     ensures written { IsKnown (W.written answer.old) → IfOk result (λ verdict. bytes_of (W.written answer.new) ≡ bytes_of (W.written answer.old) ++ verdict_text verdict) }
     ensures known { IsKnown (W.written answer.old) → IsKnown (W.written answer.new) }
     ensures passed { OnOk result (W.buffered answer.new ≡ []) }
-    ensures config_read { IsKnown (R.left config.old) → OnOk result (bytes_of (R.left config.new) ≡ []) }
-    ensures trace_read { IsKnown (S.left trace.old) → OnOk result (bytes_of (S.left trace.new) ≡ []) }
 
-    // A trace that answers some events, as `run_calls` writes it, is checked with yes.
-    ensures answers { IsKnown (R.left config.old) → IsKnown (S.left trace.old) → (event_text : List ℕ) → Answered (bytes_of (R.left config.old)) event_text (bytes_of (S.left trace.old))
-        → IsYes result }
-
-    // So is any that is the machine's own, as those of processors that follow scripts.
-    ensures own { IsKnown (R.left config.old) → IsKnown (S.left trace.old) → IsOwn (bytes_of (R.left config.old)) (bytes_of (S.left trace.old)) → IsYes result }
-
-    // A fault of a text is its first one.
-    ensures config_fault { IsKnown (R.left config.old) → IfErr result (FirstConfigFault (bytes_of (R.left config.old))) }
-    ensures text_fault { IsKnown (R.left config.old) → IsKnown (S.left trace.old) → IfErr result (FirstTraceFault (bytes_of (R.left config.old)) (bytes_of (S.left trace.old))) }
+    // What it owes to both texts: they were read to their ends, a trace that is the machine's own is checked with yes, a fault of a text is its
+    // first one, and no thread was started.
+    ensures texts { JudgesTexts FirstTraceFault (R.left config.old) (R.left config.new) (S.left trace.old) (S.left trace.new) result }
 
     // After a failed write or flush a beginning of the verdict is out, and after any other fault nothing is.
     ensures write { IsKnown (R.left config.old) → IsKnown (S.left trace.old) → IsKnown (W.written answer.old) → (result ≡ Err RunFault.Write)
         → IsCheckBegun (bytes_of (R.left config.old)) (bytes_of (S.left trace.old)) (bytes_of (W.written answer.old)) (bytes_of (W.written answer.new)) }
     ensures unwritten { IsKnown (W.written answer.old) → IfErr result (λ fault. fault ≢ RunFault.Write → bytes_of (W.written answer.new) ≡ bytes_of (W.written answer.old)) }
-
-    // No thread was started.
-    ensures no_thread_fault { IfErr result (λ fault. is_thread_fault fault ≡ false) }
 
     // Which calls of the devices failed.
     ensures reads { CountsReads result (R.failures config.old) (R.failures config.new) (S.failures trace.old) (S.failures trace.new) }

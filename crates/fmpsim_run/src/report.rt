@@ -1,13 +1,13 @@
 //! The run that shows where a trace differs.
-ghost use Rattle.std.specs.Prelude.{◌≡◌, ◌≢◌, ℕ, ◌+◌, ◌-◌, ◌^◌, ◌<◌, List, ◌++◌, [], OnOk, OnErr, IfOk, IfErr, Err, false, is_err, if◌then◌else◌};
+ghost use Rattle.std.specs.Prelude.{◌≡◌, ◌≢◌, ◌+◌, ◌-◌, ◌^◌, ◌<◌, List, ◌++◌, [], OnOk, OnErr, IfOk, IfErr, Err, false, is_err, if◌then◌else◌};
 ghost use Rattle.fmp_codes.specs.declared.records.Event.{Event as AnyEvent};
 ghost use Rattle.fmp_check.specs.Checking.{Judges, PrintsAnswers};
 ghost use Rattle.fmp_check.specs.Differences.{Contrasts};
-ghost use Rattle.fmp_judging.specs.Traces.{IsFirstOfTrace, IsOwn, IsYes, FirstTraceFault};
+ghost use Rattle.fmp_judging.specs.Traces.{FirstTraceFault, IsFirstOfTrace, IsYes, JudgesTexts};
 ghost use Rattle.fmp_devices.specs.Devices.{BeginsWith, IsKnown, bytes_of};
 ghost use Rattle.fmp_judging.specs.Faults.{failed_read, failed_write, is_config, is_write, is_thread_fault};
 ghost use Rattle.fmpsim_run.specs.Reports.{Compared, IsReported, IsReportBegun, Tells, head_text, verdict_in};
-ghost use Rattle.fmp_judging.specs.Texts.{Answered, CountsReads, FirstConfigFault};
+ghost use Rattle.fmp_judging.specs.Texts.{CountsReads};
 
 use crate::before::put_state_before;
 use crate::check::text_of;
@@ -82,17 +82,9 @@ fn compared<R: Source, S: Source>(
     requires trace_calls { S.failures trace.old < 2 ^ 64 - 1 }
 
     ensures compared { IsKnown (R.left config.old) → IsKnown (S.left trace.old) → IfOk result (λ found. Compared shown (bytes_of (R.left config.old)) (bytes_of (S.left trace.old)) found.verdict found.lines.items) }
-    ensures answers { IsKnown (R.left config.old) → IsKnown (S.left trace.old) → (event_text : List ℕ) → Answered (bytes_of (R.left config.old)) event_text (bytes_of (S.left trace.old))
-        → IsYes (verdict_in result) }
-    ensures own { IsKnown (R.left config.old) → IsKnown (S.left trace.old) → IsOwn (bytes_of (R.left config.old)) (bytes_of (S.left trace.old)) → IsYes (verdict_in result) }
-    ensures config_read { IsKnown (R.left config.old) → OnOk result (bytes_of (R.left config.new) ≡ []) }
-    ensures trace_read { IsKnown (S.left trace.old) → OnOk result (bytes_of (S.left trace.new) ≡ []) }
-
-    ensures config_fault { IsKnown (R.left config.old) → IfErr result (FirstConfigFault (bytes_of (R.left config.old))) }
-    ensures text_fault { IsKnown (R.left config.old) → IsKnown (S.left trace.old) → IfErr result (FirstTraceFault (bytes_of (R.left config.old)) (bytes_of (S.left trace.old))) }
+    ensures texts { JudgesTexts FirstTraceFault (R.left config.old) (R.left config.new) (S.left trace.old) (S.left trace.new) (verdict_in result) }
     ensures reads { CountsReads result (R.failures config.old) (R.failures config.new) (S.failures trace.old) (S.failures trace.new) }
     ensures no_write { failed_write result ≡ false }
-    ensures no_thread_fault { IfErr result (λ fault. is_thread_fault fault ≡ false) }
 {
     let configuration = config_from(alloc, config)?;
     configuration.names().validity();
@@ -148,36 +140,24 @@ pub fn run_report<R: Source, S: Source, W: Sink>(
     requires trace_calls { S.failures trace.old < 2 ^ 64 - 1 }
     requires report_calls { W.failures report.old < 2 ^ 64 - 1 }
 
-    // Both texts were read to their ends, and the report of what differs was written, all of it. None of it is held back.
+    // The report of what differs was written, all of it. None of it is held back.
     ensures reported { IsKnown (R.left config.old) → IsKnown (S.left trace.old) → IsKnown (W.written report.old)
         → IfOk result (IsReported shown (bytes_of (R.left config.old)) (bytes_of (S.left trace.old)) (bytes_of (W.written report.old)) (bytes_of (W.written report.new))) }
     ensures known { IsKnown (W.written report.old) → IsKnown (W.written report.new) }
     ensures passed { OnOk result (W.buffered report.new ≡ []) }
-    ensures config_read { IsKnown (R.left config.old) → OnOk result (bytes_of (R.left config.new) ≡ []) }
-    ensures trace_read { IsKnown (S.left trace.old) → OnOk result (bytes_of (S.left trace.new) ≡ []) }
 
     // No line is shown of a trace that is the machine's.
     ensures same { IsKnown (R.left config.old) → IsKnown (S.left trace.old) → IsKnown (W.written report.old)
         → IfOk result (λ verdict. verdict ≡ Verdict.Yes → bytes_of (W.written report.new) ≡ bytes_of (W.written report.old) ++ head_text shown Verdict.Yes) }
 
-    // Such are those that answer some events, as `run_calls` writes them.
-    ensures answers { IsKnown (R.left config.old) → IsKnown (S.left trace.old) → (event_text : List ℕ) → Answered (bytes_of (R.left config.old)) event_text (bytes_of (S.left trace.old))
-        → IsYes result }
-
-    // So are all that are the machine's own, as those of processors that follow scripts.
-    ensures own { IsKnown (R.left config.old) → IsKnown (S.left trace.old) → IsOwn (bytes_of (R.left config.old)) (bytes_of (S.left trace.old)) → IsYes result }
-
-    // A fault of a text is its first one.
-    ensures config_fault { IsKnown (R.left config.old) → IfErr result (FirstConfigFault (bytes_of (R.left config.old))) }
-    ensures text_fault { IsKnown (R.left config.old) → IsKnown (S.left trace.old) → IfErr result (FirstTraceFault (bytes_of (R.left config.old)) (bytes_of (S.left trace.old))) }
+    // What it owes to both texts: they were read to their ends, a trace that is the machine's own is judged with yes, a fault of a text is its
+    // first one, and no thread was started.
+    ensures texts { JudgesTexts FirstTraceFault (R.left config.old) (R.left config.new) (S.left trace.old) (S.left trace.new) result }
 
     // After a failed write or flush a beginning of the report is out, and after any other fault nothing is.
     ensures write { IsKnown (R.left config.old) → IsKnown (S.left trace.old) → IsKnown (W.written report.old) → (result ≡ Err RunFault.Write)
         → IsReportBegun shown (bytes_of (R.left config.old)) (bytes_of (S.left trace.old)) (bytes_of (W.written report.old)) (bytes_of (W.written report.new)) }
     ensures unwritten { IsKnown (W.written report.old) → IfErr result (λ fault. fault ≢ RunFault.Write → bytes_of (W.written report.new) ≡ bytes_of (W.written report.old)) }
-
-    // No thread was started.
-    ensures no_thread_fault { IfErr result (λ fault. is_thread_fault fault ≡ false) }
 
     // Which calls of the devices failed.
     ensures reads { CountsReads result (R.failures config.old) (R.failures config.new) (S.failures trace.old) (S.failures trace.new) }

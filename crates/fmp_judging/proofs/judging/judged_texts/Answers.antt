@@ -1,26 +1,26 @@
 use Rattle.std.proofs.Common.{subst}
-use Rattle.std.proofs.lemmas.Result.{err_from_is_err_and}
+use Rattle.std.proofs.lemmas.Result.{IfErr-weaker, err_from_is_err_and}
 use Rattle.fmp_names.specs.Names.{AreValid}
-use Rattle.fmp_judging.proofs.Yes.{answered_prints, own_prints}
-use Rattle.fmp_judging.proofs.Grammars.{only_memory}
+use Rattle.fmp_judging.specs.Traces.{FirstTraceFault, verdict_in}
+use Rattle.fmp_judging.specs.declared.judging.Judged.{Judged}
+use Rattle.fmp_judging.proofs.Owed.{config_refused, if_err-verdict, no_trace_fault, on_ok-verdict, trace_fault, trace_judged}
 use Rattle.fmp_judging.proofs.judging.judged_texts.Goals as goal
 
-pub returns-in_err-configuration-clause-answers : goal.returns-in_err-configuration-clause-answers
-returns-in_err-configuration-clause-answers g c = λ tells tells_too event_text answered.
+pub returns-in_err-configuration-clause-texts : goal.returns-in_err-configuration-clause-texts
+returns-in_err-configuration-clause-texts g c =
     let p = err_from_is_err_and c.from_residual.result c.from_residual.ensures.1 in
-    rw (p.1, p.2) (only_memory _ answered.config c.in_err-configuration.field-0.0 answered.says (c.in_err-configuration.ensures.fault tells) c.in_err-configuration.ensures.kinds.0)
+    let refused = c.in_err-configuration.ensures in
+    rw (p.1, p.2)
+    (config_refused FirstTraceFault _ _ _ _ c.in_err-configuration.field-0.0 refused.fault refused.kinds.0 refused.no_thread_fault (no_trace_fault _ _ _ refused.kinds.0))
 
-pub returns-clause-answers : goal.returns-clause-answers
-returns-clause-answers g c = λ tells tells_too event_text answered.
-    let names_valid = subst AreValid c.names.ensures.value c.validity.ensures in
-    c.judged_by.ensures.answers tells_too answered.events
-    (answered_prints _ event_text _ c.in_ok-configuration.configuration (c.in_ok-configuration.ensures.ok tells) c.names.ensures.valid names_valid answered)
-
-pub returns-in_err-configuration-clause-own : goal.returns-in_err-configuration-clause-own
-returns-in_err-configuration-clause-own g c = λ tells tells_too own.
-    let p = err_from_is_err_and c.from_residual.result c.from_residual.ensures.1 in
-    rw (p.1, p.2) (only_memory _ own.config c.in_err-configuration.field-0.0 own.says (c.in_err-configuration.ensures.fault tells) c.in_err-configuration.ensures.kinds.0)
-
-pub returns-clause-own : goal.returns-clause-own
-returns-clause-own g c = λ tells tells_too own.
-    c.judged_by.ensures.answers tells_too _ (own_prints _ _ c.in_ok-configuration.configuration (c.in_ok-configuration.ensures.ok tells) own)
+pub returns-clause-texts : goal.returns-clause-texts
+returns-clause-texts g c =
+    let config = c.in_ok-configuration.configuration in
+    let says = c.in_ok-configuration.ensures.ok in
+    let judged = c.judged_by.ensures in
+    let result = c.judged_by.result in
+    let verdict = λ (found : Judged). found.verdict in
+    trace_judged FirstTraceFault _ _ _ _ config (verdict_in result) says c.in_ok-configuration.ensures.read c.names.ensures.valid (subst AreValid c.names.ensures.value c.validity.ensures) judged.answers
+    (λ known. on_ok-verdict verdict result _ (judged.read known))
+    (λ known known_too. if_err-verdict verdict result _ (IfErr-weaker result _ _ (trace_fault _ _ config (says known)) (judged.fault known_too)))
+    (if_err-verdict verdict result _ judged.kinds) (if_err-verdict verdict result _ judged.no_thread_fault)

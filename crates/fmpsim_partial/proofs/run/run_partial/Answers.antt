@@ -1,29 +1,22 @@
+use Rattle.std.proofs.Common.{refl}
 use Rattle.std.proofs.lemmas.Result.{err_from_is_err_and}
+use Rattle.fmp_judging.specs.declared.fault.RunFault.TheVariants.{Write}
+use Rattle.fmp_judging.proofs.Owed.{failed_late}
+use Rattle.fmpsim_partial.specs.Partials.{FirstPartialFault}
 use Rattle.fmpsim_partial.proofs.run.run_partial.Goals as goal
 
-pub returns-in_err-verdict-clause-answers : goal.returns-in_err-verdict-clause-answers
-returns-in_err-verdict-clause-answers g c = λ tells tells_too event_text answered.
+pub returns-in_err-verdict-clause-texts : goal.returns-in_err-verdict-clause-texts
+returns-in_err-verdict-clause-texts g c =
     let p = err_from_is_err_and c.from_residual.result c.from_residual.ensures.1 in
-    rw (p.1, p.2) (c.in_err-verdict.ensures.answers tells tells_too event_text answered)
+    rw (p.1, p.2) c.in_err-verdict.ensures.texts
 
-pub returns-in_err-verdict-clause-own : goal.returns-in_err-verdict-clause-own
-returns-in_err-verdict-clause-own g c = λ tells tells_too own.
-    let p = err_from_is_err_and c.from_residual.result c.from_residual.ensures.1 in
-    rw (p.1, p.2) (c.in_err-verdict.ensures.own tells tells_too own)
-
-pub returns-clause-own : goal.returns-clause-own
-returns-clause-own g c = λ tells tells_too own.
-    c.in_ok-verdict.ensures.own tells tells_too own
-
-pub returns-in_err-write_out-clause-own : goal.returns-in_err-write_out-clause-own
-returns-in_err-write_out-clause-own g c = λ tells tells_too own.
+pub returns-in_err-write_out-clause-texts : goal.returns-in_err-write_out-clause-texts
+returns-in_err-write_out-clause-texts g c =
     let p = err_from_is_err_and c.from_residual-in_err-write_out.result c.from_residual-in_err-write_out.ensures.1 in
-    rw (p.1, p.2) tt
+    rw (p.1, p.2) (failed_late FirstPartialFault _ _ _ _ Write refl refl refl tt)
 
-pub returns-in_err-write_out-clause-answers : goal.returns-in_err-write_out-clause-answers
-returns-in_err-write_out-clause-answers g c = λ tells tells_too event_text answered.
-    let p = err_from_is_err_and c.from_residual-in_err-write_out.result c.from_residual-in_err-write_out.ensures.1 in
-    rw (p.1, p.2) tt
+pub returns-clause-texts : goal.returns-clause-texts
+returns-clause-texts g c = c.in_ok-verdict.ensures.texts
 
 pub returns-in_err-verdict-clause-partly : goal.returns-in_err-verdict-clause-partly
 returns-in_err-verdict-clause-partly g c = λ tells tells_too own.

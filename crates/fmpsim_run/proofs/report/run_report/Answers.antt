@@ -1,12 +1,19 @@
+use Rattle.std.proofs.Common.{refl}
 use Rattle.std.proofs.lemmas.Result.{err_from_is_err_and}
+use Rattle.fmp_judging.specs.Traces.{FirstTraceFault}
+use Rattle.fmp_judging.specs.declared.fault.RunFault.TheVariants.{Write}
+use Rattle.fmp_judging.proofs.Owed.{failed_late}
 use Rattle.fmpsim_run.proofs.report.run_report.Goals as goal
 
-pub returns-in_err-found-clause-answers : goal.returns-in_err-found-clause-answers
-returns-in_err-found-clause-answers g c = λ tells tells_too event_text answered.
+pub returns-in_err-found-clause-texts : goal.returns-in_err-found-clause-texts
+returns-in_err-found-clause-texts g c =
     let p = err_from_is_err_and c.from_residual.result c.from_residual.ensures.1 in
-    rw (p.1, p.2) (c.in_err-found.ensures.answers tells tells_too event_text answered)
+    rw (p.1, p.2) c.in_err-found.ensures.texts
 
-pub returns-in_err-found-clause-own : goal.returns-in_err-found-clause-own
-returns-in_err-found-clause-own g c = λ tells tells_too own.
-    let p = err_from_is_err_and c.from_residual.result c.from_residual.ensures.1 in
-    rw (p.1, p.2) (c.in_err-found.ensures.own tells tells_too own)
+pub returns-in_err-write_report-clause-texts : goal.returns-in_err-write_report-clause-texts
+returns-in_err-write_report-clause-texts g c =
+    let p = err_from_is_err_and c.from_residual-in_err-write_report.result c.from_residual-in_err-write_report.ensures.1 in
+    rw (p.1, p.2) (failed_late FirstTraceFault _ _ _ _ Write refl refl refl tt)
+
+pub returns-clause-texts : goal.returns-clause-texts
+returns-clause-texts g c = c.in_ok-found.ensures.texts
