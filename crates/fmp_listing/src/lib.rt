@@ -4,6 +4,9 @@
 //! [`listing_text`] makes it. `specs/Listing` says it as a function of what the configuration says, `Fields` what stands behind an object's
 //! name, and `Classes` how classes are told. docs/FORMATS.md has its form.
 //!
+//! What is told of kinds of objects, their order, words and numbers, a page of a trace tells in the same way ([`KINDS`], [`word`],
+//! [`count`]), and the number of processors too ([`put_processors_line`]).
+//!
 //! A field has the name that the static API gives it, and fields stand in the order of the statement that creates the object.
 #![tactic(auto)]
 
@@ -12,4 +15,4 @@ mod fields;
 mod functions;
 mod listing;
 
-pub use listing::listing_text;
+pub use listing::{KINDS, count, listing_text, put_processors_line, word};

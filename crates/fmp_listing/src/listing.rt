@@ -23,7 +23,7 @@ pub const KINDS: &[ObjectKind] = &[
 ];
 
 /// The word for a kind of objects.
-fn word(kind: ObjectKind) -> &'static [u8]
+pub fn word(kind: ObjectKind) -> &'static [u8]
     ensures { result.now ≡ spec.word kind }
 {
     match kind {
@@ -39,7 +39,7 @@ fn word(kind: ObjectKind) -> &'static [u8]
 }
 
 /// How many objects of a kind there are.
-fn count(config: &Config, kind: ObjectKind) -> usize
+pub fn count(config: &Config, kind: ObjectKind) -> usize
     ensures { result ≡ spec.count config.now kind }
 {
     match kind {
@@ -109,9 +109,9 @@ fn put_kinds(out: &mut Vec<u8>, config: &Config, kinds: &[ObjectKind]) -> Result
     Ok(())
 }
 
-/// Adds the line of the number of processors.
+/// Adds the line of the number of processors: `processors`, a blank and the number. The error is want of memory.
 #[tactic(auto, unfolding(crate::specs::Listing::processors_line))]
-fn put_processors_line(out: &mut Vec<u8>, processors: u8) -> Result<(), AllocError>
+pub fn put_processors_line(out: &mut Vec<u8>, processors: u8) -> Result<(), AllocError>
     ensures { OnOk result (out.new.items ≡ out.old.items ++ spec.processors_line processors) }
 {
     out.extend_from_slice(b"processors ")?;

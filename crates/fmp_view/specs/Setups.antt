@@ -1,34 +1,15 @@
 -- What a page has to know of the configuration, a line each.
-use Rattle.std.specs.Prelude.{ℕ, zero, suc, ◌+◌, Option, None, Some, List, [], ◌∷◌, ◌++◌, length, option_map, slice_get, codes, decimal}
+use Rattle.std.specs.Prelude.{ℕ, zero, suc, ◌+◌, Option, None, Some, List, [], ◌∷◌, ◌++◌, option_map, slice_get, codes, decimal}
 use Rattle.fmp_calls.specs.declared.kinds.ObjectKind.{ObjectKind}
-use Rattle.fmp_calls.specs.declared.kinds.ObjectKind.TheVariants.{Task, Semaphore, Eventflag, DataQueue, Pool, Cyclic, Alarm, SpinLock}
+use Rattle.fmp_calls.specs.declared.kinds.ObjectKind.TheVariants.{Task, Semaphore, DataQueue, Pool, Cyclic}
 use Rattle.fmp_setup.specs.Setup.{Setup}
 use Rattle.fmp_setup.specs.declared.setup.Timer.{Timer}
 use Rattle.fmp_setup.specs.declared.setup.Timer.TheVariants as timers
 use Rattle.fmp_trace.specs.Values.{named}
-use Rattle.fmp_view.specs.declared.setup.TheConstants.{KINDS}
-
-abbrev pub word : ObjectKind → List ℕ
-word Task = codes "task"
-word Semaphore = codes "sem"
-word Eventflag = codes "flg"
-word DataQueue = codes "dtq"
-word Pool = codes "mpf"
-word Cyclic = codes "cyc"
-word Alarm = codes "alm"
-word SpinLock = codes "spn"
+use Rattle.fmp_listing.specs.Listing.{count, processors_line, word}
+use Rattle.fmp_listing.specs.declared.listing.TheConstants.{KINDS}
 
 module _ (c : Setup) where
-  abbrev pub count : ObjectKind → ℕ
-  count Task = length c.tasks
-  count Semaphore = length c.semaphores
-  count Eventflag = length c.eventflags
-  count DataQueue = length c.data_queues
-  count Pool = length c.pools
-  count Cyclic = length c.cyclics
-  count Alarm = length c.alarms
-  count SpinLock = c.spin_locks
-
   -- of what stands at this place the priority at boot, the greatest count, how many values or blocks it has, or the period
   abbrev pub limit : ObjectKind → ℕ → Option ℕ
   limit Task i = option_map (λ s. s.priority.number) (slice_get c.tasks i)
@@ -59,9 +40,6 @@ objects_over c (kind ∷ kinds) = objects_to c kind (count c kind) ++ objects_ov
 abbrev pub master_number : Timer → ℕ
 master_number timers.Local = 0
 master_number (timers.Global p) = p.number
-
-unfoldable pub processors_line : ℕ → List ℕ
-processors_line n = codes "processors " ++ decimal n ++ codes "\n"
 
 unfoldable pub timer_line : Timer → List ℕ
 timer_line timer = codes "timer " ++ decimal (master_number timer) ++ codes "\n"

@@ -1,55 +1,13 @@
 //! What a page has to know of the configuration.
 ghost use Rattle.std.specs.Prelude.{◌≡◌, ◌++◌, ◌+◌, ◌^◌, ◌<◌, OnOk};
+ghost use Rattle.fmp_listing.specs.Listing.{count};
 ghost use Rattle.fmp_view.specs.Setups as spec;
 
 use fmp_calls::ObjectKind;
+use fmp_listing::{KINDS, count, put_processors_line, word};
 use fmp_machine::{Config, Timer};
 use fmp_trace::{put_named, put_number};
 use std::alloc::AllocError;
-
-/// The kinds of objects, in the order in which they are told.
-pub const KINDS: &[ObjectKind] = &[
-    ObjectKind::Task,
-    ObjectKind::Semaphore,
-    ObjectKind::Eventflag,
-    ObjectKind::DataQueue,
-    ObjectKind::Pool,
-    ObjectKind::Cyclic,
-    ObjectKind::Alarm,
-    ObjectKind::SpinLock,
-];
-
-/// The word for a kind of objects.
-fn word(kind: ObjectKind) -> &'static [u8]
-    ensures { result.now ≡ spec.word kind }
-{
-    match kind {
-        ObjectKind::Task => b"task",
-        ObjectKind::Semaphore => b"sem",
-        ObjectKind::Eventflag => b"flg",
-        ObjectKind::DataQueue => b"dtq",
-        ObjectKind::Pool => b"mpf",
-        ObjectKind::Cyclic => b"cyc",
-        ObjectKind::Alarm => b"alm",
-        ObjectKind::SpinLock => b"spn",
-    }
-}
-
-/// How many objects of a kind there are.
-fn count(config: &Config, kind: ObjectKind) -> usize
-    ensures { result ≡ spec.count config.now kind }
-{
-    match kind {
-        ObjectKind::Task => config.tasks().len(),
-        ObjectKind::Semaphore => config.semaphores().len(),
-        ObjectKind::Eventflag => config.eventflags().len(),
-        ObjectKind::DataQueue => config.data_queues().len(),
-        ObjectKind::Pool => config.pools().len(),
-        ObjectKind::Cyclic => config.cyclics().len(),
-        ObjectKind::Alarm => config.alarms().len(),
-        ObjectKind::SpinLock => usize::from(config.spin_locks()),
-    }
-}
 
 /// The priority of a task at boot, the greatest count of a semaphore, how many values a data queue or blocks a pool has, or the period of a
 /// cyclic handler.
@@ -100,7 +58,7 @@ fn put_object_line(
 
 /// Adds the lines of the objects of a kind.
 fn put_objects(out: &mut Vec<u8>, config: &Config, kind: ObjectKind) -> Result<(), AllocError>
-    ensures { OnOk result (out.new.items ≡ out.old.items ++ spec.objects_to config.now kind (spec.count config.now kind)) }
+    ensures { OnOk result (out.new.items ≡ out.old.items ++ spec.objects_to config.now kind (count config.now kind)) }
 {
     for index in 0..count(config, kind) {
         put_object_line(out, config, kind, index)?;
@@ -126,17 +84,6 @@ fn master_number(timer: Timer) -> u64
         Timer::Local => 0,
         Timer::Global(p) => u64::from(p.number),
     }
-}
-
-/// Adds the line of the number of processors.
-#[tactic(auto, unfolding(crate::specs::Setups::processors_line))]
-fn put_processors_line(out: &mut Vec<u8>, processors: u8) -> Result<(), AllocError>
-    ensures { OnOk result (out.new.items ≡ out.old.items ++ spec.processors_line processors) }
-{
-    out.extend_from_slice(b"processors ")?;
-    put_number(out, u64::from(processors))?;
-    out.push(b'\n')?;
-    Ok(())
 }
 
 /// Adds the line of the timer: the number of the processor whose ticks count for all, or 0.
