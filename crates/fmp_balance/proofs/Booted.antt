@@ -23,8 +23,9 @@ use Rattle.fmp_machine.specs.Objects.{blank_semaphore, semaphore, pool, values}
 use Rattle.fmp_machine.specs.Ordering.{Ordering}
 use Rattle.fmp_machine.specs.Arrivals.{State, numbered}
 use Rattle.fmp_machine.specs.Tasks.{start}
-use Rattle.fmp_machine.specs.Step.{step, replay, answers}
+use Rattle.fmp_machine.specs.Step.{replay, answers}
 use Rattle.fmp_machine.specs.Boot.{blank, all_started, with_top_running, with_tops_running, booted, unnumbered}
+use Rattle.fmp_machine.proofs.Replays.{answers_take}
 use Rattle.fmp_safety.specs.Safe.{Safe}
 use Rattle.fmp_safety.specs.Runs.{IsSafeThroughout}
 use Rattle.fmp_safety.proofs.Items.{item_holds}
@@ -144,14 +145,8 @@ prefix_of_prefix : {X : Type 0} (j n : ℕ) (xs : List X) → (i : ℕ) × (take
 prefix_of_prefix j n xs =
     ⊎_elim (λ (h : n < j). (n, take_all j (take n xs) (omega (arith, h, length-take n xs)))) (λ (h : j ≤ n). (j, take-take j n xs h)) (cases_lt n j)
 
--- the records of a prefix are a prefix of the records
-prefix_told : (n : ℕ) (w : State) (es : List Event) → answers numbered w (take n es) ≡ take n (answers numbered w es)
-prefix_told zero w es = refl
-prefix_told (suc n) w [] = refl
-prefix_told (suc n) w (e ∷ es) = ap (λ rs. (step numbered w e).1 ∷ rs) (prefix_told n (step numbered w e).0 es)
-
 pub balanced_throughout : (c : Setup) (events : List Event) → AreFew c → IsSafeThroughout (booted c) events → IsBalancedThroughout c events (answers numbered (booted c) events)
 balanced_throughout c events few safe n =
     let at_prefix : (j : ℕ) → Safe numbered (replay numbered (booted c) (take j (take n events))) =
     λ j. let prefix = prefix_of_prefix j n events in subst (λ es. Safe numbered (replay numbered (booted c) es)) (sym prefix.1) (safe prefix.0) in
-    subst (λ rs. Balance c rs (replay numbered (booted c) (take n events))) (prefix_told n (booted c) events) (balanced c (booted_few c few) (take n events) at_prefix)
+    subst (λ rs. Balance c rs (replay numbered (booted c) (take n events))) (answers_take n (booted c) events) (balanced c (booted_few c few) (take n events) at_prefix)

@@ -7,17 +7,18 @@ use Rattle.std.proofs.lemmas.Slice.Eq.{bytes_eq-Decides}
 use Rattle.fmp_codes.specs.declared.records.Event.{Event}
 use Rattle.fmp_codes.specs.declared.records.Record.{Record}
 use Rattle.fmp_bytes.specs.Bytes.{pieces_of}
+use Rattle.fmp_bytes.proofs.Parsed.{bind_parts}
 use Rattle.fmp_machine.specs.Boot.{booted}
 use Rattle.fmp_machine.specs.Arrivals.{State, numbered}
 use Rattle.fmp_setup.specs.Setup.{Setup}
 use Rattle.fmp_machine.specs.Step.{step, answers}
+use Rattle.fmp_machine.proofs.Replays.{length-answers}
 use Rattle.fmp_setup.specs.Valid.{IsValid}
 use Rattle.fmp_text.specs.Limits.{most_events}
 use Rattle.fmp_text.specs.declared.fault.TextFault.{TextFault}
 use Rattle.fmp_text.specs.Events.{IsMemory}
 use Rattle.fmp_trace.specs.Reading.{GivesOrFails}
 use Rattle.fmp_names.specs.Names.{NameLists, AreValid}
-use Rattle.fmp_text.proofs.Parsed.{bind_parts}
 use Rattle.fmp_check.specs.declared.checking.Verdict.{Verdict}
 use Rattle.fmp_check.specs.declared.checking.Verdict.TheVariants.{Yes, No}
 use Rattle.fmp_check.specs.Checking.{own_text, cores_from, own_lines, Compares, Judges, PrintsAnswers, verdict_at, checked}
@@ -27,7 +28,7 @@ use Rattle.fmp_trace.specs.Heads.{event_of}
 use Rattle.fmp_trace.specs.Lines.{core_text, line_text, lines_from}
 use Rattle.fmp_trace.specs.Prints.{PrintsWithin, FirstFault}
 use Rattle.fmp_trace.specs.Reading.{records_in}
-use Rattle.fmp_check.proofs.FittingAnswers.{answers_events, length-answers, answers-fit}
+use Rattle.fmp_check.proofs.FittingAnswers.{answers_events, answers-fit}
 use Rattle.fmp_check.proofs.OwnLines.{stop_from-line}
 use Rattle.fmp_trace.proofs.GuessedLines.{line_guessed}
 use Rattle.fmp_trace.proofs.Headed.{guess-event}

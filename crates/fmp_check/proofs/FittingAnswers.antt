@@ -1,7 +1,7 @@
 -- What the machine answers fits the names of its configuration.
-use Rattle.std.proofs.Common.{◌≡◌, ℕ, ◌-◌, ◌≤◌, ◌||◌, eqb, false, List, [], ◌∷◌, length, map, get_or, Option, Some, None, refl, sym, ap, subst, ◌∙◌, arith}
-use Rattle.std.specs.Prelude.{All, IfSome, is_some}
-use Rattle.std.proofs.lemmas.Bool.{cond_both, ne_eqb}
+use Rattle.std.proofs.Common.{◌≡◌, ℕ, ◌-◌, ◌≤◌, eqb, false, List, [], ◌∷◌, length, map, get_or, Option, Some, None, refl, sym, ap, subst, ◌∙◌, arith}
+use Rattle.std.specs.Prelude.{All, IfSome}
+use Rattle.std.proofs.lemmas.Bool.{ne_eqb}
 use Rattle.std.proofs.lemmas.List.Elements.{All-tail}
 use Rattle.std.proofs.lemmas.Option.{slice_get-get_or}
 use Rattle.fmp_codes.specs.Records.{AreOn, Ascend}
@@ -18,10 +18,11 @@ use Rattle.fmp_calls.specs.declared.kinds.ObjectKind.{ObjectKind}
 use Rattle.fmp_calls.specs.declared.kinds.ObjectKind.TheVariants as objects
 use Rattle.fmp_machine.specs.Boot.{booted}
 use Rattle.fmp_machine.specs.Arrivals.{State, numbered}
-use Rattle.fmp_setup.specs.Setup.{Setup, has_time}
-use Rattle.fmp_machine.specs.Step.{settled, before_event, unchanged, step, answers}
+use Rattle.fmp_setup.specs.Setup.{Setup}
+use Rattle.fmp_machine.specs.Step.{step, answers}
 use Rattle.fmp_setup.specs.Valid.{IsValid}
-use Rattle.fmp_machine.specs.World.{processor, handler, runner_of, is_held}
+use Rattle.fmp_machine.specs.World.{processor}
+use Rattle.fmp_machine.proofs.Replays.{step_event}
 use Rattle.fmp_setup.proofs.Named.{length_at}
 use Rattle.fmp_safety.proofs.Telling.{runs_name}
 use Rattle.fmp_safety.specs.Counts.{counts_of, IsRunnerOf, IsTaskOf, IsReleaseOf, NamesOnly}
@@ -30,24 +31,11 @@ use Rattle.fmp_trace.specs.Fits.{IsNamed, RunnerFits, ReleasesFit, RunChangeFits
 
 -- ---- the events of the answers
 
-pub step_event : (m : State) (e : Event) → (step numbered m e).1.event ≡ e
-unfolding settled before_event unchanged
-step_event m (events.Call p c) = cond_both (is_some (runner_of m p)) _ _ (λ (x : State × Record). x.1.event ≡ events.Call p c) (λ _. refl) (λ _. refl)
-step_event m (events.Tick p) =
-    cond_both (has_time m.timer p) _ _ (λ (x : State × Record). x.1.event ≡ events.Tick p)
-    (λ _. cond_both ((processor m p).locked || is_some (handler m p)) _ _ (λ (x : State × Record). x.1.event ≡ events.Tick p) (λ _. refl) (λ _. refl))
-    (λ _. refl)
-step_event m (events.Ipi p) = cond_both (is_held m p) _ _ (λ (x : State × Record). x.1.event ≡ events.Ipi p) (λ _. refl) (λ _. refl)
-
 pub answers_events : (m : State) (es : List Event) → map (λ r. r.event) (answers numbered m es) ≡ es
 answers_events m [] = refl
 answers_events m (e ∷ es) =
     ap (λ (x : Event). x ∷ map (λ r. r.event) (answers numbered (step numbered m e).0 es)) (step_event m e)
     ∙ ap (λ (xs : List Event). e ∷ xs) (answers_events (step numbered m e).0 es)
-
-pub length-answers : (m : State) (es : List Event) → length (answers numbered m es) ≡ length es
-length-answers m [] = refl
-length-answers m (e ∷ es) = let others = length-answers (step numbered m e).0 es in omega (arith, others)
 
 -- ---- names
 

@@ -5,6 +5,7 @@ use Rattle.std.proofs.lemmas.List.Elements.{All-cons, All-nil}
 use Rattle.std.proofs.lemmas.Slice.Eq.{bytes_eq-Decides}
 use Rattle.fmp_bytes.specs.Bytes.{cut_at, pieces_of}
 use Rattle.fmp_bytes.proofs.Cutting.{pieces_of-cut}
+use Rattle.fmp_bytes.proofs.Parsed.{bind_parts}
 use Rattle.fmp_codes.specs.Records.{processor_of}
 use Rattle.fmp_codes.specs.declared.records.Event.{Event}
 use Rattle.fmp_codes.specs.declared.records.Record.{Record}
@@ -12,6 +13,7 @@ use Rattle.fmp_calls.specs.Arguments.{EventInBits}
 use Rattle.fmp_machine.specs.Arrivals.{State, numbered}
 use Rattle.fmp_setup.specs.Setup.{Setup}
 use Rattle.fmp_machine.specs.Step.{step}
+use Rattle.fmp_machine.proofs.Replays.{step_event}
 use Rattle.fmp_setup.specs.Valid.{IsValid}
 use Rattle.fmp_safety.specs.Safe.{Safe}
 use Rattle.fmp_safety.specs.Counts.{counts_of, HasCounts}
@@ -21,7 +23,6 @@ use Rattle.fmp_safety.proofs.Telling.{step_names}
 use Rattle.fmp_text.specs.Limits.{most_events}
 use Rattle.fmp_text.specs.declared.fault.TextFault.{TextFault}
 use Rattle.fmp_text.specs.declared.fault.TextKind.{TextKind}
-use Rattle.fmp_text.proofs.Parsed.{bind_parts}
 use Rattle.fmp_names.specs.Names.{NameLists, AreValid}
 use Rattle.fmp_trace.specs.Fits.{FitsNames}
 use Rattle.fmp_trace.specs.Heads.{event_of}
@@ -32,7 +33,7 @@ use Rattle.fmp_trace.proofs.Headed.{event_of-fits}
 use Rattle.fmp_trace.proofs.Numbered.{first_piece, only_piece, records_from-line, with_prefix}
 use Rattle.fmp_trace.proofs.ReadTexts.{line_read, limited_ok, line_told, LineTold}
 use Rattle.fmp_check.specs.Walking.{behind, prints_answer, stopped, stop_from}
-use Rattle.fmp_check.proofs.FittingAnswers.{record_fits, step_event}
+use Rattle.fmp_check.proofs.FittingAnswers.{record_fits}
 
 -- ---- where the lines of a text stop being the machine's own
 

@@ -6,12 +6,12 @@ use Rattle.std.proofs.lemmas.Bool.{cases_Bool, eq-eqb, ne_eqb}
 use Rattle.std.proofs.lemmas.Slice.Eq.{bytes_eq-Decides}
 use Rattle.fmp_codes.specs.declared.records.Record.{Record}
 use Rattle.fmp_machine.specs.Boot.{booted}
+use Rattle.fmp_machine.proofs.Replays.{length-answers}
 use Rattle.fmp_setup.specs.Setup.{Setup}
 use Rattle.fmp_names.specs.Names.{NameLists}
 use Rattle.fmp_check.specs.Checking.{cores_from, own_lines}
 use Rattle.fmp_check.specs.Differences.{Difference, differences_from, differences, patched_from}
 use Rattle.fmp_check.proofs.CheckedTexts.{told}
-use Rattle.fmp_check.proofs.FittingAnswers.{length-answers}
 
 -- the first difference among lines from line n on stands at n or behind it
 abbrev StartAt : ℕ → List Difference → Type 0

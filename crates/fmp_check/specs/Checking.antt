@@ -4,6 +4,7 @@ use Rattle.fmp_codes.specs.Records.{AreOn}
 use Rattle.fmp_codes.specs.declared.records.Event.{Event}
 use Rattle.fmp_codes.specs.declared.records.Record.{Record}
 use Rattle.fmp_bytes.specs.Bytes.{pieces_of, line_feed}
+use Rattle.fmp_bytes.specs.Results.{◌>>=◌}
 use Rattle.fmp_calls.specs.Arguments.{EventInBits}
 use Rattle.fmp_machine.specs.Boot.{booted}
 use Rattle.fmp_machine.specs.Arrivals.{numbered}
@@ -12,7 +13,6 @@ use Rattle.fmp_machine.specs.Step.{answers}
 use Rattle.fmp_text.specs.Limits.{most_bytes, most_events}
 use Rattle.fmp_text.specs.declared.fault.TextFault.{TextFault}
 use Rattle.fmp_names.specs.Names.{NameLists}
-use Rattle.fmp_text.specs.Reading.{◌>>=◌}
 use Rattle.fmp_check.specs.declared.checking.Verdict.{Verdict}
 use Rattle.fmp_check.specs.declared.checking.Verdict.TheVariants.{Yes, No}
 use Rattle.fmp_trace.specs.Lines.{core_text, lines_from}

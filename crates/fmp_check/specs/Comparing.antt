@@ -1,10 +1,10 @@
 -- Showing where a trace differs from the machine's own lines, as the code does.
 use Rattle.std.specs.Prelude.{ℕ, ◌+◌, List, [], ◌∷◌, ◌++◌, Option, None, Some, Result, Ok, if◌then◌else◌}
+use Rattle.fmp_bytes.specs.Results.{◌>>=◌}
 use Rattle.fmp_machine.specs.Arrivals.{State}
 use Rattle.fmp_setup.specs.Setup.{Setup}
 use Rattle.fmp_text.specs.declared.fault.TextFault.{TextFault}
 use Rattle.fmp_names.specs.Names.{NameLists}
-use Rattle.fmp_text.specs.Reading.{◌>>=◌}
 use Rattle.fmp_check.specs.declared.checking.Verdict.{Verdict}
 use Rattle.fmp_check.specs.declared.comparing.Comparison.{Comparison}
 use Rattle.fmp_check.specs.declared.comparing.Shown.{Shown}

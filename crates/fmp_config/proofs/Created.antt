@@ -1,6 +1,7 @@
 -- What was read stays sound where an object is created.
 use Rattle.std.proofs.Common.{◌≡◌, ℕ, Bool, true, false, List, [], ◌∷◌, Some, Result, Ok, Err, refl, sym, ap, subst, ◌∙◌, arith}
 use Rattle.std.proofs.lemmas.Bool.{false≢true, leb-true}
+use Rattle.fmp_bytes.specs.Results.{◌>>=◌}
 use Rattle.fmp_calls.specs.declared.kinds.NameKind.TheVariants.{Object}
 use Rattle.fmp_calls.specs.declared.kinds.ObjectKind.{ObjectKind}
 use Rattle.fmp_calls.specs.declared.kinds.ObjectKind.TheVariants as objects
@@ -9,7 +10,7 @@ use Rattle.fmp_statements.specs.declared.attributes.Attributes.{Attributes}
 use Rattle.fmp_statements.specs.declared.fault.ConfigKind.TheVariants.{OutOfRange, OutsideClass, ForeignHandler}
 use Rattle.fmp_statements.specs.declared.table.StatementName.TheVariants as statements
 use Rattle.fmp_statements.specs.Attributes.{attributes_in}
-use Rattle.fmp_statements.specs.Faults.{Fault, fault_at, fault_in, fault_of_line, ◌>>=◌}
+use Rattle.fmp_statements.specs.Faults.{Fault, fault_at, fault_in, fault_of_line}
 use Rattle.fmp_statements.specs.Forms.{Form}
 use Rattle.fmp_statements.specs.Table.{allowed_of}
 use Rattle.fmp_config.specs.declared.draft.OpenClass.{OpenClass}

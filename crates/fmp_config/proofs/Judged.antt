@@ -4,12 +4,13 @@ use Rattle.std.specs.Prelude.{nat_lt, ◌==◌}
 use Rattle.std.specs.Option.{ok_or}
 use Rattle.std.proofs.lemmas.Bool.{false≢true, ltb-true}
 use Rattle.std.proofs.lemmas.List.Elements.{Contains-append_left}
+use Rattle.fmp_bytes.specs.Results.{◌>>=◌}
 use Rattle.fmp_codes.specs.Numbers.{as_proc}
 use Rattle.fmp_names.specs.Names.{is_name}
 use Rattle.fmp_statements.specs.declared.fault.ConfigKind.TheVariants.{BadClass, UnknownClass}
 use Rattle.fmp_statements.specs.declared.table.StatementName.{StatementName}
 use Rattle.fmp_statements.specs.declared.table.StatementName.TheVariants as statements
-use Rattle.fmp_statements.specs.Faults.{Fault, fault_at, fault_in, ◌>>=◌}
+use Rattle.fmp_statements.specs.Faults.{Fault, fault_at, fault_in}
 use Rattle.fmp_statements.specs.Forms.{Form}
 use Rattle.fmp_statements.specs.Pieces.{Pieces}
 use Rattle.fmp_statements.specs.Words.{Word}

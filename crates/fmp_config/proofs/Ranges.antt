@@ -2,6 +2,7 @@
 use Rattle.std.proofs.Common.{◌≡◌, ℕ, ◌≤◌, true, Option, Some, None, Ok, Err, if◌then◌else◌, arith, subst}
 use Rattle.std.specs.Prelude.{nat_le}
 use Rattle.std.proofs.lemmas.Bool.{and_parts, leb-true}
+use Rattle.fmp_bytes.specs.Results.{◌>>=◌}
 use Rattle.fmp_calls.specs.declared.kinds.ObjectKind.{ObjectKind}
 use Rattle.fmp_calls.specs.declared.kinds.ObjectKind.TheVariants as objects
 use Rattle.fmp_names.specs.Names.{NameLists}
@@ -9,7 +10,7 @@ use Rattle.fmp_statements.specs.declared.fault.ConfigKind.TheVariants.{OutOfRang
 use Rattle.fmp_statements.specs.declared.table.Range.{Range}
 use Rattle.fmp_statements.specs.declared.table.StatementName.{StatementName}
 use Rattle.fmp_statements.specs.declared.table.StatementName.TheVariants as statements
-use Rattle.fmp_statements.specs.Faults.{fault_at, ◌>>=◌}
+use Rattle.fmp_statements.specs.Faults.{fault_at}
 use Rattle.fmp_statements.specs.Pieces.{Pieces}
 use Rattle.fmp_statements.specs.Table.{first_range, second_range}
 use Rattle.fmp_statements.specs.Words.{Word}

@@ -1,6 +1,7 @@
 -- What a whole statement or directive says, or its first fault.
 use Rattle.std.specs.Prelude.{ℕ, true, length, Some, Result, Ok, Err, nat_lt, ◌==◌, if◌then◌else◌}
 use Rattle.std.specs.Option.{ok_or, option_map_or}
+use Rattle.fmp_bytes.specs.Results.{◌>>=◌}
 use Rattle.fmp_codes.specs.Numbers.{as_proc}
 use Rattle.fmp_names.specs.Names.{number_defined, has_room_to_define}
 use Rattle.fmp_statements.specs.declared.directive.Directive.{Directive}
@@ -8,7 +9,7 @@ use Rattle.fmp_statements.specs.declared.directive.Directive.TheVariants as dire
 use Rattle.fmp_statements.specs.declared.fault.ConfigKind.TheVariants.{Syntax, UnknownClass, NameTaken}
 use Rattle.fmp_statements.specs.declared.table.StatementName.{StatementName}
 use Rattle.fmp_statements.specs.declared.table.StatementName.TheVariants as statements
-use Rattle.fmp_statements.specs.Faults.{Fault, fault_at, fault_of_line, ◌>>=◌}
+use Rattle.fmp_statements.specs.Faults.{Fault, fault_at, fault_of_line}
 use Rattle.fmp_statements.specs.Forms.{Form}
 use Rattle.fmp_statements.specs.Words.{Word}
 use Rattle.fmp_config.specs.declared.draft.Phase.TheVariants as phases

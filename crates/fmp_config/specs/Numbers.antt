@@ -1,13 +1,14 @@
 -- The numbers of a statement, and classes.
 use Rattle.std.specs.Prelude.{◌≡◌, ℕ, ◌≤◌, ◌-◌, Bool, true, false, ◌&&◌, List, replicate, slice_set, nat_le, Option, Some, None, Result, Ok, Err, if◌then◌else◌}
 use Rattle.std.specs.Option.{ok_or, option_or}
+use Rattle.fmp_bytes.specs.Results.{◌>>=◌}
 use Rattle.fmp_codes.specs.Numbers.{as_proc}
 use Rattle.fmp_codes.specs.declared.numbers.Proc.{Proc}
 use Rattle.fmp_names.specs.Names.{NameLists, number_defined}
 use Rattle.fmp_statements.specs.declared.fault.ConfigKind.TheVariants.{OutOfRange, BadClass}
 use Rattle.fmp_statements.specs.declared.table.Range.{Range}
 use Rattle.fmp_statements.specs.declared.table.StatementName.{StatementName}
-use Rattle.fmp_statements.specs.Faults.{Fault, fault_at, fault_in, ◌>>=◌}
+use Rattle.fmp_statements.specs.Faults.{Fault, fault_at, fault_in}
 use Rattle.fmp_statements.specs.Folds.{each}
 use Rattle.fmp_statements.specs.Numbers.{numeral}
 use Rattle.fmp_statements.specs.Pieces.{Pieces}

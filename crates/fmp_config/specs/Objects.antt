@@ -1,6 +1,7 @@
 -- A name that is to be new, and what the statement of an object says, or its first fault.
 use Rattle.std.specs.Prelude.{ℕ, Bool, true, false, not, ◌&&◌, List, [], ◌∷◌, Result, Ok, Err, nat_le, if◌then◌else◌}
 use Rattle.std.specs.Option.{option_map_or}
+use Rattle.fmp_bytes.specs.Results.{◌>>=◌}
 use Rattle.fmp_codes.specs.Numbers.{as_pri}
 use Rattle.fmp_codes.specs.declared.numbers.Proc.{Proc}
 use Rattle.fmp_calls.specs.declared.kinds.NameKind.TheVariants.{Object}
@@ -11,7 +12,7 @@ use Rattle.fmp_statements.specs.declared.attributes.Attributes.{Attributes}
 use Rattle.fmp_statements.specs.declared.fault.ConfigKind.TheVariants.{OutsideClass, NameTaken, OutOfRange, TooMany, ForeignHandler}
 use Rattle.fmp_statements.specs.declared.table.StatementName.TheVariants as statements
 use Rattle.fmp_statements.specs.Attributes.{attributes_in}
-use Rattle.fmp_statements.specs.Faults.{Fault, fault_at, fault_in, fault_of_line, ◌>>=◌}
+use Rattle.fmp_statements.specs.Faults.{Fault, fault_at, fault_in, fault_of_line}
 use Rattle.fmp_statements.specs.Forms.{Form}
 use Rattle.fmp_statements.specs.Table.{allowed_of}
 use Rattle.fmp_statements.specs.Words.{Word}

@@ -2,6 +2,7 @@
 use Rattle.std.specs.Prelude.{ℕ, Bool, ◌&&◌, List, length, Option, Some, None, is_some, Result, Ok, Err, nat_lt, if◌then◌else◌}
 use Rattle.std.specs.Option.{ok_or, option_map_or}
 use Rattle.fmp_bytes.specs.Bytes.{close_brace}
+use Rattle.fmp_bytes.specs.Results.{◌>>=◌}
 use Rattle.fmp_tokens.specs.Lexing.{Lexeme, Lexed, lexed_text}
 use Rattle.fmp_tokens.specs.declared.tokens.End.{End}
 use Rattle.fmp_tokens.specs.declared.tokens.End.TheVariants as ends
@@ -10,7 +11,7 @@ use Rattle.fmp_statements.specs.declared.directive.Directive.TheVariants as dire
 use Rattle.fmp_statements.specs.declared.fault.ConfigKind.TheVariants as faults
 use Rattle.fmp_statements.specs.declared.table.StatementName.{StatementName}
 use Rattle.fmp_statements.specs.Directives.{next_directive}
-use Rattle.fmp_statements.specs.Faults.{Fault, fault_at, fault_of_line, ◌>>=◌}
+use Rattle.fmp_statements.specs.Faults.{Fault, fault_at, fault_of_line}
 use Rattle.fmp_statements.specs.Folds.{each}
 use Rattle.fmp_statements.specs.Forms.{Form, begun, form_step, is_complete}
 use Rattle.fmp_statements.specs.Parts.{depth_of}

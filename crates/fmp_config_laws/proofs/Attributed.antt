@@ -4,6 +4,7 @@ use Rattle.std.specs.Str.{bytes_eq}
 use Rattle.std.proofs.lemmas.Bool.{cases_Bool, false≢true}
 use Rattle.std.proofs.lemmas.List.Elements.{All-nil, All-cons, All-head, All-tail}
 use Rattle.std.proofs.lemmas.Slice.Eq.{bytes_eq-Decides}
+use Rattle.fmp_bytes.proofs.Parsed.{ok_or_parts, some_is, bind_parts}
 use Rattle.fmp_calls.proofs.Found.{found_passes}
 use Rattle.fmp_statements.specs.declared.attributes.Attribute.{Attribute}
 use Rattle.fmp_statements.specs.declared.attributes.Attribute.TheVariants.{Null, Activate, Start, InOrder, ByPriority, Single, Many, Clear}
@@ -14,7 +15,7 @@ use Rattle.fmp_statements.specs.Faults.{fault_at}
 use Rattle.fmp_statements.specs.Folds.{each}
 use Rattle.fmp_statements.specs.Words.{Word}
 use Rattle.fmp_config_laws.specs.Meaning.{together}
-use Rattle.fmp_config_laws.proofs.Results.{none_is, some_is, ok_is, bind_parts, ok_or_parts, each-cons, each_parts, each-none}
+use Rattle.fmp_config_laws.proofs.Results.{none_is, ok_is, each-cons, each_parts, each-none}
 
 -- the attribute of a text
 abbrev pub named : List ℕ → Option Attribute

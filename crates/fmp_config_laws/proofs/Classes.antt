@@ -4,6 +4,8 @@ use Rattle.std.specs.Prelude.{slice_set, replicate}
 use Rattle.std.specs.List.{list_all, list_any, AllByRecursion}
 use Rattle.std.specs.Option.{ok_or}
 use Rattle.std.proofs.lemmas.Bool.{and_parts, and_from, leb-true}
+use Rattle.std.proofs.lemmas.Option.{cond_some}
+use Rattle.fmp_bytes.proofs.Parsed.{ok_or_parts, tested_ok, bind_parts}
 use Rattle.fmp_codes.specs.Numbers.{as_proc}
 use Rattle.fmp_codes.specs.declared.numbers.Proc.{Proc}
 use Rattle.fmp_statements.specs.declared.fault.ConfigKind.TheVariants.{BadClass}
@@ -17,7 +19,7 @@ use Rattle.fmp_setup.specs.Setup.{Setup}
 use Rattle.fmp_setup.specs.Valid.{is_class_of}
 use Rattle.fmp_config_laws.specs.Stages.{SpellsNumber, SpellNumbers, is_processor}
 use Rattle.fmp_config_laws.specs.Meaning.{members_of}
-use Rattle.fmp_config_laws.proofs.Results.{ok_is, bind_parts, passed, ok_or_parts, tested_some, each-cons, each_parts, each-none}
+use Rattle.fmp_config_laws.proofs.Results.{ok_is, each-cons, each_parts, each-none}
 use Rattle.fmp_config_laws.proofs.Numerals.{AreNames, is_signed, most_numeral, value_at-spelled, value_at_is_spelled}
 use Rattle.fmp_config_laws.proofs.Members.{marked, same_place, marked-members, class-begins}
 
@@ -41,7 +43,7 @@ module _ (c : Setup) (few : c.processors ≤ 8) (named : AreNames c.names) where
   unfolding processor_at numbered_processor
   processor_at_is_spelled line word p e unsigned =
       let q = bind_parts (value_at c.names word) (λ n. ok_or (numbered_processor c.processors n) (fault_in BadClass line word)) p e in
-      let t = tested_some (is_processor c.processors q.0) (as_proc q.0) p (ok_or_parts (numbered_processor c.processors q.0) (fault_in BadClass line word) p q.2) in
+      let t = cond_some (is_processor c.processors q.0) (as_proc q.0) p (ok_or_parts (numbered_processor c.processors q.0) (fault_in BadClass line word) p q.2) in
       (q.0, value_at_is_spelled c.names named word q.0 q.1 unsigned (small q.0 t.0), t.0, t.1)
 
   -- ---- a list of them
@@ -119,7 +121,7 @@ module _ (c : Setup) (few : c.processors ≤ 8) (named : AreNames c.names) where
       let b = bind_parts (each (number_step c) tt pieces.series) _ found a.2 in
       let i = bind_parts (processor_at c line pieces.first) _ found b.2 in
       let m = bind_parts (each (member_step c line) (replicate 8 false) pieces.series) _ found i.2 in
-      let t = passed (is_class_of c.processors (record { initial = i.0; members = m.0 })) (Ok (record { initial = i.0; members = m.0 })) (fault_in BadClass line pieces.first) found m.2 in
+      let t = tested_ok (is_class_of c.processors (record { initial = i.0; members = m.0 })) (Ok (record { initial = i.0; members = m.0 })) (fault_in BadClass line pieces.first) found m.2 in
       let n = processor_at_is_spelled line pieces.first i.0 i.1 unsigned in
       let l = members_are_spelled line pieces.series (replicate 8 false) m.0 m.1 all_unsigned in
       let listed : members_of l.0 ≡ m.0 = sym (marked-members c.processors l.0 few l.2) ∙ l.3 in

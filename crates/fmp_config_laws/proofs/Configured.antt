@@ -3,6 +3,7 @@ use Rattle.std.proofs.Common.{◌≡◌, ℕ, ◌≤◌, true, false, ltb, cond,
 use Rattle.std.specs.List.{list_all}
 use Rattle.std.specs.Option.{option_map_or}
 use Rattle.std.proofs.lemmas.Bool.{le-ltb}
+use Rattle.fmp_bytes.proofs.Parsed.{bind_parts}
 use Rattle.fmp_tokens.specs.declared.tokens.End.{End}
 use Rattle.fmp_tokens.specs.declared.tokens.End.TheVariants.{Done, Bad, CutShort}
 use Rattle.fmp_tokens.specs.Lexing.{Lexeme, lexed_text}
@@ -22,7 +23,7 @@ use Rattle.fmp_token_laws.proofs.Spelled.{tokens_are_spelled}
 use Rattle.fmp_config_laws.specs.Elements.{SpellsElements}
 use Rattle.fmp_config_laws.specs.Grammar.{Configures}
 use Rattle.fmp_config_laws.specs.Stages.{Stage}
-use Rattle.fmp_config_laws.proofs.Results.{ok_is, err_is, bind_parts, refused, none_is}
+use Rattle.fmp_config_laws.proofs.Results.{ok_is, err_is, refused, none_is}
 use Rattle.fmp_config_laws.proofs.Numerals.{AreNames}
 use Rattle.fmp_config_laws.proofs.Stages.{stage_of, IsBounded}
 use Rattle.fmp_config_laws.proofs.Glyphs.{is_glyph}

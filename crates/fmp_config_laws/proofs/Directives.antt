@@ -6,7 +6,9 @@ use Rattle.std.specs.Option.{option_map_or}
 use Rattle.std.specs.Str.{bytes_eq}
 use Rattle.std.proofs.lemmas.Bool.{cases_Bool, false≢true, and_parts, leb-true, le-leb}
 use Rattle.std.proofs.lemmas.Slice.Eq.{bytes_eq-Decides}
+use Rattle.std.proofs.lemmas.Option.{cond_some}
 use Rattle.fmp_bytes.specs.Spelling.{SpellsUnsigned}
+use Rattle.fmp_bytes.proofs.Parsed.{and_then_parts, tested_ok}
 use Rattle.fmp_names.specs.Names.{is_name}
 use Rattle.fmp_tokens.specs.declared.tokens.TokenKind.{TokenKind}
 use Rattle.fmp_tokens.specs.declared.tokens.TokenKind.TheVariants as kinds
@@ -21,7 +23,7 @@ use Rattle.fmp_statements.specs.Numbers.{numeral}
 use Rattle.fmp_statements.specs.Words.{Word, word_of, is_identifier_kind}
 use Rattle.fmp_token_laws.specs.Tokens.{Glyph, glyph_of}
 use Rattle.fmp_config_laws.specs.Elements.{identifier, Defines, Skips, Included, Undefined}
-use Rattle.fmp_config_laws.proofs.Results.{ok_is, passed, and_then_parts, tested_some, each-cons, each_parts, each-none}
+use Rattle.fmp_config_laws.proofs.Results.{ok_is, each-cons, each_parts, each-none}
 use Rattle.fmp_config_laws.proofs.Numerals.{numeral-spelled, numeral_is_spelled}
 use Rattle.fmp_config_laws.proofs.Glyphs.{is_glyph, glyph_unsigned}
 
@@ -35,7 +37,7 @@ defined_number_is_spelled : (t : Lexeme) (n : ℕ) → is_glyph (glyph_of t) ≡
 unfolding defined_number
 defined_number_is_spelled t n is e =
     let p = and_then_parts (numeral t.text) (λ n. cond (leb n 4294967295) (Some n) None) n e in
-    let q = tested_some (leb p.0 4294967295) p.0 n p.2 in
+    let q = cond_some (leb p.0 4294967295) p.0 n p.2 in
     let most : n ≤ 4294967295 = (let low = leb-true p.0 4294967295 q.0 in let same = q.1 in omega (arith, low, same)) in
     (numeral_is_spelled t.text n (glyph_unsigned (glyph_of t) is) (p.1 ∙ ap (λ (x : ℕ). Some x) q.1) (omega (arith, most)), most)
 
@@ -84,11 +86,11 @@ Begins line t next = ((glyph_of t ≡ identifier (codes "include")) × (Skipped 
 pub begun : (line : ℕ) (t : Lexeme) (next : Directive) → named line t ≡ Ok next → Begins line t next
 unfolding named
 begun line t next e =
-    let p = passed (is_identifier_kind t.kind) (cond (bytes_eq t.text (codes "include")) (Ok Skipped) (cond (bytes_eq t.text (codes "define")) (Ok (Naming line)) (Err (unknown_directive line t.text)))) (fault_of_line Syntax line) next e in
+    let p = tested_ok (is_identifier_kind t.kind) (cond (bytes_eq t.text (codes "include")) (Ok Skipped) (cond (bytes_eq t.text (codes "define")) (Ok (Naming line)) (Err (unknown_directive line t.text)))) (fault_of_line Syntax line) next e in
     elim (cases_Bool (bytes_eq t.text (codes "include"))) [
       | inl found_so ↦ inl (identifier_is t (codes "include") p.0 ((bytes_eq-Decides t.text (codes "include")).0 found_so), ok_is Skipped next (rw found_so at p.1))
       | inr other ↦
-          let q = passed (bytes_eq t.text (codes "define")) (Ok (Naming line)) (unknown_directive line t.text) next (rw other at p.1) in
+          let q = tested_ok (bytes_eq t.text (codes "define")) (Ok (Naming line)) (unknown_directive line t.text) next (rw other at p.1) in
           inr (identifier_is t (codes "define") p.0 ((bytes_eq-Decides t.text (codes "define")).0 q.0), ok_is (Naming line) next q.1)
     ]
 

@@ -2,13 +2,14 @@
 use Rattle.std.proofs.Common.{◌≡◌, ℕ, true, inl, inr, List, [], ◌∷◌, ◌++◌, map, Option, Result, Ok, refl, sym, ap, subst, ◌∙◌, append_assoc}
 use Rattle.std.specs.List.{list_all}
 use Rattle.std.proofs.lemmas.Bool.{and_parts, and_from}
+use Rattle.fmp_bytes.specs.Results.{◌>>=◌}
 use Rattle.fmp_names.specs.Names.{is_name}
 use Rattle.fmp_tokens.specs.declared.tokens.TokenKind.TheVariants as kinds
 use Rattle.fmp_tokens.specs.Lexing.{Lexeme}
 use Rattle.fmp_statements.specs.declared.directive.Directive.{Directive}
 use Rattle.fmp_statements.specs.declared.directive.Directive.TheVariants as directives
 use Rattle.fmp_statements.specs.Directives.{next_directive}
-use Rattle.fmp_statements.specs.Faults.{Fault, ◌>>=◌}
+use Rattle.fmp_statements.specs.Faults.{Fault}
 use Rattle.fmp_statements.specs.Folds.{each}
 use Rattle.fmp_statements.specs.Forms.{Form}
 use Rattle.fmp_statements.specs.Words.{Word}

@@ -2,12 +2,14 @@
 use Rattle.std.proofs.Common.{◌≡◌, ℕ, ◌≤◌, ◌⊎◌, Bool, true, false, cond, ltb, inl, inr, List, [], ◌∷◌, ◌++◌, length, Option, Some, None, Result, Ok, Err, refl, sym, ap, ◌∙◌}
 use Rattle.std.specs.Option.{option_map_or}
 use Rattle.std.proofs.lemmas.Bool.{le-ltb, ltb-true, ltb-false}
+use Rattle.fmp_bytes.specs.Results.{◌>>=◌}
+use Rattle.fmp_bytes.proofs.Parsed.{bind_parts}
 use Rattle.fmp_config.specs.declared.draft.OpenClass.{OpenClass}
 use Rattle.fmp_config.specs.Drafts.{Draft, is_start}
 use Rattle.fmp_config.specs.Limits.{most_bytes}
 use Rattle.fmp_config.specs.Reading.{State, at_start, take_token, closed, finished, setup_in, config_in}
 use Rattle.fmp_setup.specs.Setup.{Setup}
-use Rattle.fmp_statements.specs.Faults.{Fault, fault_of_line, ◌>>=◌}
+use Rattle.fmp_statements.specs.Faults.{Fault, fault_of_line}
 use Rattle.fmp_statements.specs.Folds.{each}
 use Rattle.fmp_statements.specs.Forms.{Form}
 use Rattle.fmp_statements.specs.declared.fault.ConfigKind.TheVariants as faults
@@ -17,7 +19,7 @@ use Rattle.fmp_tokens.specs.declared.tokens.End.TheVariants.{Bad, CutShort, Done
 use Rattle.fmp_token_laws.proofs.Cuts.{cut_before}
 use Rattle.fmp_config_laws.specs.FirstFaults.{IsOfEnd, HaveNoFault, FaultAtToken, FirstFault}
 use Rattle.fmp_config_laws.proofs.Configured.{setup_read}
-use Rattle.fmp_config_laws.proofs.Results.{bind_parts, each-append, each-cons, each-none}
+use Rattle.fmp_config_laws.proofs.Results.{each-append, each-cons, each-none}
 
 same_fault : (a b : Fault) → ◌≡◌ {A = Result Setup Fault} (Err a) (Err b) → a ≡ b
 same_fault a b e = cc

@@ -3,6 +3,7 @@ use Rattle.std.proofs.Common.{◌≡◌, ℕ, true, List, [], ◌∷◌, ◌++�
 use Rattle.std.specs.Prelude.{codes}
 use Rattle.std.specs.List.{list_all}
 use Rattle.std.proofs.lemmas.Bool.{false≢true, and_parts}
+use Rattle.fmp_bytes.proofs.Parsed.{bind_parts}
 use Rattle.fmp_names.specs.Names.{is_name}
 use Rattle.fmp_tokens.specs.declared.tokens.TokenKind.{TokenKind}
 use Rattle.fmp_tokens.specs.declared.tokens.TokenKind.TheVariants as kinds
@@ -15,7 +16,7 @@ use Rattle.fmp_config.specs.Judging.{define}
 use Rattle.fmp_config.specs.Reading.{State, take_token}
 use Rattle.fmp_token_laws.specs.Tokens.{Glyph, glyph_of}
 use Rattle.fmp_config_laws.specs.Elements.{Element, Plain, Defined, Skipped, is_plain, identifier, directive_of, Defines, Skips, SpellsElements}
-use Rattle.fmp_config_laws.proofs.Results.{ok_is, bind_parts, each-cons, each_parts, each-none}
+use Rattle.fmp_config_laws.proofs.Results.{ok_is, each-cons, each_parts, each-none}
 use Rattle.fmp_config_laws.proofs.Numerals.{no_bytes, name_some}
 use Rattle.fmp_config_laws.proofs.Glyphs.{is_glyph}
 use Rattle.fmp_config_laws.proofs.Nesting.{IsWhole}

@@ -3,11 +3,10 @@ use Rattle.std.proofs.Common.{◌≡◌, ℕ, Bool, true, false, not, ◌&&◌, 
 use Rattle.std.specs.Prelude.{codes}
 use Rattle.std.specs.List.{list_all}
 use Rattle.std.specs.Str.{bytes_eq}
-use Rattle.std.proofs.lemmas.Bool.{cases_Bool, false≢true, eqb-true, eq-eqb, and_parts}
+use Rattle.std.proofs.lemmas.Bool.{cases_Bool, false≢true, eqb-true, eq-eqb, and_parts, not-true}
 use Rattle.std.proofs.lemmas.Bool.Decides.{nat_tests}
 use Rattle.std.proofs.lemmas.Slice.Eq.{bytes_eq-Decides}
 use Rattle.fmp_bytes.specs.declared.classes.Class.TheVariants.{Word, Letter, Digit}
-use Rattle.fmp_bytes.proofs.Prefixes.{not_true}
 use Rattle.fmp_bytes.specs.Bytes.{is_of, is_identifier}
 use Rattle.fmp_tokens.specs.declared.tokens.TokenKind.{TokenKind}
 use Rattle.fmp_tokens.specs.declared.tokens.TokenKind.TheVariants.{Identifier, Digits, Symbol, Text, Directive, DirectiveEnd}
@@ -16,6 +15,7 @@ use Rattle.fmp_statements.specs.Parts.{is_barred}
 use Rattle.fmp_statements.specs.Words.{is_one, is_mark, is_symbol_kind}
 use Rattle.fmp_token_laws.specs.Parts.{is_empty, is_number}
 use Rattle.fmp_token_laws.specs.Tokens.{Glyph, glyph_of}
+use Rattle.fmp_token_laws.proofs.Bytes.{word_no_letter}
 use Rattle.fmp_config_laws.specs.Elements.{symbol}
 use Rattle.fmp_config_laws.specs.Phrases.{may_be_free}
 use Rattle.fmp_config_laws.proofs.Numerals.{is_signed}
@@ -43,10 +43,6 @@ abbrev pub is_glyph : Glyph → Bool
 is_glyph g = is_spelled g.kind g.text
 
 -- ---- bytes
-
-letter_word : (b : ℕ) → is_of Word b ≡ false → is_of Letter b ≡ false
-unfolding is_of
-letter_word b word = grind (arith, nat_tests)
 
 minus_letter : (b : ℕ) → is_of Letter b ≡ true → eqb b 45 ≡ false
 unfolding is_of
@@ -165,7 +161,7 @@ spelled_barred Digits (b ∷ bytes) line is =
     rw (x, y, letter) refl
 spelled_barred Symbol [] line is = absurd (false≢true is)
 spelled_barred Symbol (b ∷ []) line is =
-    let letter = letter_word b (not_true (is_of Word b) is) in
+    let letter = word_no_letter b (not-true (is_of Word b) is) in
     rw letter (barred_symbol (b ∷ []))
 spelled_barred Symbol (b ∷ c ∷ bytes) line is = absurd (false≢true is)
 spelled_barred Text [] line is = refl

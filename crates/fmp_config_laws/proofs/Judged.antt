@@ -2,14 +2,16 @@
 use Rattle.std.proofs.Common.{◌≡◌, ℕ, Bool, true, false, eqb, cond, inl, inr, Option, Some, None, option_map, Result, Ok, Err, refl, sym, ap, ◌∙◌}
 use Rattle.std.specs.Option.{option_map_or}
 use Rattle.std.proofs.lemmas.Bool.{eq-eqb, eqb-true}
+use Rattle.fmp_bytes.proofs.Parsed.{tested_ok, some_is, bind_parts}
+use Rattle.fmp_bytes.specs.Results.{◌>>=◌}
 use Rattle.fmp_calls.specs.declared.kinds.NameKind.TheVariants.{Object}
 use Rattle.fmp_calls.specs.declared.kinds.ObjectKind.{ObjectKind}
 use Rattle.fmp_names.specs.Names.{number_defined, has_room, has_room_to_define}
-use Rattle.fmp_statements.specs.declared.fault.ConfigKind.TheVariants.{NameTaken, OutOfRange, OutsideClass, TooMany, ForeignHandler}
+use Rattle.fmp_statements.specs.declared.fault.ConfigKind.TheVariants.{NameTaken, OutOfRange, OutsideClass, ForeignHandler}
 use Rattle.fmp_statements.specs.declared.table.StatementName.TheVariants as statements
 use Rattle.fmp_statements.specs.declared.attributes.Attributes.{Attributes}
 use Rattle.fmp_statements.specs.Attributes.{no_attributes, attributes_in}
-use Rattle.fmp_statements.specs.Faults.{Fault, fault_at, fault_in, fault_of_line, ◌>>=◌}
+use Rattle.fmp_statements.specs.Faults.{Fault, fault_at, fault_in, fault_of_line}
 use Rattle.fmp_statements.specs.Forms.{Form}
 use Rattle.fmp_statements.specs.Table.{allowed_of}
 use Rattle.fmp_statements.specs.Words.{Word}
@@ -19,6 +21,7 @@ use Rattle.fmp_config.specs.Drafts.{Draft}
 use Rattle.fmp_config.specs.Objects.{new_name, fitting_counts, counts_fit, is_handled, served, fields_of, fields_in, create_in, create}
 use Rattle.fmp_config.specs.Judging.{define}
 use Rattle.fmp_config.specs.Numbers.{numbers_of}
+use Rattle.fmp_config.proofs.Defined.{new_and_room}
 use Rattle.fmp_setup.specs.declared.parts.Fields.{Fields}
 use Rattle.fmp_setup.specs.declared.setup.Class.{Class}
 use Rattle.fmp_setup.specs.declared.setup.Timer.{Timer}
@@ -26,7 +29,7 @@ use Rattle.fmp_setup.specs.Building.{is_refused, with_object, with_defined}
 use Rattle.fmp_setup.specs.Setup.{Setup}
 use Rattle.fmp_config_laws.specs.Stages.{Stage, Adds}
 use Rattle.fmp_config_laws.specs.Meaning.{CreatesObject, together}
-use Rattle.fmp_config_laws.proofs.Results.{some_is, none_is, ok_is, err_is, bind_parts, passed, refused}
+use Rattle.fmp_config_laws.proofs.Results.{none_is, ok_is, err_is}
 use Rattle.fmp_config_laws.proofs.Attributed.{attributes_in-spelled, attributes_are_spelled}
 use Rattle.fmp_config_laws.proofs.Stages.{phrase_of, stage_of, AreUnsigned, IsBounded, numbers_of-spelled, numbers_read, first_small, second_small}
 
@@ -39,12 +42,6 @@ LeadsTo read next = (d : Draft) × (read ≡ Ok d) × (next ≡ stage_of d)
 pub new_name-is : (c : Setup) (room : Bool) (line : ℕ) (name : Word) → is_refused c name.text ≡ false → room ≡ true → new_name c room line name ≡ Ok tt
 unfolding new_name
 new_name-is c room line name free more = rw (free, more) refl
-
-pub new_name_parts : (c : Setup) (room : Bool) (line : ℕ) (name : Word) → new_name c room line name ≡ Ok tt → (is_refused c name.text ≡ false) × (room ≡ true)
-unfolding new_name
-new_name_parts c room line name e =
-    let p = refused (is_refused c name.text) (cond room (Ok tt) (Err (fault_in TooMany line name))) (fault_at NameTaken name) tt e in
-    (p.0, (passed room (Ok tt) (fault_in TooMany line name) tt p.1).0)
 
 -- ---- definitions
 
@@ -64,10 +61,10 @@ defined_parts : (d after : Draft) (line : ℕ) (word : Word) (number : ℕ) (fou
     → Adds (stage_of d) (record { name = word.text; number = number }) (stage_of after)
 defined_parts d after line word number None none e =
     let p = bind_parts (new_name d.setup (has_room_to_define d.setup.names) line word) (λ unit. Ok (record d { setup = with_defined d.setup word.text number })) after e in
-    let fresh = new_name_parts d.setup (has_room_to_define d.setup.names) line word p.1 in
+    let fresh = new_and_room d.setup (has_room_to_define d.setup.names) line word p.1 in
     inr (none, fresh.0, fresh.1, ap stage_of (sym (ok_is (record d { setup = with_defined d.setup word.text number }) after p.2)))
 defined_parts d after line word number (Some n) found e =
-    let p = passed (eqb n number) (Ok d) (fault_at NameTaken word) after e in
+    let p = tested_ok (eqb n number) (Ok d) (fault_at NameTaken word) after e in
     inl (found ∙ ap (λ (x : ℕ). Some x) (eqb-true n number p.0), ap stage_of (sym (ok_is d after p.1)))
 
 pub defined_adds : (d after : Draft) (line : ℕ) (word : Word) (number : ℕ) → define d line word number ≡ Ok after → Adds (stage_of d) (record { name = word.text; number = number }) (stage_of after)
@@ -82,7 +79,7 @@ fitting-is kind n first fits = rw fits refl
 
 fitting_parts : (kind : ObjectKind) (n : Numbers) (first : Word) → fitting_counts kind n first ≡ Ok tt → counts_fit kind n ≡ true
 unfolding fitting_counts
-fitting_parts kind n first e = (passed (counts_fit kind n) (Ok tt) (fault_at OutOfRange first) tt e).0
+fitting_parts kind n first e = (tested_ok (counts_fit kind n) (Ok tt) (fault_at OutOfRange first) tt e).0
 
 served-is : (t : Timer) (class : Class) (kind : ObjectKind) (line : ℕ) (name : Word) → is_handled t class kind ≡ true → served t class kind line name ≡ Ok tt
 unfolding served
@@ -90,7 +87,7 @@ served-is t class kind line name handled = rw handled refl
 
 served_parts : (t : Timer) (class : Class) (kind : ObjectKind) (line : ℕ) (name : Word) → served t class kind line name ≡ Ok tt → is_handled t class kind ≡ true
 unfolding served
-served_parts t class kind line name e = (passed (is_handled t class kind) (Ok tt) (fault_in ForeignHandler line name) tt e).0
+served_parts t class kind line name e = (tested_ok (is_handled t class kind) (Ok tt) (fault_in ForeignHandler line name) tt e).0
 
 class_of_open : (open_class : Option OpenClass) (class : Class) → option_map (λ o. o.class) open_class ≡ Some class → (o : OpenClass) × (open_class ≡ Some o) × (o.class ≡ class)
 class_of_open None class e = absurd (none_is class e)
@@ -125,7 +122,7 @@ module _ (d : Draft) (kind : ObjectKind) (f : Form) where
       let attributes = bind_parts (attributes_in (allowed_of kind) f.pieces.series) _ w.0 own.2 in
       let n = bind_parts (numbers_of c (statements.Create kind) f.pieces) _ w.0 attributes.2 in
       let fit = bind_parts (fitting_counts kind n.0 f.pieces.first) _ w.0 n.2 in
-      let fresh = new_name_parts c (has_room c.names (Object kind)) f.line f.pieces.name new.1 in
+      let fresh = new_and_room c (has_room c.names (Object kind)) f.line f.pieces.name new.1 in
       let said = attributes_are_spelled (allowed_of kind) f.pieces.series attributes.0 attributes.1 in
       let read = numbers_read c bounded.named (statements.Create kind) f.pieces n.0 n.1 unsigned in
       let counts = fitting_parts kind n.0 f.pieces.first fit.1 in

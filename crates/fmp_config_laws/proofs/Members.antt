@@ -1,8 +1,9 @@
 -- The members of a class, one after the other or all at once.
-use Rattle.std.proofs.Common.{◌≡◌, ℕ, ◌-◌, ◌≤◌, ◌<◌, zero, suc, Bool, true, false, ◌||◌, ◌&&◌, eqb, leb, ltb, List, [], ◌∷◌, map, drop, refl, sym, ap, ◌∙◌, arith}
+use Rattle.std.proofs.Common.{◌≡◌, ℕ, ◌-◌, ◌≤◌, ◌<◌, zero, suc, Bool, true, false, ◌||◌, eqb, leb, ltb, List, [], ◌∷◌, map, drop, refl, sym, ap, ◌∙◌, arith}
 use Rattle.std.specs.Prelude.{slice_set, slice_index_or, replicate}
 use Rattle.std.specs.List.{list_all, list_any, drop-map}
 use Rattle.std.proofs.lemmas.Bool.{and_parts, leb-true, ltb-true, ne_eqb}
+use Rattle.std.proofs.Math.Bool.{or-false, and-true}
 use Rattle.fmp_codes.specs.Numbers.{as_proc}
 use Rattle.fmp_setup.specs.Valid.{is_class_of}
 use Rattle.fmp_config_laws.specs.Stages.{is_processor}
@@ -40,14 +41,10 @@ one_marked f (suc (suc (suc (suc (suc (suc (suc zero))))))) low high = refl
 one_marked f (suc (suc (suc (suc (suc (suc (suc (suc zero)))))))) low high = refl
 one_marked f (suc (suc (suc (suc (suc (suc (suc (suc (suc n))))))))) low high = absurd (omega (arith, high))
 
-or_nothing : (a : Bool) → (a || false) ≡ a
-or_nothing true = refl
-or_nothing false = refl
-
 or_order : (a b c : Bool) → (a || (b || c)) ≡ ((b || a) || c)
 or_order true true c = refl
 or_order true false c = refl
-or_order false b c = ap (λ (x : Bool). x || c) (sym (or_nothing b))
+or_order false b c = ap (λ (x : Bool). x || c) (sym (or-false b))
 
 all_marked : (processors : ℕ) → processors ≤ 8 → (numbers : List ℕ) (f : ℕ → Bool) → list_all (is_processor processors) numbers ≡ true → marked (tested f) numbers ≡ tested (λ p. list_any (λ n. eqb n p) numbers || f p)
 all_marked processors few [] f all = refl
@@ -63,7 +60,7 @@ all_marked processors few (n ∷ numbers) f all =
 pub marked-members : (processors : ℕ) (numbers : List ℕ) → processors ≤ 8 → list_all (is_processor processors) numbers ≡ true → marked (replicate 8 false) numbers ≡ members_of numbers
 marked-members processors numbers few all =
     all_marked processors few numbers (λ p. false) all
-    ∙ map_same (λ p. list_any (λ m. eqb m p) numbers || false) (λ p. list_any (λ m. eqb m p) numbers) (λ p. or_nothing (list_any (λ m. eqb m p) numbers)) (1 ∷ 2 ∷ 3 ∷ 4 ∷ 5 ∷ 6 ∷ 7 ∷ 8 ∷ [])
+    ∙ map_same (λ p. list_any (λ m. eqb m p) numbers || false) (λ p. list_any (λ m. eqb m p) numbers) (λ p. or-false (list_any (λ m. eqb m p) numbers)) (1 ∷ 2 ∷ 3 ∷ 4 ∷ 5 ∷ 6 ∷ 7 ∷ 8 ∷ [])
 
 -- ---- one of the members
 
@@ -107,10 +104,6 @@ past_last processors (n ∷ numbers) all p past =
     let other : eqb n p ≡ false = ne_eqb n p (λ e. omega (arith, e, high, past)) in
     rw other (past_last processors numbers each.1 p past)
 
-and_all : (a : Bool) → (a && true) ≡ a
-and_all true = refl
-and_all false = refl
-
 -- a class of processors of the machine is one of it exactly where it begins on one of them
 pub class-begins : (processors initial : ℕ) (numbers : List ℕ) → processors ≤ 8 → is_processor processors initial ≡ true → list_all (is_processor processors) numbers ≡ true
     → is_class_of processors (record { initial = as_proc initial; members = members_of numbers }) ≡ list_any (λ n. eqb n initial) numbers
@@ -123,4 +116,4 @@ class-begins processors initial numbers few is all =
     let member : slice_index_or (tested f) ((as_proc initial).number - 1) false ≡ f initial = ap (λ (i : ℕ). slice_index_or (tested f) i false) place ∙ tested_at f initial low (omega (arith, high, few)) in
     let past : list_any (λ m. m) (drop processors (tested f)) ≡ false =
     ap (list_any (λ m. m)) (drop-map f processors (1 ∷ 2 ∷ 3 ∷ 4 ∷ 5 ∷ 6 ∷ 7 ∷ 8 ∷ [])) ∙ none_tested f processors (past_last processors numbers all) (drop processors (1 ∷ 2 ∷ 3 ∷ 4 ∷ 5 ∷ 6 ∷ 7 ∷ 8 ∷ [])) (all_behind processors few) in
-    rw (member, past) (and_all (f initial))
+    rw (member, past) (and-true (f initial))

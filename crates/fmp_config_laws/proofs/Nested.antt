@@ -1,11 +1,13 @@
 -- Free fields: what the reader takes is balanced, and what is balanced it takes.
-use Rattle.std.proofs.Common.{◌≡◌, ℕ, ◌+◌, ◌-◌, ◌≤◌, ◌<◌, Bool, true, false, not, ◌&&◌, ◌⊎◌, cond, eqb, inl, inr, List, [], ◌∷◌, ◌++◌, length, Some, refl, sym, ap, subst, ◌∙◌, arith}
+use Rattle.std.proofs.Common.{◌≡◌, ℕ, ◌+◌, ◌-◌, ◌≤◌, ◌<◌, true, false, not, ◌⊎◌, cond, eqb, inl, inr, List, [], ◌∷◌, ◌++◌, length, Some, refl, sym, ap, subst, ◌∙◌, arith}
 use Rattle.std.specs.Prelude.{codes}
 use Rattle.std.specs.List.{list_all}
 use Rattle.std.specs.Str.{bytes_eq}
 use Rattle.std.proofs.lemmas.Bool.{cases_Bool, cases_eq, false≢true, eq-eqb, ne_eqb, and_parts, and_from}
 use Rattle.std.proofs.lemmas.List.Sums.{sum_by-cons}
+use Rattle.std.proofs.Math.Bool.{and-false}
 use Rattle.fmp_bytes.specs.Bytes.{is_of}
+use Rattle.fmp_bytes.proofs.Parsed.{some_is}
 use Rattle.fmp_names.specs.Names.{times}
 use Rattle.fmp_statements.specs.declared.parts.Scan.{Scan}
 use Rattle.fmp_statements.specs.declared.parts.Scan.TheVariants.{Free}
@@ -14,7 +16,7 @@ use Rattle.fmp_statements.specs.Words.{is_one, is_mark, is_symbol_kind}
 use Rattle.fmp_token_laws.specs.Tokens.{Glyph}
 use Rattle.fmp_config_laws.specs.Elements.{symbol}
 use Rattle.fmp_config_laws.specs.Phrases.{texts, may_be_free, IsFree}
-use Rattle.fmp_config_laws.proofs.Results.{some_is, none_is}
+use Rattle.fmp_config_laws.proofs.Results.{none_is}
 use Rattle.fmp_config_laws.proofs.Glyphs.{lexeme, is_glyph, cases_mark, lone_glyph, is_barred-is}
 
 abbrev pub opens : List Glyph → ℕ
@@ -107,12 +109,8 @@ pub record Plain (token : Glyph) : Type 0 where
 abbrev pub Sort : Glyph → Type 0
 Sort token = (token ≡ symbol 40) ⊎ ((token ≡ symbol 41) ⊎ ((token ≡ symbol 44) ⊎ Plain token))
 
-pub and_no : (a : Bool) → (a && false) ≡ false
-and_no true = refl
-and_no false = refl
-
 no_mark : (byte : ℕ) (token : Glyph) → is_one byte token.text ≡ false → is_mark byte (lexeme token 0) ≡ false
-no_mark byte token e = rw e (and_no (is_symbol_kind token.kind))
+no_mark byte token e = rw e (and-false (is_symbol_kind token.kind))
 
 sort : (token : Glyph) → is_glyph token ≡ true → Sort token
 unfolding is_of
@@ -144,7 +142,7 @@ Steps depth token line tokens = (behind : ℕ) × (next_free depth (lexeme token
 module _ (depth : ℕ) (line : ℕ) (tokens : List Glyph) where
   open_steps : Nested depth (symbol 40 ∷ tokens) → Steps depth (symbol 40) line tokens
   unfolding next_free is_barred is_stop is_of
-  open_steps s = let none = and_no (eqb depth 0) in (depth + 1, rw none refl, nested_behind depth (depth + 1) 1 0 (symbol 40) tokens (turns (symbol 40)) (omega arith) s)
+  open_steps s = let none = and-false (eqb depth 0) in (depth + 1, rw none refl, nested_behind depth (depth + 1) 1 0 (symbol 40) tokens (turns (symbol 40)) (omega arith) s)
 
   close_steps : Nested depth (symbol 41 ∷ tokens) → Steps depth (symbol 41) line tokens
   unfolding next_free is_barred is_stop is_of
@@ -163,7 +161,7 @@ module _ (depth : ℕ) (line : ℕ) (tokens : List Glyph) where
   plain_steps : (token : Glyph) → is_glyph token ≡ true → Plain token → Nested depth (token ∷ tokens) → Steps depth token line tokens
   unfolding next_free is_stop
   plain_steps token is plain s =
-      let none = and_no (eqb depth 0) in
+      let none = and-false (eqb depth 0) in
       let allowed = (and_parts (may_be_free token) (list_all may_be_free tokens) s.allowed).0 in
       let barred : is_barred (lexeme token line) ≡ false = is_barred-is token line is ∙ ap not allowed in
       let a = plain.not_open in let b = plain.not_close in let c = plain.not_comma in
@@ -192,7 +190,7 @@ module _ (depth : ℕ) (line : ℕ) (next : Scan) where
   open_stepped : GoesOn depth (symbol 40) line next
   unfolding next_free is_barred is_stop is_of
   open_stepped e =
-      let none = and_no (eqb depth 0) in
+      let none = and-false (eqb depth 0) in
       let e2 = rw none at e in
       let same : Free (depth + 1) true ≡ next = some_is _ next e2 in
       (depth + 1, sym same, λ tokens s. nested_before depth (depth + 1) 1 0 (symbol 40) tokens (turns (symbol 40)) (omega arith) refl (λ comma. absurd (differ 40 44 comma refl)) s)
@@ -224,7 +222,7 @@ module _ (depth : ℕ) (line : ℕ) (next : Scan) where
   plain_stepped : (token : Glyph) → is_glyph token ≡ true → Plain token → GoesOn depth token line next
   unfolding next_free is_stop
   plain_stepped token is plain e =
-      let none = and_no (eqb depth 0) in
+      let none = and-false (eqb depth 0) in
       let a = plain.not_open in let b = plain.not_close in let c = plain.not_comma in
       elim (cases_Bool (may_be_free token)) [
         | inl t ↦

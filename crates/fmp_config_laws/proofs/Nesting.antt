@@ -1,8 +1,7 @@
 -- The tokens of a text: those between the beginning and the end of a directive, and the others.
 use Rattle.std.proofs.Common.{◌≡◌, ℕ, Bool, true, false, not, ◌&&◌, ◌||◌, ◌⊎◌, cond, eqb, inl, inr, List, [], ◌∷◌, ◌++◌, map, flat_map, refl, sym, ap, subst, ◌∙◌}
-use Rattle.fmp_bytes.proofs.Prefixes.{not_true}
 use Rattle.std.specs.List.{list_all}
-use Rattle.std.proofs.lemmas.Bool.{cases_Bool, false≢true, and_parts, and_from}
+use Rattle.std.proofs.lemmas.Bool.{cases_Bool, false≢true, and_parts, and_from, not-true}
 use Rattle.fmp_bytes.specs.declared.classes.Class.TheVariants.{Space, Word}
 use Rattle.fmp_bytes.specs.Bytes.{is_of, is_identifier}
 use Rattle.fmp_tokens.specs.declared.modes.Place.{Place}
@@ -51,7 +50,7 @@ line_start places.Directive e = absurd (false≢true e)
 at_blank : (place : Place) (b : ℕ) → not (is_directive place && eqb b 10) ≡ true → is_directive (cond (eqb b 10) places.LineStart place) ≡ is_directive place
 at_blank places.LineStart b e = elim (cases_Bool (eqb b 10)) [ inl t ↦ rw t refl | inr f ↦ rw f refl ]
 at_blank places.Code b e = elim (cases_Bool (eqb b 10)) [ inl t ↦ rw t refl | inr f ↦ rw f refl ]
-at_blank places.Directive b e = let f = not_true (eqb b 10) e in rw f refl
+at_blank places.Directive b e = let f = not-true (eqb b 10) e in rw f refl
 
 same_place : (before after : Place) (glyphs : List Glyph) → is_directive after ≡ is_directive before → AreNested after glyphs → AreNested before glyphs
 same_place before after glyphs e n = (n.0, subst (λ (b : Bool). is_nested b glyphs ≡ true) e n.1)
@@ -70,10 +69,10 @@ part_nested place JoinedLine rest glyphs may n = n
 part_nested place (Identifier word) rest glyphs may n = one_more place (behind place) (record { kind = kinds.Identifier; text = word }) glyphs (and_parts (is_identifier word) _ may).0 refl (is_directive-behind place) n
 part_nested place (Digits word) rest glyphs may n = one_more place (behind place) (record { kind = kinds.Digits; text = word }) glyphs (and_parts (is_number word) _ may).0 refl (is_directive-behind place) n
 part_nested place (Symbol b) rest glyphs may n =
-    let alone = not_true (is_of Word b || opens_comment b rest) (and_parts (stands_alone place b rest) _ may).1 in
+    let alone = not-true (is_of Word b || opens_comment b rest) (and_parts (stands_alone place b rest) _ may).1 in
     let word : not (is_of Word b) ≡ true = (elim (cases_Bool (is_of Word b)) [ inl t ↦ absurd (false≢true (sym (rw t at alone))) | inr f ↦ rw f refl ]) in
     one_more place (behind place) (record { kind = kinds.Symbol; text = b ∷ [] }) glyphs word refl (is_directive-behind place) n
-part_nested place (Quoted inner) rest glyphs may n = one_more place places.Code (record { kind = kinds.Text; text = [] }) glyphs refl refl (sym (not_true (is_directive place) (and_parts (not (is_directive place)) _ may).0)) n
+part_nested place (Quoted inner) rest glyphs may n = one_more place places.Code (record { kind = kinds.Text; text = [] }) glyphs refl refl (sym (not-true (is_directive place) (and_parts (not (is_directive place)) _ may).0)) n
 part_nested place Hash rest glyphs may n = let e = line_start place may in one_more place places.Directive (record { kind = kinds.Directive; text = [] }) glyphs refl (rw e refl) refl n
 part_nested place LineEnd rest glyphs may n = one_more place places.LineStart (record { kind = kinds.DirectiveEnd; text = [] }) glyphs refl may refl n
 part_nested place TextEnd rest glyphs may n = one_more place places.LineStart (record { kind = kinds.DirectiveEnd; text = [] }) glyphs refl (and_parts (is_directive place) (is_empty rest) may).0 refl n

@@ -6,6 +6,7 @@ use Rattle.fmp_bytes.specs.Bytes.{behind, is_identifier}
 use Rattle.fmp_bytes.specs.Numerals.{number_of, unsigned_of, hexadecimal_of}
 use Rattle.fmp_bytes.specs.Spelling.{SpellsUnsigned, SpellsNumber as SpellsSigned}
 use Rattle.fmp_bytes.proofs.Spelled.{number_of-spelled, number_of-identifier, number_is_spelled}
+use Rattle.fmp_bytes.proofs.Parsed.{and_then_parts, ok_or_parts, tested_ok, some_is, bind_parts}
 use Rattle.fmp_names.specs.Names.{NameLists, is_name, number_defined}
 use Rattle.fmp_statements.specs.declared.fault.ConfigKind.TheVariants.{OutOfRange}
 use Rattle.fmp_statements.specs.declared.table.Range.{Range}
@@ -14,7 +15,7 @@ use Rattle.fmp_statements.specs.Numbers.{numeral}
 use Rattle.fmp_statements.specs.Words.{Word}
 use Rattle.fmp_config.specs.Numbers.{value_of, value_at, is_within, number_within, number_at}
 use Rattle.fmp_config_laws.specs.Stages.{SpellsNumber, SaysNumber}
-use Rattle.fmp_config_laws.proofs.Results.{none_is, some_is, bind_parts, passed, and_then_parts, ok_or_parts, ok_is}
+use Rattle.fmp_config_laws.proofs.Results.{none_is, ok_is}
 
 -- a `-` and more
 abbrev pub is_signed : List ℕ → Bool
@@ -120,7 +121,7 @@ module _ (names : NameLists) where
   unfolding number_within
   number_within_parts range word n e =
       let p = bind_parts (value_at names word) _ n e in
-      let q = passed (is_within range p.0) (Ok p.0) (fault_at OutOfRange word) n p.2 in
+      let q = tested_ok (is_within range p.0) (Ok p.0) (fault_at OutOfRange word) n p.2 in
       let same : p.0 ≡ n = ok_is p.0 n q.1 in
       let tests = and_parts (leb range.least p.0) (leb p.0 range.most) q.0 in
       let low = leb-true range.least p.0 tests.0 in

@@ -1,6 +1,7 @@
 -- The clauses of the elements that are read.
 use Rattle.std.proofs.Common.{◌≡◌, ℕ, true, inl, inr, List, [], ◌∷◌, ◌++◌, map, Option, Some, None, is_some, option_map, Ok, refl, sym, ap, subst, ◌∙◌, append_assoc}
 use Rattle.std.proofs.lemmas.Bool.{and_parts}
+use Rattle.fmp_bytes.proofs.Parsed.{bind_parts}
 use Rattle.fmp_names.specs.Names.{is_name}
 use Rattle.fmp_tokens.specs.Lexing.{Lexeme}
 use Rattle.fmp_statements.specs.declared.table.StatementName.{StatementName}
@@ -19,7 +20,7 @@ use Rattle.fmp_config_laws.specs.Phrases.{Phrase}
 use Rattle.fmp_config_laws.specs.Clauses.{Clause, Statement, EndOfClass, Defining, Skipping, SpellsStatement, SpellsClause, SpellsClauses}
 use Rattle.fmp_config_laws.specs.Stages.{Stage, AddsAll}
 use Rattle.fmp_config_laws.specs.Meaning.{Says, SaysClause, SayClauses}
-use Rattle.fmp_config_laws.proofs.Results.{ok_is, bind_parts, each_parts, each-none, none_is}
+use Rattle.fmp_config_laws.proofs.Results.{ok_is, each_parts, each-none, none_is}
 use Rattle.fmp_config_laws.proofs.Stages.{phrase_of, stage_of, AreUnsigned, IsBounded}
 use Rattle.fmp_config_laws.proofs.Judged.{defined_adds}
 use Rattle.fmp_config_laws.proofs.Statements.{judged_says}

@@ -6,6 +6,8 @@ use Rattle.std.specs.Option.{option_map_or}
 use Rattle.std.specs.Str.{bytes_eq}
 use Rattle.std.proofs.lemmas.Bool.{cases_Bool, false≢true, eqb-true, and_parts, and_from}
 use Rattle.std.proofs.lemmas.Slice.Eq.{bytes_eq-Decides}
+use Rattle.std.proofs.lemmas.Option.{cond_some}
+use Rattle.fmp_bytes.proofs.Parsed.{tested_ok, some_is}
 use Rattle.fmp_tokens.specs.Lexing.{Lexeme}
 use Rattle.fmp_statements.specs.declared.parts.Item.{Item}
 use Rattle.fmp_statements.specs.declared.parts.Item.TheVariants as items
@@ -20,7 +22,7 @@ use Rattle.fmp_statements.specs.Words.{Word, word_of, is_mark}
 use Rattle.fmp_token_laws.specs.Tokens.{Glyph, glyph_of}
 use Rattle.fmp_config_laws.specs.Elements.{symbol}
 use Rattle.fmp_config_laws.specs.Phrases.{Phrase, with_word, with_words, may_be, separated, SpellsMethod, SpellsParts}
-use Rattle.fmp_config_laws.proofs.Results.{some_is, none_is, ok_is, err_is, passed, tested_some}
+use Rattle.fmp_config_laws.proofs.Results.{none_is, ok_is, err_is}
 use Rattle.fmp_config_laws.proofs.Stages.{phrase_of}
 use Rattle.fmp_config_laws.proofs.Glyphs.{is_glyph, is_mark-is}
 use Rattle.fmp_config_laws.proofs.Nested.{Nested, nested, free, opens, closes, stepped}
@@ -149,7 +151,7 @@ module _ (Follows : Phrase → List Glyph → Type 0) (t : Lexeme) (is : is_glyp
   method_extends next e =
       elim (cases_Bool (bytes_eq t.text (codes "LOCAL"))) [
         | inl local ↦ subst (λ (x : Scan). Extends Method x) (some_is Nothing next (rw local at e)) (local_extends local)
-        | inr other ↦ let p = tested_some (bytes_eq t.text (codes "GLOBAL")) Master next (rw other at e) in subst (λ (x : Scan). Extends Method x) p.1 (global_extends p.0)
+        | inr other ↦ let p = cond_some (bytes_eq t.text (codes "GLOBAL")) Master next (rw other at e) in subst (λ (x : Scan). Extends Method x) p.1 (global_extends p.0)
       ]
 
   master_extends : is_mark 44 t ≡ true → Extends Master (One items.First)
@@ -157,13 +159,13 @@ module _ (Follows : Phrase → List Glyph → Type 0) (t : Lexeme) (is : is_glyp
 
   pub extends : (from next : Scan) → next_of from t ≡ Some next → Extends from next
   unfolding next_of
-  extends (Mark byte) next e = let p = tested_some (is_mark byte t) Nothing next e in subst (λ (x : Scan). Extends (Mark byte) x) p.1 (mark_extends byte p.0)
-  extends (One item) next e = let p = tested_some (is_item item t) Nothing next e in subst (λ (x : Scan). Extends (One item) x) p.1 (one_extends item p.0)
-  extends (Next byte item) next e = let p = tested_some (is_item item t) (More byte item) next e in subst (λ (x : Scan). Extends (Next byte item) x) p.1 (next_extends byte item p.0)
-  extends (More byte item) next e = let p = tested_some (is_mark byte t) (Next byte item) next e in subst (λ (x : Scan). Extends (More byte item) x) p.1 (more_extends byte item p.0)
+  extends (Mark byte) next e = let p = cond_some (is_mark byte t) Nothing next e in subst (λ (x : Scan). Extends (Mark byte) x) p.1 (mark_extends byte p.0)
+  extends (One item) next e = let p = cond_some (is_item item t) Nothing next e in subst (λ (x : Scan). Extends (One item) x) p.1 (one_extends item p.0)
+  extends (Next byte item) next e = let p = cond_some (is_item item t) (More byte item) next e in subst (λ (x : Scan). Extends (Next byte item) x) p.1 (next_extends byte item p.0)
+  extends (More byte item) next e = let p = cond_some (is_mark byte t) (Next byte item) next e in subst (λ (x : Scan). Extends (More byte item) x) p.1 (more_extends byte item p.0)
   extends (Free depth taken) next e = free_extends depth taken next e
   extends Method next e = method_extends next e
-  extends Master next e = let p = tested_some (is_mark 44 t) (One items.First) next e in subst (λ (x : Scan). Extends Master x) p.1 (master_extends p.0)
+  extends Master next e = let p = cond_some (is_mark 44 t) (One items.First) next e in subst (λ (x : Scan). Extends Master x) p.1 (master_extends p.0)
   extends Nothing next e = absurd (none_is next e)
 
 -- ---- where a part may end
@@ -211,7 +213,7 @@ module _ (t : Lexeme) (is : is_glyph (glyph_of t) ≡ true) (after : Phrase) (gl
   went_on : (f next : Form) (found : Option Scan) → next_of f.scan t ≡ found
       → option_map_or (λ next. Ok (advanced f f.scan next t)) found (cond (may_end f.scan) (next_part f f.rest t) (Err (misfit t))) ≡ Ok next → Remains next after glyphs → Remains f after (glyph_of t ∷ glyphs)
   went_on f next None found e s =
-      let p = passed (may_end f.scan) (next_part f f.rest t) (misfit t) next e in
+      let p = tested_ok (may_end f.scan) (next_part f f.rest t) (misfit t) next e in
       ends (λ words others. SpellsParts f.rest words after others) f.scan (phrase_of f.pieces) (glyph_of t ∷ glyphs) p.0 (part_stepped f f.rest next p.1 s)
   went_on f next (Some to) found e s =
       let same = ok_is (advanced f f.scan to t) next e in

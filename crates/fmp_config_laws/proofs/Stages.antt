@@ -2,6 +2,7 @@
 use Rattle.std.proofs.Common.{◌≡◌, ℕ, ◌≤◌, ◌<◌, true, false, map, Option, Some, None, option_map, Ok, refl, sym, ap, ◌∙◌, arith}
 use Rattle.std.specs.List.{AllByRecursion}
 use Rattle.std.proofs.lemmas.Bool.{leb-true}
+use Rattle.fmp_bytes.proofs.Parsed.{bind_parts}
 use Rattle.fmp_calls.specs.declared.kinds.ObjectKind.{ObjectKind}
 use Rattle.fmp_calls.specs.declared.kinds.ObjectKind.TheVariants.{Task, Semaphore, Eventflag, DataQueue, Pool, Cyclic, Alarm, SpinLock}
 use Rattle.fmp_names.specs.Names.{NameLists}
@@ -18,7 +19,7 @@ use Rattle.fmp_config.specs.Numbers.{number_at, numbers_of}
 use Rattle.fmp_setup.specs.Setup.{Setup}
 use Rattle.fmp_config_laws.specs.Stages.{Stage, SayNumbers}
 use Rattle.fmp_config_laws.specs.Phrases.{Phrase}
-use Rattle.fmp_config_laws.proofs.Results.{ok_is, bind_parts}
+use Rattle.fmp_config_laws.proofs.Results.{ok_is}
 use Rattle.fmp_config_laws.proofs.Numerals.{AreNames, is_signed, most_numeral, number_within_parts, number_at-spelled, number_at_is_spelled}
 
 abbrev pub phrase_of : Pieces → Phrase

@@ -1,13 +1,16 @@
 -- All statements: what they say is judged so, and what is judged they say.
-use Rattle.std.proofs.Common.{◌≡◌, ℕ, ◌⊎◌, Bool, true, false, leb, ltb, eqb, cond, inl, inr, List, [], ◌∷◌, length, Some, Ok, refl, sym, ap, ◌∙◌, arith}
+use Rattle.std.proofs.Common.{◌≡◌, ℕ, ◌⊎◌, Bool, true, false, leb, ltb, eqb, cond, inl, inr, [], length, Some, Ok, refl, sym, ap, ◌∙◌, arith}
 use Rattle.std.specs.Option.{ok_or}
 use Rattle.std.proofs.lemmas.Bool.{and_parts, and_from, leb-true, le-leb, ltb-true, lt-ltb, eqb-true, ne_eqb}
+use Rattle.std.proofs.lemmas.List.{nil_from_length}
+use Rattle.fmp_bytes.proofs.Parsed.{ok_or_parts, bind_parts}
+use Rattle.fmp_bytes.specs.Results.{◌>>=◌}
 use Rattle.fmp_codes.specs.Numbers.{as_proc}
 use Rattle.fmp_statements.specs.declared.fault.ConfigKind.TheVariants.{UnknownClass}
 use Rattle.fmp_statements.specs.declared.table.Range.{Range}
 use Rattle.fmp_statements.specs.declared.table.StatementName.{StatementName}
 use Rattle.fmp_statements.specs.declared.table.StatementName.TheVariants as statements
-use Rattle.fmp_statements.specs.Faults.{fault_at, ◌>>=◌}
+use Rattle.fmp_statements.specs.Faults.{fault_at}
 use Rattle.fmp_statements.specs.Forms.{Form}
 use Rattle.fmp_statements.specs.Words.{Word}
 use Rattle.fmp_config.specs.declared.draft.Phase.TheVariants as phases
@@ -15,6 +18,7 @@ use Rattle.fmp_config.specs.Drafts.{Draft}
 use Rattle.fmp_config.specs.Objects.{new_name}
 use Rattle.fmp_config.specs.Judging.{count_processors, timer_of, choose_timer, set_limits, define_class, begin_class, judged}
 use Rattle.fmp_config.specs.Numbers.{number_within, numbers_of, class_of}
+use Rattle.fmp_config.proofs.Defined.{new_and_room}
 use Rattle.fmp_setup.specs.declared.setup.Class.{Class}
 use Rattle.fmp_setup.specs.declared.setup.Timer.{Timer}
 use Rattle.fmp_setup.specs.declared.setup.Timer.TheVariants as timer
@@ -22,17 +26,13 @@ use Rattle.fmp_setup.specs.Building.{class_named, with_class, with_timer, with_l
 use Rattle.fmp_setup.specs.Setup.{Setup}
 use Rattle.fmp_config_laws.specs.Stages.{Stage, SpellsNumber, is_processor}
 use Rattle.fmp_config_laws.specs.Meaning.{DefinesClass, ChoosesTimer, Says}
-use Rattle.fmp_config_laws.proofs.Results.{ok_is, bind_parts, ok_or_parts}
+use Rattle.fmp_config_laws.proofs.Results.{ok_is}
 use Rattle.fmp_config_laws.proofs.Numerals.{number_some, is_signed, value_at_is_spelled, number_within-spelled, number_within_parts}
 use Rattle.fmp_config_laws.proofs.Classes.{class_of-spelled, class_of_is_spelled}
 use Rattle.fmp_config_laws.proofs.Stages.{phrase_of, stage_of, AreUnsigned, IsBounded, numbers_of-spelled, numbers_read}
-use Rattle.fmp_config_laws.proofs.Judged.{LeadsTo, new_name-is, new_name_parts, creates-says, created_says}
+use Rattle.fmp_config_laws.proofs.Judged.{LeadsTo, new_name-is, creates-says, created_says}
 
 -- ---- the timer
-
-no_bytes : (text : List ℕ) → length text ≡ 0 → text ≡ []
-no_bytes [] e = refl
-no_bytes (b ∷ bytes) e = absurd (omega (arith, e))
 
 module _ (c : Setup) (bounded : IsBounded c) (word : Word) where
   abbrev pub processors : Range
@@ -45,7 +45,7 @@ module _ (c : Setup) (bounded : IsBounded c) (word : Word) where
   timer_of-global : (n : ℕ) → SpellsNumber c.names word.text n → is_processor c.processors n ≡ true → timer_of c word ≡ Ok (timer.Global (as_proc n))
   unfolding timer_of
   timer_of-global n s is =
-      let test : eqb (length word.text) 0 ≡ false = ne_eqb (length word.text) 0 (λ e. number_some c.names word.text n s (no_bytes word.text e)) in
+      let test : eqb (length word.text) 0 ≡ false = ne_eqb (length word.text) 0 (λ e. number_some c.names word.text n s (nil_from_length word.text e)) in
       let parts = and_parts (leb 1 n) (leb n c.processors) is in
       let read = number_within-spelled c.names processors word n s (leb-true 1 n parts.0) (leb-true n c.processors parts.1) in
       rw test (rw read refl)
@@ -55,7 +55,7 @@ module _ (c : Setup) (bounded : IsBounded c) (word : Word) where
 
   timer_parts : (t : Timer) (none : Bool) → eqb (length word.text) 0 ≡ none → is_signed word.text ≡ false
       → cond none (Ok timer.Local) (number_within c.names processors word >>= λ n. Ok (timer.Global (as_proc n))) ≡ Ok t → TimerIs t
-  timer_parts t true test unsigned e = inl (no_bytes word.text (eqb-true (length word.text) 0 test), ok_is timer.Local t e)
+  timer_parts t true test unsigned e = inl (nil_from_length word.text (eqb-true (length word.text) 0 test), ok_is timer.Local t e)
   timer_parts t false test unsigned e =
       let p = bind_parts (number_within c.names processors word) (λ n. Ok (timer.Global (as_proc n))) t e in
       let q = number_within_parts c.names processors word p.0 p.1 in
@@ -116,7 +116,7 @@ module _ (d after : Draft) (bounded : IsBounded d.setup) (f : Form) (unsigned : 
   class_says e =
       let new = bind_parts (new_name d.setup (ltb (length d.setup.classes) 32) f.line f.pieces.name) _ after e in
       let class = bind_parts (class_of d.setup f.line f.pieces) (λ class. Ok (record d { setup = with_class d.setup f.pieces.name.text class })) after new.2 in
-      let fresh = new_name_parts d.setup (ltb (length d.setup.classes) 32) f.line f.pieces.name new.1 in
+      let fresh = new_and_room d.setup (ltb (length d.setup.classes) 32) f.line f.pieces.name new.1 in
       let s = class_of_is_spelled d.setup bounded.processors bounded.named f.line f.pieces class.0 class.1 unsigned.first unsigned.series in
       record {
         initial = s.initial;

@@ -4,6 +4,9 @@ use Rattle.std.specs.Option.{ok_or, option_map_or}
 use Rattle.std.specs.Str.{bytes_eq}
 use Rattle.std.proofs.lemmas.Bool.{cases_Bool, false≢true}
 use Rattle.std.proofs.lemmas.Slice.Eq.{bytes_eq-Decides}
+use Rattle.std.proofs.Math.Bool.{and-false}
+use Rattle.fmp_bytes.proofs.Parsed.{ok_or_parts, tested_ok, bind_parts}
+use Rattle.fmp_bytes.specs.Results.{◌>>=◌}
 use Rattle.fmp_calls.proofs.Found.{found_passes}
 use Rattle.fmp_tokens.specs.Lexing.{Lexeme}
 use Rattle.fmp_statements.specs.declared.directive.Directive.{Directive}
@@ -12,7 +15,7 @@ use Rattle.fmp_statements.specs.declared.fault.ConfigKind.{ConfigKind}
 use Rattle.fmp_statements.specs.declared.fault.ConfigKind.TheVariants.{Syntax, Unsupported}
 use Rattle.fmp_statements.specs.declared.table.StatementName.{StatementName}
 use Rattle.fmp_statements.specs.declared.table.TheConstants as table
-use Rattle.fmp_statements.specs.Faults.{fault_at, ◌>>=◌}
+use Rattle.fmp_statements.specs.Faults.{fault_at}
 use Rattle.fmp_statements.specs.Forms.{Form, begun, form_step, is_complete}
 use Rattle.fmp_statements.specs.Table.{text_of, statement_of}
 use Rattle.fmp_statements.specs.Words.{word_of, is_identifier_kind, is_directive_kind, is_end_kind}
@@ -23,8 +26,7 @@ use Rattle.fmp_config.specs.Judging.{judged}
 use Rattle.fmp_config.specs.Reading.{State, statement_at, placed, ends_class, first_token, form_read, form_token, code_token}
 use Rattle.fmp_token_laws.specs.Tokens.{Glyph, glyph_of}
 use Rattle.fmp_config_laws.specs.Elements.{identifier, is_plain}
-use Rattle.fmp_config_laws.proofs.Results.{ok_is, err_is, bind_parts, passed, ok_or_parts}
-use Rattle.fmp_config_laws.proofs.Nested.{and_no}
+use Rattle.fmp_config_laws.proofs.Results.{ok_is, err_is}
 use Rattle.fmp_config_laws.proofs.Directives.{identifier_is}
 
 abbrev pub state : Draft → Option Form → Directive → State
@@ -46,7 +48,7 @@ no_directive t e = neither (is_directive_kind t.kind) (is_end_kind t.kind) e
 statement_named : (t : Lexeme) (name : StatementName) → statement_at t ≡ Ok name → glyph_of t ≡ identifier (text_of name)
 unfolding statement_at statement_of
 statement_named t name e =
-    let p = passed (is_identifier_kind t.kind) (ok_or (statement_of t.text) (fault_at Unsupported (word_of t))) (fault_at Syntax (word_of t)) name e in
+    let p = tested_ok (is_identifier_kind t.kind) (ok_or (statement_of t.text) (fault_at Unsupported (word_of t))) (fault_at Syntax (word_of t)) name e in
     let found = ok_or_parts (statement_of t.text) (fault_at Unsupported (word_of t)) name p.1 in
     let same = (bytes_eq-Decides (text_of name) t.text).0 (found_passes (λ n. bytes_eq (text_of n) t.text) table.STATEMENT_NAMES name found) in
     identifier_is t (text_of name) p.0 (sym same)
@@ -89,7 +91,7 @@ module _ (d : Draft) (t : Lexeme) (plain : is_plain (glyph_of t) ≡ true) where
 
 no_end : (d : Draft) (t : Lexeme) (text : List ℕ) → glyph_of t ≡ identifier text → ends_class d t ≡ false
 unfolding ends_class
-no_end d t text e = let kind = ap (λ (g : Glyph). g.kind) e in rw kind (and_no (is_some d.open_class))
+no_end d t text e = let kind = ap (λ (g : Glyph). g.kind) e in rw kind (and-false (is_some d.open_class))
 
 pub statement_begun : (d : Draft) (t : Lexeme) (name : StatementName) → glyph_of t ≡ identifier (text_of name) → place_fault d name ≡ None → code_token (outside d None) t ≡ Ok (outside d (Some (begun name t.line)))
 unfolding code_token first_token placed

@@ -2,6 +2,8 @@
 use Rattle.std.proofs.Common.{◌≡◌, ℕ, ◌≤◌, true, false, ◌&&◌, cond, eqb, inl, inr, List, [], ◌∷◌, ◌++◌, length, Option, Some, None, Ok, Err, refl, sym, ap, subst, ◌∙◌, arith}
 use Rattle.std.specs.Option.{option_map_or}
 use Rattle.std.proofs.lemmas.Bool.{false≢true, ne_eqb, eqb-true, and_parts}
+use Rattle.std.proofs.Math.Bool.{and-false}
+use Rattle.fmp_bytes.proofs.Parsed.{tested_ok}
 use Rattle.fmp_tokens.specs.Lexing.{Lexeme}
 use Rattle.fmp_statements.specs.declared.parts.Part.{Part}
 use Rattle.fmp_statements.specs.declared.parts.Part.TheVariants as parts
@@ -13,10 +15,9 @@ use Rattle.fmp_statements.specs.Pieces.{Pieces, kept_from}
 use Rattle.fmp_statements.specs.Words.{word_of}
 use Rattle.fmp_token_laws.specs.Tokens.{Glyph, glyph_of}
 use Rattle.fmp_config_laws.specs.Phrases.{Phrase, with_words, separated, SpellsParts}
-use Rattle.fmp_config_laws.proofs.Results.{ok_is, err_is, passed}
+use Rattle.fmp_config_laws.proofs.Results.{ok_is, err_is}
 use Rattle.fmp_config_laws.proofs.Stages.{phrase_of}
 use Rattle.fmp_config_laws.proofs.Glyphs.{is_glyph}
-use Rattle.fmp_config_laws.proofs.Nested.{and_no}
 use Rattle.fmp_config_laws.proofs.Scans.{SpellsForm, Remains, part_to}
 use Rattle.fmp_config_laws.proofs.Forms.{is_apart, is_barrier, is_behind, is_sound, takes, fresh, stops}
 
@@ -57,13 +58,13 @@ module _ (f : Form) (t : Lexeme) (is : is_glyph (glyph_of t) ≡ true) (after : 
 -- ---- the last one
 
 incomplete : (scan : Scan) (rest : List Part) (before after : Phrase) (g : Glyph) (glyphs : List Glyph) → SpellsForm scan rest before after (g ∷ glyphs) → (eqb (length rest) 0 && is_nothing scan) ≡ false
-incomplete (Mark byte) rest before after g glyphs s = and_no (eqb (length rest) 0)
-incomplete (One item) rest before after g glyphs s = and_no (eqb (length rest) 0)
-incomplete (Next byte item) rest before after g glyphs s = and_no (eqb (length rest) 0)
-incomplete (More byte item) rest before after g glyphs s = and_no (eqb (length rest) 0)
-incomplete (Free depth taken) rest before after g glyphs s = and_no (eqb (length rest) 0)
-incomplete Method rest before after g glyphs s = and_no (eqb (length rest) 0)
-incomplete Master rest before after g glyphs s = and_no (eqb (length rest) 0)
+incomplete (Mark byte) rest before after g glyphs s = and-false (eqb (length rest) 0)
+incomplete (One item) rest before after g glyphs s = and-false (eqb (length rest) 0)
+incomplete (Next byte item) rest before after g glyphs s = and-false (eqb (length rest) 0)
+incomplete (More byte item) rest before after g glyphs s = and-false (eqb (length rest) 0)
+incomplete (Free depth taken) rest before after g glyphs s = and-false (eqb (length rest) 0)
+incomplete Method rest before after g glyphs s = and-false (eqb (length rest) 0)
+incomplete Master rest before after g glyphs s = and-false (eqb (length rest) 0)
 incomplete Nothing [] before after g glyphs s = absurd (let e = s.0 in cc)
 incomplete Nothing (part ∷ rest) before after g glyphs s = let some : eqb (length (part ∷ rest)) 0 ≡ false = ne_eqb (length (part ∷ rest)) 0 (λ e. omega (arith, e)) in rw some refl
 
@@ -164,7 +165,7 @@ moved_part f t next [] e = absurd (err_is (misfit t) next e)
 moved_part f t next (part ∷ rest) e = moved_into f t next part rest (next_of (scan_of part) t) e
 
 moved_on : (f : Form) (t : Lexeme) (next : Form) (found : Option Scan) → option_map_or (λ next. Ok (advanced f f.scan next t)) found (cond (may_end f.scan) (next_part f f.rest t) (Err (misfit t))) ≡ Ok next → Moved f t next
-moved_on f t next None e = moved_part f t next f.rest (passed (may_end f.scan) (next_part f f.rest t) (misfit t) next e).1
+moved_on f t next None e = moved_part f t next f.rest (tested_ok (may_end f.scan) (next_part f f.rest t) (misfit t) next e).1
 moved_on f t next (Some to) e = is_moved f t f next f.scan to refl refl (ok_is _ next e)
 
 pub moved : (f : Form) (t : Lexeme) (next : Form) → form_step f t ≡ Ok next → Moved f t next

@@ -3,13 +3,15 @@ use Rattle.std.proofs.Common.{◌≡◌, ℕ, Bool, true, false, inl, inr, List,
 use Rattle.std.specs.List.{list_all}
 use Rattle.std.specs.Option.{option_map_or}
 use Rattle.std.proofs.lemmas.Bool.{cases_Bool, false≢true, and_parts}
+use Rattle.fmp_bytes.specs.Results.{◌>>=◌}
+use Rattle.fmp_bytes.proofs.Parsed.{bind_parts}
 use Rattle.fmp_names.specs.Names.{is_name}
 use Rattle.fmp_tokens.specs.Lexing.{Lexeme}
 use Rattle.fmp_statements.specs.declared.directive.Directive.{Directive}
 use Rattle.fmp_statements.specs.declared.directive.Directive.TheVariants.{Outside, Marked, Naming, Numbering, Defining, Skipped}
 use Rattle.fmp_statements.specs.declared.fault.ConfigKind.TheVariants.{Syntax}
 use Rattle.fmp_statements.specs.Directives.{defined_number, named_number, numbered, next_directive}
-use Rattle.fmp_statements.specs.Faults.{fault_of_line, ◌>>=◌}
+use Rattle.fmp_statements.specs.Faults.{fault_of_line}
 use Rattle.fmp_statements.specs.Folds.{each}
 use Rattle.fmp_statements.specs.Forms.{Form}
 use Rattle.fmp_statements.specs.Words.{Word, word_of, is_directive_kind, is_end_kind}
@@ -18,7 +20,7 @@ use Rattle.fmp_config.specs.Judging.{define, ended}
 use Rattle.fmp_config.specs.Reading.{State, code_token, directive_token, take_token}
 use Rattle.fmp_token_laws.specs.Tokens.{Glyph, glyph_of}
 use Rattle.fmp_config_laws.specs.Elements.{is_plain}
-use Rattle.fmp_config_laws.proofs.Results.{ok_is, err_is, bind_parts, each-cons, each_parts, each-none, each-append}
+use Rattle.fmp_config_laws.proofs.Results.{ok_is, err_is, each-cons, each_parts, each-none, each-append}
 use Rattle.fmp_config_laws.proofs.Nesting.{IsWhole}
 use Rattle.fmp_config_laws.proofs.Directives.{is_idle, begun}
 use Rattle.fmp_config_laws.proofs.Steps.{state, outside, no_directive}

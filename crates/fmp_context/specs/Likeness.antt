@@ -3,8 +3,9 @@ use Rattle.std.specs.Prelude.{ℕ, Bool, true, false, ◌&&◌, List, [], Option
 use Rattle.std.specs.Option.{option_map_or}
 use Rattle.std.specs.Str.{bytes_eq}
 use Rattle.fmp_bytes.specs.declared.classes.Class.TheVariants.{Blank, Word}
-use Rattle.fmp_bytes.specs.Bytes.{prefix, after, behind, letter_p}
+use Rattle.fmp_bytes.specs.Bytes.{prefix, after, behind}
 use Rattle.fmp_bytes.specs.Numerals.{are_digits}
+use Rattle.fmp_names.specs.Names.{is_processor_word}
 use Rattle.fmp_context.specs.declared.likeness.Likeness.{Likeness}
 use Rattle.fmp_context.specs.declared.likeness.Likeness.TheVariants.{Marked, Configuration, Events, Scripts, Trace}
 use Rattle.fmp_context.specs.declared.text.TextForm.{TextForm}
@@ -14,10 +15,6 @@ use Rattle.fmp_statements.specs.declared.fault.ConfigKind.TheVariants as config
 use Rattle.fmp_statements.specs.Table.{statement_of}
 use Rattle.fmp_text.specs.declared.fault.TextKind.{TextKind}
 use Rattle.fmp_text.specs.declared.fault.TextKind.TheVariants as text
-
--- a `P` and decimal digits
-unfoldable pub is_processor_word : List ℕ → Bool
-is_processor_word word = option_map_or (are_digits 10) (behind letter_p word) false
 
 -- the first word, and the one behind it
 abbrev pub first_word : List ℕ → List ℕ

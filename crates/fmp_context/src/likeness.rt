@@ -5,6 +5,7 @@ ghost use Rattle.fmp_context.specs.Likeness as spec;
 
 use crate::text::TextForm;
 use fmp_bytes::{Class, are_digits, behind, skip, split_prefix};
+use fmp_names::is_processor_word;
 use fmp_statements::{ConfigKind, find_statement};
 use fmp_text::TextKind;
 use std::alloc::AllocError;
@@ -33,17 +34,6 @@ pub fn without_mark(line: &[u8]) -> &[u8]
     ensures { result.now ≡ spec.without_mark line.now }
 {
     behind_mark(line).unwrap_or(line)
-}
-
-/// Whether a word is a `P` and decimal digits.
-#[tactic(auto, unfolding(crate::specs::Likeness::is_processor_word))]
-fn is_processor_word(word: &[u8]) -> bool
-    ensures { result ≡ spec.is_processor_word word.now }
-{
-    match behind(b'P', word) {
-        Some(digits) => are_digits(10, digits),
-        None => false,
-    }
 }
 
 /// What a line with these first two words looks like, if anything.

@@ -7,6 +7,7 @@ use Rattle.std.proofs.lemmas.List.Elements.{All-map}
 use Rattle.fmp_codes.specs.Numbers.{as_task, within}
 use Rattle.fmp_codes.specs.declared.numbers.Proc.{Proc}
 use Rattle.fmp_codes.specs.declared.numbers.Task.{Task}
+use Rattle.fmp_codes.proofs.Same.{tasks_same}
 use Rattle.fmp_setup.specs.declared.setup.TaskSetup.{TaskSetup}
 use Rattle.fmp_setup.specs.Setup.{Setup}
 use Rattle.fmp_machine.specs.declared.machine.TaskRecord.{TaskRecord}
@@ -15,7 +16,7 @@ use Rattle.fmp_machine.specs.Ordering.{Ordering}
 use Rattle.fmp_machine.specs.Arrivals.{State, numbered}
 use Rattle.fmp_machine.specs.Tasks.{started, start}
 use Rattle.fmp_machine.specs.Boot.{blank, all_started, with_top_running, with_tops_running, booted, unnumbered}
-use Rattle.fmp_safety.proofs.Items.{item_holds, task_same}
+use Rattle.fmp_safety.proofs.Items.{item_holds}
 use Rattle.fmp_balance.specs.Accepted.{one_if}
 use Rattle.fmp_count_laws.proofs.Tasks.{after_change, changed_here, changed_there}
 use Rattle.fmp_count_laws.proofs.Lives.{life}
@@ -56,7 +57,7 @@ module _ {Q : Type 0} (k : Ordering Q) where
       ⊎_elim
       (λ (e : t.number ≡ n).
       let first : t.number - n ≡ 0 = omega (arith, e) in
-      let same : t ≡ as_task n = task_same t (as_task n) (omega (arith, e, number)) in
+      let same : t ≡ as_task n = tasks_same t (as_task n) (omega (arith, e, number)) in
       ap life (later_started v (n + 1) ss t (omega (arith, few)) (omega (arith, e)))
       ∙ subst (λ (u : Task). life (task (started_if w u s) t) ≡ one_if s.starts) same (this_started w t s most rests)
       ∙ rw first refl)

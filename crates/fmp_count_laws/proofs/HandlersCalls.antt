@@ -1,8 +1,9 @@
 -- What each call leaves of the time of alarms and cyclic handlers.
 use Rattle.std.proofs.Common.{◌≡◌, ℕ, ◌≤◌, ℤ, Bool, true, false, ◌&&◌, length, refl, sym, ap, ◌∙◌, subst, Option, None, ◌+◌, Some, List}
 use Rattle.std.specs.Prelude.{if◌then◌else◌, is_some, unwrap_or}
-use Rattle.std.proofs.lemmas.Bool.{cond-false, and_parts}
+use Rattle.std.proofs.lemmas.Bool.{cond-false, and_parts, and_right}
 use Rattle.std.proofs.lemmas.List.{length-set}
+use Rattle.std.proofs.Math.Bool.{and-true}
 use Rattle.fmp_codes.specs.Numbers.{as_object, as_proc}
 use Rattle.fmp_codes.specs.declared.numbers.Proc.{Proc}
 use Rattle.fmp_codes.specs.declared.numbers.Object.{Object}
@@ -30,7 +31,6 @@ use Rattle.fmp_balance.proofs.Steps.{told}
 use Rattle.fmp_wait_laws.specs.Waits.{is_tick_for}
 use Rattle.fmp_machine.specs.Objects.{alarm, cyclic}
 use Rattle.fmp_count_laws.specs.Alarms.{starts_alarm, stops_alarm, without_tick, alarm_left_after, alarm_time}
-use Rattle.fmp_count_laws.proofs.Wakeups.{not_both, with_true}
 use Rattle.fmp_setup.specs.declared.setup.CyclicSetup.{CyclicSetup}
 use Rattle.fmp_machine.specs.declared.machine.Cyclic.{Cyclic}
 use Rattle.fmp_count_laws.specs.Cyclics.{starts_cyclic, stops_cyclic, cyclic_left_after}
@@ -45,19 +45,19 @@ put_named : {X : Type 0} (xs : List X) (counts : List (Option ℕ)) (a : Object)
 put_named xs counts a few same id left known =
     let o : Object = unwrap_or (object_named xs id) (as_object 1) in
     let named : IsNamed xs id o = object_known xs id few known in
-    subst (λ (b : Bool). item None (with_item counts o.number (left o)) a.number ≡ (if b then left a else item None counts a.number)) (sym (with_true (names a id) ∙ named.names a))
+    subst (λ (b : Bool). item None (with_item counts o.number (left o)) a.number ≡ (if b then left a else item None counts a.number)) (sym (and-true (names a id) ∙ named.names a))
     (by_object (λ x b. item None (with_item counts o.number (left o)) x.number ≡ (if b then left x else item None counts x.number)) o a (item_same None counts o.number (left o) o.least (rw same named.within.1))
     (λ d. item_other None counts o.number (left o) a.number a.least o.least (λ e. d (sym e))))
 
 -- a call that is refused leaves the time
 refused_time : (b : Bool) (before left : Option ℕ) (c : Code) → refuses c ≡ true → before ≡ (if b && is_accepted (refused c).answer then left else before)
-refused_time b before left c e = sym (cond-false (b && is_accepted (refused c).answer) left before (not_both b _ (not_accepted c e)))
+refused_time b before left c e = sym (cond-false (b && is_accepted (refused c).answer) left before (and_right b _ (not_accepted c e)))
 
 -- and so does an event that nobody takes
 idle_left : (timer : Timer) (q : Proc) (starts stops : Bool) (begun fewer left : Option ℕ) (e : Event) →
     (if starts && false then begun else if stops && false then None else if is_tick_for timer q answer.Idle e then fewer else left) ≡ left
 idle_left timer q starts stops begun fewer left e =
-    cond-false (starts && false) _ _ (not_both starts false refl) ∙ cond-false (stops && false) _ _ (not_both stops false refl) ∙ cond-false (is_tick_for timer q answer.Idle e) fewer left (untaken timer q answer.Idle e refl)
+    cond-false (starts && false) _ _ (and_right starts false refl) ∙ cond-false (stops && false) _ _ (and_right stops false refl) ∙ cond-false (is_tick_for timer q answer.Idle e) fewer left (untaken timer q answer.Idle e refl)
 
 pub idle_time : {Q : Type 0} (w : World Q) (a : Object) (r : Option Runner) (e : Event) (left : Option ℕ) → alarm_left_after w a (told e r (plain answer.Idle)) left ≡ left
 idle_time w a r e left = idle_left w.timer (alarm w a).assigned (starts_alarm a e) (stops_alarm a e) (ticks_of (alarm_time e)) (without_tick None left) left e

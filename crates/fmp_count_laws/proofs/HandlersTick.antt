@@ -5,6 +5,7 @@ use Rattle.std.specs.List.{range_with_len, list_any}
 use Rattle.std.proofs.lemmas.Bool.{cases_eq, eq-eqb, eqb-true, ne_eqb, or_left, or_right}
 use Rattle.std.proofs.lemmas.List.{append_assoc, append-nil, length-set}
 use Rattle.std.proofs.lemmas.Map.Views.{any-filter_same}
+use Rattle.std.proofs.Math.Bool.{and-true}
 use Rattle.fmp_codes.specs.Numbers.{as_proc, as_object, within}
 use Rattle.fmp_codes.specs.declared.numbers.Proc.{Proc}
 use Rattle.fmp_codes.specs.declared.numbers.Task.{Task}
@@ -12,6 +13,7 @@ use Rattle.fmp_codes.specs.declared.numbers.Object.{Object}
 use Rattle.fmp_codes.specs.declared.records.Event.TheVariants as event
 use Rattle.fmp_codes.specs.declared.records.Runner.{Runner}
 use Rattle.fmp_codes.specs.declared.records.Runner.TheVariants as runner
+use Rattle.fmp_codes.proofs.Same.{objects_same}
 use Rattle.fmp_setup.specs.Setup.{counts_for}
 use Rattle.fmp_machine.specs.declared.machine.Cyclic.{Cyclic}
 use Rattle.fmp_machine.specs.declared.machine.Alarm.{Alarm}
@@ -21,15 +23,16 @@ use Rattle.fmp_machine.specs.Ordering.{Ordering}
 use Rattle.fmp_machine.specs.TimeCalls.{with_cyclic_left, with_alarm_left}
 use Rattle.fmp_machine.specs.Tick.{one_less, is_over, tasks_expired, expired, with_due, alarms_due, cyclics_due, with_handlers_due, counted_down, released, ticked, tick}
 use Rattle.fmp_safety.specs.Safe.{TicksInRange}
-use Rattle.fmp_safety.proofs.Items.{object_same, item_put, item_same, item_other}
+use Rattle.fmp_safety.proofs.Items.{item_put, item_same, item_other}
 use Rattle.fmp_safety.proofs.KeepsDue.{alarms_keep, cyclics_keep, released_keep}
+use Rattle.fmp_safety.proofs.TellsTick.{lowered_length}
 use Rattle.fmp_balance.proofs.Objects.{by_object}
 use Rattle.fmp_balance.proofs.Steps.{told}
 use Rattle.fmp_count_laws.specs.Alarms.{without_tick, alarm_left_after, is_last}
 use Rattle.fmp_count_laws.specs.Cyclics.{cyclic_left_after}
 use Rattle.fmp_count_laws.specs.Due.{by_number}
 use Rattle.fmp_wait_laws.proofs.Several.{one_by_one}
-use Rattle.fmp_wait_laws.proofs.Ticks.{lowered_at, lowered_length}
+use Rattle.fmp_wait_laws.proofs.Ticks.{lowered_at}
 use Rattle.fmp_count_laws.proofs.Sparing.{Clock, clock}
 use Rattle.fmp_count_laws.proofs.HandlersCalls.{Clocks}
 
@@ -43,16 +46,12 @@ object_among o a (suc n) l h =
     ⊎_elim (λ (e : o.number ≡ a). let here : within 32 a ≡ o.number = omega (arith, e, o.least, o.most) in or_left _ _ (eq-eqb (within 32 a) o.number here))
     (λ (d : o.number ≡ a → ⊥). or_right _ _ (object_among o (a + 1) n (omega (arith, l, d)) (omega (arith, h)))) (cases_eq o.number a)
 
-and_true : (b : Bool) → (b && true) ≡ b
-and_true true = refl
-and_true false = refl
-
 -- an object is one of those whose time is over just where its own is
 expired_is : {X : Type 0} (counts : List (Option ℕ)) (xs : List X) (o : Object) → o.number ≤ length xs → is_one_of o (expired counts xs) ≡ is_over (item None counts o.number)
 expired_is counts xs o here =
     let test : Object → Bool = λ x. is_over (item None counts x.number) in
-    any-filter_same (λ x. x.number == o.number) test (test o) (λ x e. ap test (object_same x o (eqb-true x.number o.number e))) (map as_object (range_with_len 1 (length xs)))
-    ∙ rw (object_among o 1 (length xs) o.least (omega (arith, here))) (and_true (test o))
+    any-filter_same (λ x. x.number == o.number) test (test o) (λ x e. ap test (objects_same x o (eqb-true x.number o.number e))) (map as_object (range_with_len 1 (length xs)))
+    ∙ rw (object_among o 1 (length xs) o.least (omega (arith, here))) (and-true (test o))
 
 -- a count in range that fell for what qualifies is over just where it was the last
 fallen_is_last : (b : Bool) (left : Option ℕ) → TicksInRange left → is_over (if b then one_less left else left) ≡ (b && is_last left)

@@ -17,6 +17,7 @@ use Rattle.fmp_codes.specs.declared.records.Event.{Event}
 use Rattle.fmp_codes.specs.declared.records.Event.TheVariants as event
 use Rattle.fmp_codes.specs.declared.records.Record.{Record}
 use Rattle.fmp_codes.specs.declared.records.Runner.{Runner}
+use Rattle.fmp_codes.specs.Records.{is_call}
 use Rattle.fmp_machine.specs.Effects.{Effect}
 use Rattle.fmp_machine.specs.declared.machine.TaskRecord.{TaskRecord}
 use Rattle.fmp_machine.specs.declared.machine.Wait.TheVariants as wait
@@ -34,7 +35,7 @@ use Rattle.fmp_safety.proofs.Items.{item_holds}
 use Rattle.fmp_safety.proofs.Calls.{FromTask, from_task}
 use Rattle.fmp_balance.specs.Accepted.{is_accepted, accepted_value, one_if}
 use Rattle.fmp_balance.proofs.Called.{refuses, by_called, either_way, not_accepted}
-use Rattle.fmp_balance.proofs.Steps.{told, is_call, by_step}
+use Rattle.fmp_balance.proofs.Steps.{told, by_step}
 use Rattle.fmp_count_laws.specs.Lives.{activates, activated, ends, ended, takes_back, amount, taken_back}
 use Rattle.fmp_wait_laws.proofs.Follows.{running_may}
 use Rattle.fmp_wait_laws.proofs.Named.{by_task, task_known}

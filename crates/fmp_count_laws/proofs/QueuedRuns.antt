@@ -11,12 +11,13 @@ use Rattle.fmp_machine.specs.World.{task}
 use Rattle.fmp_machine.specs.Arrivals.{State, numbered}
 use Rattle.fmp_machine.specs.Step.{step, replay, answers}
 use Rattle.fmp_machine.specs.Boot.{booted}
+use Rattle.fmp_machine.proofs.Replays.{answers_take}
 use Rattle.fmp_safety.specs.Runs.{AreOn}
 use Rattle.fmp_wait_laws.specs.Waits.{OpenWaits, nobody_waits, after_record}
 use Rattle.fmp_count_laws.specs.Lives.{activated, ended, taken_back, ActivationBalance}
 use Rattle.fmp_count_laws.proofs.Lives.{life, lives_step}
 use Rattle.fmp_count_laws.proofs.Booted.{booted_life, booted_wakeups}
-use Rattle.fmp_count_laws.proofs.Ready.{Ready, ready_next, ready_at_boot, ready_after, prefix_told, prefix_on}
+use Rattle.fmp_count_laws.proofs.Ready.{Ready, ready_next, ready_at_boot, ready_after, prefix_on}
 use Rattle.fmp_count_laws.specs.Wakeups.{queued_after, queued_by, WakeupBalance, TakesWhatIsQueued}
 use Rattle.fmp_count_laws.proofs.Sparing.{tally}
 use Rattle.fmp_count_laws.proofs.Wakeups.{QueuedWakeups, queue_step, takes_step}
@@ -39,7 +40,7 @@ activations_balance c events valid on n t here =
     let es : List Event = take n events in
     let all = lives_run c t here nobody_waits (booted c) es (ready_at_boot c valid es (prefix_on n c.processors events on)) in
     let first = booted_life c valid.few_tasks t here in
-    subst (λ rs. ActivationBalance c rs (replay numbered (booted c) es) t) (prefix_told n (booted c) events) (omega (arith, all, first))
+    subst (λ rs. ActivationBalance c rs (replay numbered (booted c) es) t) (answers_take n (booted c) events) (omega (arith, all, first))
 
 queue_run : (c : Setup) (t : Task) → t.number ≤ length c.tasks → (pending : OpenWaits) (m : State) (es : List Event) (n : ℕ) → Ready c pending m es → QueuedWakeups n (tally (task m t)) → QueuedWakeups (queued_by t (answers numbered m es) n) (tally (task (replay numbered m es) t))
 queue_run c t here pending m [] n h queue = queue
@@ -53,7 +54,7 @@ pub wakeups_balance : (c : Setup) (events : List Event) → IsValid c → AreOn 
     WakeupBalance (take n (answers numbered (booted c) events)) (replay numbered (booted c) (take n events)) t
 wakeups_balance c events valid on n t here =
     let es : List Event = take n events in
-    subst (λ rs. WakeupBalance rs (replay numbered (booted c) es) t) (prefix_told n (booted c) events) (queue_from_boot c t es valid (prefix_on n c.processors events on) here).active
+    subst (λ rs. WakeupBalance rs (replay numbered (booted c) es) t) (answers_take n (booted c) events) (queue_from_boot c t es valid (prefix_on n c.processors events on) here).active
 
 pub wakeups_taken : (c : Setup) (events : List Event) → IsValid c → AreOn c.processors events → (e : Event) (t : Task) → t.number ≤ length c.tasks →
     TakesWhatIsQueued t (queued_by t (answers numbered (booted c) events) 0) (step numbered (replay numbered (booted c) events) e).1

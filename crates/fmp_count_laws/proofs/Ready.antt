@@ -1,5 +1,5 @@
 -- The states of a run in which a law of one step can be taken.
-use Rattle.std.proofs.Common.{◌≡◌, ℕ, zero, suc, ◌≤◌, List, [], ◌∷◌, ◌++◌, length, refl, sym, ap, ◌∙◌, subst, arith}
+use Rattle.std.proofs.Common.{◌≡◌, ℕ, ◌≤◌, List, [], ◌∷◌, ◌++◌, length, sym, ◌∙◌, subst, arith}
 use Rattle.std.specs.Prelude.{take}
 use Rattle.std.proofs.lemmas.List.{append-nil}
 use Rattle.std.proofs.lemmas.List.Elements.{All-tail, All-take}
@@ -71,12 +71,6 @@ module _ (c : Setup) where
     -- after these events
     pub ready_after : (es : List Event) → AreOn c.processors es → Ready (after_records c nobody_waits (answers numbered (booted c) es)) (replay numbered (booted c) es) []
     ready_after es on = ready_end nobody_waits (booted c) es (ready_at_boot es on)
-
--- the records of a prefix are a prefix of the records
-pub prefix_told : (n : ℕ) (w : State) (es : List Event) → answers numbered w (take n es) ≡ take n (answers numbered w es)
-prefix_told zero w es = refl
-prefix_told (suc n) w [] = refl
-prefix_told (suc n) w (e ∷ es) = ap (λ rs. (step numbered w e).1 ∷ rs) (prefix_told n (step numbered w e).0 es)
 
 pub prefix_on : (n : ℕ) (count : ℕ) (es : List Event) → AreOn count es → AreOn count (take n es)
 prefix_on n count es on = All-take (λ (x : Event). (processor_of x).number ≤ count) n es on

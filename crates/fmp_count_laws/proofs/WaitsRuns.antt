@@ -13,6 +13,7 @@ use Rattle.fmp_codes.specs.declared.records.Event.{Event}
 use Rattle.fmp_codes.specs.declared.records.Event.TheVariants as event
 use Rattle.fmp_codes.specs.declared.records.Record.{Record}
 use Rattle.fmp_codes.specs.declared.records.Release.{Release}
+use Rattle.fmp_codes.proofs.Same.{tasks_same}
 use Rattle.fmp_setup.specs.Setup.{Setup, counts_for}
 use Rattle.fmp_setup.specs.Valid.{IsValid}
 use Rattle.fmp_machine.specs.declared.machine.Wait.{Wait}
@@ -24,7 +25,6 @@ use Rattle.fmp_machine.specs.Step.{step, replay, answers}
 use Rattle.fmp_machine.specs.Boot.{booted}
 use Rattle.fmp_safety.specs.Runs.{AreOn}
 use Rattle.fmp_safety.specs.Safe.{TicksInRange, Safe}
-use Rattle.fmp_safety.proofs.Items.{task_same}
 use Rattle.fmp_safety.proofs.Listed.{numbered_lists}
 use Rattle.fmp_safety.proofs.Queues.{Lists}
 use Rattle.fmp_safety.proofs.TickCounts.{in_range_fallen, lowered_item, served_task, waits_served}
@@ -59,7 +59,7 @@ released_one P t [] all e = absurd (false≢true e)
 released_one P t (x ∷ xs) all e = go (x.task.number == t.number) refl (λ later. released_one P t xs (All-tail P x xs all) later)
   where
     go : (b : Bool) → (x.task.number == t.number) ≡ b → (is_released t xs ≡ true → (y : Release) × (y.task ≡ t) × P y) → (y : Release) × (y.task ≡ t) × P y
-    go true same among = (x, task_same x.task t (eqb-true x.task.number t.number same), All-head P x xs all)
+    go true same among = (x, tasks_same x.task t (eqb-true x.task.number t.number same), All-head P x xs all)
     go false other among = among (sym (ap (λ b. b || is_released t xs) other) ∙ e)
 
 -- where an open wait is told, the task is assigned as it says

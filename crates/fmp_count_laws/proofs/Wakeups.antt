@@ -1,7 +1,8 @@
 -- What each step does to the queued wakeups of a task: what is taken of them was queued.
 use Rattle.std.proofs.Common.{◌≡◌, ℕ, ◌+◌, ◌-◌, ◌≤◌, ◌==◌, ℤ, Bool, true, false, ◌&&◌, length, refl, sym, ap, ◌∙◌, subst, Option, None, pos, arith, Some}
 use Rattle.std.specs.Prelude.{if◌then◌else◌, nat_lt, unwrap_or}
-use Rattle.std.proofs.lemmas.Bool.{cond_both, cond-false, both_ways, false≢true, true≢false, not-false, and_parts, eqb-true, ltb-true}
+use Rattle.std.proofs.lemmas.Bool.{cond_both, cond-false, both_ways, false≢true, true≢false, not-false, and_parts, eqb-true, ltb-true, and_right}
+use Rattle.std.proofs.Math.Bool.{and-true}
 use Rattle.fmp_codes.specs.Numbers.{as_task}
 use Rattle.fmp_codes.specs.declared.numbers.Proc.{Proc}
 use Rattle.fmp_codes.specs.declared.numbers.Task.{Task}
@@ -16,6 +17,7 @@ use Rattle.fmp_codes.specs.declared.records.Answer.TheVariants as answer
 use Rattle.fmp_codes.specs.declared.records.Event.{Event}
 use Rattle.fmp_codes.specs.declared.records.Event.TheVariants as event
 use Rattle.fmp_codes.specs.declared.records.Record.{Record}
+use Rattle.fmp_codes.proofs.Same.{tasks_same}
 use Rattle.fmp_machine.specs.Effects.{Effect}
 use Rattle.fmp_machine.specs.declared.machine.TaskRecord.{TaskRecord}
 use Rattle.fmp_machine.specs.declared.machine.Wait.TheVariants as wait
@@ -45,28 +47,19 @@ use Rattle.fmp_wait_laws.proofs.Events.{by_event}
 use Rattle.fmp_count_laws.proofs.Lives.{refused_ends, idle_ends}
 use Rattle.fmp_machine.specs.Tick.{tick}
 use Rattle.fmp_safety.specs.Safe.{Safe}
-use Rattle.fmp_safety.proofs.Items.{task_same}
 
 -- Of an active task so many wakeups are queued, and of a dormant one none.
 pub record QueuedWakeups (queued : ℕ) (x : Tally) : Type 0 where
   pub active : x.active ≡ true → x.wakeups ≡ queued
   pub dormant : x.active ≡ false → queued ≡ 0
 
-pub with_true : (b : Bool) → (b && true) ≡ b
-with_true true = refl
-with_true false = refl
-
-pub not_both : (b a : Bool) → a ≡ false → (b && a) ≡ false
-not_both true a e = e
-not_both false a e = refl
-
 -- what is not accepted and ends nothing leaves what is queued
 pub nothing_queued : (t : Task) (r : Record) (n : ℕ) → is_accepted r.answer ≡ false → ends t r.runner r.answer r.event ≡ false → queued_after t r n ≡ n
 nothing_queued t r n refused no_end =
     cond-false (ends t r.runner r.answer r.event) _ _ no_end
-    ∙ cond-false (cancels t r.runner r.event && is_accepted r.answer) _ _ (not_both (cancels t r.runner r.event) _ refused)
-    ∙ cond-false (sleeps t r.runner r.event && is_accepted r.answer) _ _ (not_both (sleeps t r.runner r.event) _ refused)
-    ∙ cond-false (wakes t r.runner r.event && is_accepted r.answer && releases_nobody r.releases) _ _ (ap (λ (b : Bool). b && releases_nobody r.releases) (not_both (wakes t r.runner r.event) _ refused))
+    ∙ cond-false (cancels t r.runner r.event && is_accepted r.answer) _ _ (and_right (cancels t r.runner r.event) _ refused)
+    ∙ cond-false (sleeps t r.runner r.event && is_accepted r.answer) _ _ (and_right (sleeps t r.runner r.event) _ refused)
+    ∙ cond-false (wakes t r.runner r.event && is_accepted r.answer && releases_nobody r.releases) _ _ (ap (λ (b : Bool). b && releases_nobody r.releases) (and_right (wakes t r.runner r.event) _ refused))
 
 module _ {Q : Type 0} (w : World Q) (t : Task) (n : ℕ) (old : QueuedWakeups n (tally (task w t))) where
   spared_queue : (v : World Q) → Spares t w v → QueuedWakeups n (tally (task v t))
@@ -119,7 +112,7 @@ module _ {Q : Type 0} (k : Ordering Q) (w : World Q) (p : Proc) (t : Task) (n : 
   SleepsNow did = QueuedWakeups (if is_task t (runner_of w p) && is_accepted did.1.answer then n - 1 else n) (tally (task did.0 t))
 
   asleep : (v : World Q) (a : Answer) → is_accepted a ≡ false → QueuedWakeups n (tally (task v t)) → SleepsNow (v, plain a)
-  asleep v a none h = subst (λ (m : ℕ). QueuedWakeups m (tally (task v t))) (sym (cond-false (is_task t (runner_of w p) && is_accepted a) (n - 1) n (not_both (is_task t (runner_of w p)) _ none))) h
+  asleep v a none h = subst (λ (m : ℕ). QueuedWakeups m (tally (task v t))) (sym (cond-false (is_task t (runner_of w p) && is_accepted a) (n - 1) n (and_right (is_task t (runner_of w p)) _ none))) h
 
   queue_sleep : (timeout : ℤ) → SleepsNow (called w p (tslp_tsk k w p timeout))
   unfolding tslp_tsk
@@ -130,7 +123,7 @@ module _ {Q : Type 0} (k : Ordering Q) (w : World Q) (p : Proc) (t : Task) (n : 
       (λ a.
       cond_both (nat_lt 0 (task w u).wakeups) _ _ SleepsNow
       (λ _.
-      subst (λ (b : Bool). QueuedWakeups (if b then n - 1 else n) (tally (task (with_task w u r) t))) (sym (with_true (is_task t (runner_of w p))))
+      subst (λ (b : Bool). QueuedWakeups (if b then n - 1 else n) (tally (task (with_task w u r) t))) (sym (and-true (is_task t (runner_of w p))))
       (queue_changed w t n old here u (with_task w u r) r refl (n - 1) (is_task t (runner_of w p)) (is_caller_of w p t (from_task w p false true a.rule))
       (λ h. record { active = λ e. ap (λ (m : ℕ). m - 1) (h.active e); dormant = λ e. ap (λ (m : ℕ). m - 1) (h.dormant e) })))
       (λ _. cond_both (is_zero timeout) _ _ SleepsNow (λ _. asleep w (refused code.TimedOut).answer refl old)
@@ -143,7 +136,7 @@ module _ {Q : Type 0} (k : Ordering Q) (w : World Q) (p : Proc) (t : Task) (n : 
 
   nobody_wakes : (b : Bool) (v : World Q) (c : Code) → is_accepted (refused c).answer ≡ false → QueuedWakeups n (tally (task v t)) → WakesNow b (v, refused c)
   nobody_wakes b v c none h =
-      subst (λ (m : ℕ). QueuedWakeups m (tally (task v t))) (sym (cond-false (b && is_accepted (refused c).answer && true) (n + 1) n (ap (λ (x : Bool). x && true) (not_both b _ none)))) h
+      subst (λ (m : ℕ). QueuedWakeups m (tally (task v t))) (sym (cond-false (b && is_accepted (refused c).answer && true) (n + 1) n (ap (λ (x : Bool). x && true) (and_right b _ none)))) h
 
   -- a wakeup that is queued, or releases
   queue_wup : (b : Bool) (o : Option Task) → b ≡ ((the o).number == t.number) → (task w (the o)).active ≡ true → WakesNow b (wup k w o).effect
@@ -153,10 +146,10 @@ module _ {Q : Type 0} (k : Ordering Q) (w : World Q) (p : Proc) (t : Task) (n : 
       let r : TaskRecord = record (task w u) { wakeups = (task w u).wakeups + 1 } in
       cond_both (is_sleep (task w u).wait) _ _ (WakesNow b)
       (λ _.
-      subst (λ (m : ℕ). QueuedWakeups m (tally (task (words.make_ready k w u) t))) (sym (cond-false (b && true && false) (n + 1) n (not_both (b && true) false refl)))
+      subst (λ (m : ℕ). QueuedWakeups m (tally (task (words.make_ready k w u) t))) (sym (cond-false (b && true && false) (n + 1) n (and_right (b && true) false refl)))
       (spared_queue w t n old (words.make_ready k w u) (spares_ready t w k u)))
       (λ _.
-      subst (λ (x : Bool). QueuedWakeups (if x then n + 1 else n) (tally (task (with_task w u r) t))) (sym (with_true (b && true) ∙ with_true b))
+      subst (λ (x : Bool). QueuedWakeups (if x then n + 1 else n) (tally (task (with_task w u r) t))) (sym (and-true (b && true) ∙ and-true b))
       (queue_changed w t n old here u (with_task w u r) r refl (n + 1) b same
       (λ h. record { active = λ e. ap (λ (m : ℕ). m + 1) (h.active e); dormant = λ e. absurd (both_ways _ e active) })))
 
@@ -198,7 +191,7 @@ module _ {Q : Type 0} (k : Ordering Q) (w : World Q) (p : Proc) (t : Task) (n : 
       let b : Bool = names_task t (runner_of w p) id in
       by_called w p (QueuesNow (call.Task (tasks.CanWup id))) (can_wup w o) (refl, tt) (refused_queue (call.Task (tasks.CanWup id)))
       (λ a.
-      subst (λ (x : Bool). QueuedWakeups (if x then 0 else n) (tally (task (with_task w (the o) r) t))) (sym (with_true b))
+      subst (λ (x : Bool). QueuedWakeups (if x then 0 else n) (tally (task (with_task w (the o) r) t))) (sym (and-true b))
       (queue_changed w t n old here (the o) (with_task w (the o) r) r refl 0 b (named_or_caller_is w p t id few (from_task w p false false a.rule) a.known)
       (λ h. record { active = λ e. refl; dormant = λ e. refl })))
   queue_task (tasks.RelWai id) = kept (rel_wai k w (task_named w id)) (spared_queue w t n old _ (spares_rel k w p t (task_named w id)))
@@ -249,7 +242,7 @@ module _ {Q : Type 0} (k : Ordering Q) (w : World Q) (p : Proc) (t : Task) (n : 
   one_queued : FromTask w p → nat_lt 0 (task w (caller w p)).wakeups ≡ true → is_task t (runner_of w p) ≡ true → 1 ≤ n
   one_queued f some same =
       let u : Task = caller w p in
-      let here : u ≡ t = task_same u t (eqb-true u.number t.number (sym (is_caller_of w p t f) ∙ same)) in
+      let here : u ≡ t = tasks_same u t (eqb-true u.number t.number (sym (is_caller_of w p t f) ∙ same)) in
       let active : (task w u).active ≡ true = (running_may k w p s u f.running).active in
       let queue : QueuedWakeups n (tally (task w u)) = subst (λ (x : Task). QueuedWakeups n (tally (task w x))) (sym here) old in
       omega (arith, ltb-true 0 (task w u).wakeups some, queue.active active)
@@ -280,7 +273,7 @@ module _ {Q : Type 0} (k : Ordering Q) (w : World Q) (p : Proc) (t : Task) (n : 
         taken = λ e. absurd (false≢true e);
         cancelled = λ e.
             let same : (u.number == t.number) ≡ true = sym (named_or_caller_is w p t id few (from_task w p false false a.rule) a.known) ∙ (and_parts _ true e).0 in
-            let here : u ≡ t = task_same u t (eqb-true u.number t.number same) in
+            let here : u ≡ t = tasks_same u t (eqb-true u.number t.number same) in
             let queue : QueuedWakeups n (tally (task w u)) = subst (λ (x : Task). QueuedWakeups n (tally (task w x))) (sym here) old in
             ap (λ (m : ℕ). Some (pos m)) (queue.active (not-false _ a.errors.0));
       })

@@ -1,5 +1,5 @@
 -- What records say of the activations of a task.
-use Rattle.std.specs.Prelude.{◌≡◌, ℕ, ℤ, pos, ◌+◌, Bool, true, false, ◌&&◌, Option, Some, List, if◌then◌else◌, map, sum_by}
+use Rattle.std.specs.Prelude.{◌≡◌, ℕ, ℤ, pos, ◌+◌, Bool, false, ◌&&◌, Option, Some, List, if◌then◌else◌, map, sum_by}
 use Rattle.fmp_codes.specs.declared.numbers.Task.{Task}
 use Rattle.fmp_codes.specs.declared.calls.Call.TheVariants as call
 use Rattle.fmp_codes.specs.declared.calls.TaskCall.TheVariants as task
@@ -9,6 +9,7 @@ use Rattle.fmp_codes.specs.declared.records.Event.{Event}
 use Rattle.fmp_codes.specs.declared.records.Event.TheVariants as event
 use Rattle.fmp_codes.specs.declared.records.Record.{Record}
 use Rattle.fmp_codes.specs.declared.records.Runner.{Runner}
+use Rattle.fmp_codes.specs.Records.{is_gone}
 use Rattle.fmp_setup.specs.Setup.{Setup}
 use Rattle.fmp_machine.specs.World as world
 use Rattle.fmp_machine.specs.World.{World, item}
@@ -28,11 +29,6 @@ activates t r other = false
 -- how often one record activates it: once, if it is an accepted activation
 abbrev pub activated : Task → Record → ℕ
 activated t r = if activates t r.runner r.event then one_if (is_accepted r.answer) else 0
-
--- the caller ended
-abbrev pub is_gone : Answer → Bool
-is_gone answer.Gone = true
-is_gone other = false
 
 -- with this answer the event ends a life of this task: its own exit, or an accepted termination of it
 abbrev pub ends : Task → Option Runner → Answer → Event → Bool

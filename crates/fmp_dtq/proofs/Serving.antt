@@ -1,10 +1,11 @@
 -- Each change of a data queue leaves nobody waiting for what is to be had.
-use Rattle.std.proofs.Common.{◌≡◌, ℤ, ◌<◌, ◌≤◌, ◌==◌, Bool, true, false, not, cond, Option, Some, None, List, [], ◌∷◌, ◌++◌, length, map, refl, sym, ap, ◌∙◌, subst, arith, length-append, ⊎_elim}
+use Rattle.std.proofs.Common.{◌≡◌, ℤ, ◌<◌, ◌≤◌, Bool, true, false, Option, Some, None, List, [], ◌∷◌, ◌++◌, length, map, refl, sym, ap, ◌∙◌, subst, arith, length-append}
 use Rattle.std.specs.Prelude.{nat_lt, is_some}
-use Rattle.std.proofs.lemmas.Bool.{or_parts, or_cases, or_left, or_right, lt-ltb, le-ltb}
+use Rattle.std.proofs.lemmas.Bool.{or_parts, lt-ltb, le-ltb}
 use Rattle.fmp_codes.specs.declared.numbers.Task.{Task}
 use Rattle.fmp_machine.specs.World.{first, rest}
 use Rattle.fmp_waitq.specs.Queue.{Waiter, task_of, has_waiter, left_by}
+use Rattle.fmp_waitq.proofs.Waiters.{waited_before}
 use Rattle.fmp_dtq.specs.DataQueue.{DataQueue, sender, receiver}
 use Rattle.fmp_dtq.specs.Served.{can_send, can_receive, IsServed}
 
@@ -12,18 +13,6 @@ use Rattle.fmp_dtq.specs.Served.{can_send, can_receive, IsServed}
 is_first : (t : Task) (es : List Waiter) → has_waiter t es ≡ true → is_some (first (map task_of es)) ≡ true
 is_first t [] h = cc
 is_first t (e ∷ es) h = refl
-
--- who is there after another left was there before
-had_one : (t : Task) (e : Waiter) (xs es : List Waiter) (b : Bool) → (has_waiter t xs ≡ true → has_waiter t es ≡ true) → has_waiter t (cond b (e ∷ xs) xs) ≡ true → has_waiter t (e ∷ es) ≡ true
-had_one t e xs es false f h = or_right (t.number == e.task.number) (has_waiter t es) (f h)
-had_one t e xs es true f h =
-    ⊎_elim (λ (a : (t.number == e.task.number) ≡ true). or_left (t.number == e.task.number) (has_waiter t es) a)
-    (λ (a : has_waiter t xs ≡ true). or_right (t.number == e.task.number) (has_waiter t es) (f a))
-    (or_cases (t.number == e.task.number) (has_waiter t xs) h)
-
-had : (t u : Task) (es : List Waiter) → has_waiter t (left_by u es) ≡ true → has_waiter t es ≡ true
-had t u [] h = h
-had t u (e ∷ es) h = had_one t e (left_by u es) es (not (e.task.number == u.number)) (had t u es) h
 
 -- where nobody waits nobody does after one left
 nobody : (t : Task) (es : List Waiter) → is_some (first (map task_of es)) ≡ false → is_some (first (map task_of (left_by t es))) ≡ false
@@ -50,7 +39,7 @@ served_receivers q es e h = record {
 
 pub served_sender_left : (q : DataQueue) (t : Task) → IsServed q → IsServed (record q { senders = left_by t q.senders })
 served_sender_left q t h = record {
-  send = λ u g. h.send u (had u t q.senders g);
+  send = λ u g. h.send u (waited_before u t q.senders g).1;
   receive = λ u g.
       let p = or_parts (is_some (first q.values)) (is_some (sender q)) (h.receive u g) in
       rw (p.0, nobody t q.senders p.1) refl;
@@ -61,7 +50,7 @@ served_receiver_left q t h = record {
   send = λ u g.
       let p = or_parts (is_some (receiver q)) (nat_lt (length q.values) q.setup.capacity) (h.send u g) in
       rw (nobody t q.receivers p.0, p.1) refl;
-  receive = λ u g. h.receive u (had u t q.receivers g);
+  receive = λ u g. h.receive u (waited_before u t q.receivers g).1;
 }
 
 -- a value goes last where no task waits to receive and a place is free
@@ -100,7 +89,7 @@ served_taken q v e f h = record {
 served_exchanged : (q : DataQueue) (t : Task) (v : ℤ) → sender q ≡ Some t → IsServed q → IsServed (record q { values = rest (q.values ++ v ∷ []); senders = left_by t q.senders })
 served_exchanged q t v e h = record {
   send = λ u g.
-      let p = or_parts (is_some (receiver q)) (nat_lt (length q.values) q.setup.capacity) (h.send u (had u t q.senders g)) in
+      let p = or_parts (is_some (receiver q)) (nat_lt (length q.values) q.setup.capacity) (h.send u (waited_before u t q.senders g).1) in
       rw (p.0, exchanged q.values v) p.1;
   receive = λ u g.
       clash (is_some (sender q)) (ap (λ (o : Option Task). is_some o) e) (or_parts (is_some (first q.values)) (is_some (sender q)) (h.receive u g)).1;

@@ -1,20 +1,23 @@
 -- Positions and ticks taken grow by one a step at most.
-use Rattle.std.proofs.Common.{◌≡◌, ℕ, zero, suc, ◌+◌, ◌-◌, ◌<◌, ◌≤◌, ◌==◌, ◌≢◌, ◌∙◌, ◌^◌, Bool, true, false, ◌&&◌, cond, List, length, Option, Some, None, refl, arith, slice_index, slice_set}
+use Rattle.std.proofs.Common.{◌≡◌, ℕ, ◌+◌, ◌-◌, ◌<◌, ◌≤◌, ◌==◌, ◌≢◌, ◌∙◌, ◌^◌, Bool, true, false, ◌&&◌, cond, List, length, Option, Some, None, refl, arith, slice_index, slice_set}
 use Rattle.std.specs.Prelude.{replicate}
 use Rattle.std.proofs.lemmas.Bool.{eqb-true, eqb-false}
 use Rattle.std.proofs.lemmas.List.{get_or-set_same, get_or-set_other, length-set}
-use Rattle.fmp_codes.specs.Records.{processor_of}
+use Rattle.fmp_codes.specs.Records.{processor_of, is_gone, is_taken}
 use Rattle.fmp_codes.specs.declared.numbers.Task.{Task}
 use Rattle.fmp_codes.specs.declared.records.Answer.{Answer}
 use Rattle.fmp_codes.specs.declared.records.Event.{Event}
 use Rattle.fmp_codes.specs.declared.records.Event.TheVariants as event
 use Rattle.fmp_codes.specs.declared.records.Runner.{Runner}
 use Rattle.fmp_codes.specs.declared.records.Runner.TheVariants as runner
-use Rattle.fmp_histories.specs.Positions.{is_gone, is_taken, is_return, past, terminated}
+use Rattle.fmp_codes.proofs.Counters.{zeros}
+use Rattle.fmp_histories.specs.Positions.{is_return, past, terminated}
 use Rattle.fmp_histories.specs.Places.{called_tasks, renewed, moved_tasks, handler_moved, moved_handlers}
+use Rattle.fmp_histories.proofs.Advancing.{called_long, either_le}
 use Rattle.fmp_orders.specs.declared.rules.Rules.{Rules}
 use Rattle.fmp_orders.specs.Orders.{counts_ticks}
 use Rattle.fmp_orders.specs.Places.{moved_taken}
+use Rattle.fmp_orders.proofs.Longer.{renewed_long, taken_long}
 use Rattle.fmp_explore.specs.Walked.{AreBounded, IsRoomy}
 
 -- each number of a list is at most one more than that of another
@@ -37,10 +40,6 @@ past_le : (b : Bool) (n : ℕ) → past b n ≤ n + 1
 past_le true n = omega arith
 past_le false n = omega arith
 
-either_le : (b : Bool) (x y z : ℕ) → x ≤ z → y ≤ z → cond b x y ≤ z
-either_le true x y z p q = p
-either_le false x y z p q = q
-
 called_near : (ps : List ℕ) (o : Option Runner) (e : Event) (a : Answer) → length ps ≡ 64 → IsNear ps (called_tasks ps o e a)
 called_near ps None e a long = same_near ps
 called_near ps (Some (runner.Task t)) e a long =
@@ -49,12 +48,6 @@ called_near ps (Some (runner.Task t)) e a long =
     set_near ps (t.number - 1) _ (omega (arith, least, most, long)) (either_le (is_gone a) 0 _ _ (omega arith) (past_le _ _))
 called_near ps (Some (runner.Alarm x)) e a long = same_near ps
 called_near ps (Some (runner.Cyclic y)) e a long = same_near ps
-
-called_long : (ps : List ℕ) (o : Option Runner) (e : Event) (a : Answer) → length (called_tasks ps o e a) ≡ length ps
-called_long ps None e a = refl
-called_long ps (Some (runner.Task t)) e a = length-set ps _ _
-called_long ps (Some (runner.Alarm x)) e a = refl
-called_long ps (Some (runner.Cyclic y)) e a = refl
 
 -- a renewed position is 0
 renewed_le : (ps : List ℕ) (o : Option Task) → length ps ≡ 64 → (i : ℕ) → slice_index (renewed ps o) i ≤ slice_index ps i
@@ -70,10 +63,6 @@ renewed_le ps (Some t) long i = go (i == t.number - 1) refl
     go false e =
         let other : i ≢ t.number - 1 = λ q. eqb-false i (t.number - 1) e q in
         rw (get_or-set_other ps (t.number - 1) i 0 0 other) (omega arith)
-
-renewed_long : (ps : List ℕ) (o : Option Task) → length (renewed ps o) ≡ length ps
-renewed_long ps None = refl
-renewed_long ps (Some t) = length-set ps _ _
 
 tasks_near : (ps : List ℕ) (o : Option Runner) (e : Event) (a : Answer) → length ps ≡ 64 → IsNear ps (moved_tasks ps o e a)
 tasks_near ps o e a long i =
@@ -104,15 +93,6 @@ taken_near rules ns (event.Tick p) a long = go (counts_ticks rules && is_taken a
         set_near ns (p.number - 1) _ (omega (arith, least, most, long)) (omega arith)
     go false = same_near ns
 
-pub taken_long : (rules : Rules) (ns : List ℕ) (e : Event) (a : Answer) → length (moved_taken rules ns e a) ≡ length ns
-taken_long rules ns (event.Call p c) a = refl
-taken_long rules ns (event.Ipi p) a = refl
-taken_long rules ns (event.Tick p) a = go (counts_ticks rules && is_taken a)
-  where
-    go : (b : Bool) → length (cond b (slice_set ns (p.number - 1) (slice_index ns (p.number - 1) + 1)) ns) ≡ length ns
-    go true = length-set ns _ _
-    go false = refl
-
 bounded_less : (n : ℕ) (ns ms : List ℕ) (left : ℕ) → 0 < left → AreBounded n ns left → IsNear ns ms → AreBounded n ms (left - 1)
 bounded_less n ns ms left some bounded near i small =
     let b = bounded i small in
@@ -136,11 +116,6 @@ module _ (rules : Rules) (tasks handlers taken : List ℕ) (seen left : ℕ) (o 
     handlers_sized = length-set handlers _ _ ∙ r.handlers_sized;
     taken_sized = taken_long rules taken e a ∙ r.taken_sized;
   }
-
-pub zeros : (n i : ℕ) → slice_index (replicate n 0) i ≡ 0
-zeros zero i = refl
-zeros (suc n) zero = refl
-zeros (suc n) (suc i) = zeros n i
 
 -- at the start there is all room
 pub roomy_start : (left : ℕ) → left ≤ 2 ^ 31 → IsRoomy (replicate 64 0) (replicate 8 0) (replicate 8 0) 0 left

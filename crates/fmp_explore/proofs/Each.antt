@@ -1,30 +1,20 @@
 -- A test of the processors one after the other.
-use Rattle.std.proofs.Common.{◌≡◌, ℕ, zero, suc, ◌+◌, ◌<◌, Bool, true, false, ◌&&◌, refl, sym, ap, ◌∙◌, arith, ⊎_elim}
-use Rattle.std.proofs.lemmas.Bool.{cases_eq}
+use Rattle.std.proofs.Common.{◌≡◌, ℕ, zero, suc, ◌+◌, ◌<◌, Bool, true, false, ◌&&◌, sym, ap, ◌∙◌, arith, ⊎_elim}
+use Rattle.std.proofs.lemmas.Bool.{cases_eq, and_from, and_right}
 use Rattle.std.proofs.Math.Numerals.{suc-eq-add-one}
 use Rattle.fmp_codes.specs.Numbers.{as_proc}
 use Rattle.fmp_codes.specs.declared.numbers.Proc.{Proc}
 use Rattle.fmp_orders.specs.Orders.{each}
 
-and_true : (a b : Bool) → a ≡ true → b ≡ true → (a && b) ≡ true
-and_true true true e f = refl
-and_true true false e f = f
-and_true false b e f = e
-
-and_false : (a b : Bool) → b ≡ false → (a && b) ≡ false
-and_false true true f = f
-and_false true false f = refl
-and_false false b f = refl
-
 -- one processor more passes
 pub each_more : (t : Proc → Bool) (n : ℕ) (p : Proc) → p ≡ as_proc (n + 1) → each t n ≡ true → t p ≡ true → each t (n + 1) ≡ true
 each_more t n p e all one =
-    ap (each t) (sym (suc-eq-add-one n)) ∙ and_true (each t n) (t (as_proc (suc n))) all (ap t (ap as_proc (suc-eq-add-one n) ∙ sym e) ∙ one)
+    ap (each t) (sym (suc-eq-add-one n)) ∙ and_from (each t n) (t (as_proc (suc n))) all (ap t (ap as_proc (suc-eq-add-one n) ∙ sym e) ∙ one)
 
 -- one that does not pass is among them
 pub each_not : (t : Proc → Bool) (n : ℕ) (p : Proc) → p ≡ as_proc (n + 1) → t p ≡ false → (m : ℕ) → n < m → each t m ≡ false
 each_not t n p e none zero h = absurd (omega (arith, h))
 each_not t n p e none (suc m) h =
-    ⊎_elim (λ (f : n ≡ m). and_false (each t m) (t (as_proc (suc m))) (ap t (ap as_proc (ap suc (sym f) ∙ suc-eq-add-one n) ∙ sym e) ∙ none))
+    ⊎_elim (λ (f : n ≡ m). and_right (each t m) (t (as_proc (suc m))) (ap t (ap as_proc (ap suc (sym f) ∙ suc-eq-add-one n) ∙ sym e) ∙ none))
     (λ (f : n ≡ m → ⊥). ap (λ (b : Bool). b && t (as_proc (suc m))) (each_not t n p e none m (omega (arith, f, h))))
     (cases_eq n m)

@@ -8,6 +8,13 @@ use fmp_parts::Digest;
 use fmp_search::Space;
 use std::alloc::AllocError;
 
+/// Adds these numbers to what tells places apart.
+fn add_numbers(digest: &mut Digest, numbers: &[u32]) {
+    for number in numbers {
+        digest.add(u64::from(*number));
+    }
+}
+
 impl<'a> Space for Walker<'a> {
     ghost Place = { places.Place };
 
@@ -90,15 +97,9 @@ impl<'a> Space for Walker<'a> {
         let mut digest = Digest::new();
         digest.add(self.kernel.hash());
         digest.add(u64::from(self.seen));
-        for position in &self.tasks {
-            digest.add(u64::from(*position));
-        }
-        for position in &self.handlers {
-            digest.add(u64::from(*position));
-        }
-        for ticks in &self.taken {
-            digest.add(u64::from(*ticks));
-        }
+        add_numbers(&mut digest, &self.tasks);
+        add_numbers(&mut digest, &self.handlers);
+        add_numbers(&mut digest, &self.taken);
         digest.value()
     }
 }

@@ -5,6 +5,7 @@ use Rattle.std.proofs.lemmas.Grind.{common_steps}
 use Rattle.std.proofs.lemmas.Bool.{lt-ltb, ltb-false, ltb-true}
 use Rattle.std.proofs.lemmas.List.{append-nil, take-append-le}
 use Rattle.std.proofs.Math.Seq.{take-append-add}
+use Rattle.std.proofs.Math.Bool.{or-true}
 use Rattle.fmp_codes.specs.declared.records.Event.{Event}
 use Rattle.fmp_names.specs.Names.{NameLists}
 use Rattle.fmp_text.specs.declared.fault.TextFault.{TextFault}
@@ -20,10 +21,6 @@ or_false : (a b : Bool) → ((a || false) || b) ≡ (a || b)
 or_false true b = refl
 or_false false b = refl
 
-or_true : (a : Bool) → (a || true) ≡ true
-or_true true = refl
-or_true false = refl
-
 -- whether bytes are dropped is the same whether two pieces come one by one or at once
 dropped_twice : (limit taken : ℕ) (dropped : Bool) (piece more : List ℕ)
     → ((dropped || nat_lt limit (taken + length piece)) || nat_lt limit (min limit (taken + length piece) + length more)) ≡ (dropped || nat_lt limit (taken + length (piece ++ more)))
@@ -34,7 +31,7 @@ dropped_twice limit taken dropped piece more = go (nat_lt limit (taken + length 
     go true is =
         let over = ltb-true limit (taken + length piece) is in
         let longer : nat_lt limit (taken + length (piece ++ more)) ≡ true = rw length-append (lt-ltb _ _ (omega arith)) in
-        rw (is, longer, or_true dropped) refl
+        rw (is, longer, or-true dropped) refl
     go false is =
         let within = ltb-false limit (taken + length piece) is in
         let same : min limit (taken + length piece) + length more ≡ taken + length (piece ++ more) = rw length-append (omega arith) in

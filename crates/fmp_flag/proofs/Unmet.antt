@@ -1,28 +1,19 @@
 -- Tasks that wait only for what is not set do so after the pattern or the queue has changed.
-use Rattle.std.proofs.Common.{◌≡◌, ℕ, ◌⊎◌, inl, inr, ◌||◌, ◌==◌, Bool, true, false, not, List, [], ◌∷◌, map, refl, sym, ap, ◌∙◌, subst, arith, ⊎_elim}
-use Rattle.std.specs.Prelude.{nat_lt, bit_and, bit_or}
-use Rattle.std.specs.Int.Bits.{and_self, and_zero_l, and_zero_r}
-use Rattle.std.proofs.lemmas.Bool.{cases_eq, both_ways, cond_both, and_parts, false_from_ne_true, eq-eqb, ne_eqb, eqb-true, ltb-false}
-use Rattle.std.proofs.lemmas.Nat.{and_assoc, and_comm}
-use Rattle.std.proofs.lemmas.Map.Views.{any-filter_same}
+use Rattle.std.proofs.Common.{◌≡◌, ℕ, ◌⊎◌, inl, inr, ◌||◌, ◌==◌, Bool, true, false, not, List, [], ◌∷◌, map, refl, sym, ap, ◌∙◌, ⊎_elim}
+use Rattle.std.specs.Prelude.{nat_lt, bit_or}
+use Rattle.std.proofs.lemmas.Bool.{cases_eq, cond_both, ne_eqb}
 use Rattle.fmp_codes.specs.declared.numbers.Task.{Task}
-use Rattle.fmp_codes.specs.declared.calls.Mode.{Mode}
 use Rattle.fmp_codes.specs.declared.calls.Mode.TheVariants as mode
 use Rattle.fmp_machine.specs.World.{item}
 use Rattle.fmp_machine.specs.Objects.{holds}
+use Rattle.fmp_machine.proofs.Patterns.{unmet_with_none}
 use Rattle.fmp_links.specs.Tasks.{has_task}
 use Rattle.fmp_waitq.specs.Queue.{Waiter, task_of, has_waiter, left_by, put_ranked, joined_by}
+use Rattle.fmp_waitq.proofs.Waiters.{waits_is, waited_before}
 use Rattle.fmp_flag.specs.declared.wanted.Wanted.{Wanted}
 use Rattle.fmp_flag.specs.Eventflags.{EventflagState, no_bits, is_met, cleared, and_release, served, bits_set, WaitsUnmet}
 
 -- Who waits.
-
--- of who waits after a task has left: he waited before, and is another
-pub waited_before : (t u : Task) (es : List Waiter) → has_waiter t (left_by u es) ≡ true → (not (t.number == u.number) ≡ true) × (has_waiter t es ≡ true)
-waited_before t u es h =
-    let same = any-filter_same (λ (e : Waiter). t.number == e.task.number) (λ (e : Waiter). not (e.task.number == u.number)) (not (t.number == u.number))
-    (λ e f. ap (λ n. not (n == u.number)) (sym (eqb-true t.number e.task.number f))) es in
-    and_parts (not (t.number == u.number)) (has_waiter t es) (sym same ∙ h)
 
 or_swap : (a b c : Bool) → (a || (b || c)) ≡ (b || (a || c))
 or_swap true true c = refl
@@ -37,33 +28,11 @@ has_waiter-put_ranked t x (e ∷ es) =
     (λ _. refl)
     (λ _. ap (λ (b : Bool). (t.number == e.task.number) || b) (has_waiter-put_ranked t x es) ∙ or_swap (t.number == e.task.number) (t.number == x.task.number) (has_waiter t es))
 
-has_task-map : (t : Task) (es : List Waiter) → has_task t (map task_of es) ≡ has_waiter t es
-has_task-map t [] = refl
-has_task-map t (e ∷ es) = ap (λ (b : Bool). (t.number == e.task.number) || b) (has_task-map t es)
-
 -- What is set.
 
 -- what tasks of one number want is met alike
 met_same : (x : ℕ) (ws : List Wanted) (t u : Task) → t.number ≡ u.number → is_met x ws t ≡ is_met x ws u
 met_same x ws t u e = ap (λ (n : ℕ). holds x (item no_bits ws n).pattern (item no_bits ws n).mode) e
-
-met_with_more : (x y pattern : ℕ) → bit_and (bit_and x y) pattern ≡ pattern → bit_and x pattern ≡ pattern
-met_with_more x y pattern e =
-    ap (bit_and x) (sym e) ∙ ap (bit_and x) (and_assoc pattern x y) ∙ sym (and_assoc (bit_and y pattern) x x) ∙ ap (λ z. bit_and z (bit_and y pattern)) (and_self x)
-    ∙ sym (and_assoc pattern x y) ∙ e
-
--- what is not met at x is not met with fewer bits
-pub unmet_with_fewer : (x y pattern : ℕ) (m : Mode) → holds x pattern m ≡ false → holds (bit_and x y) pattern m ≡ false
-unmet_with_fewer x y pattern mode.Andw e =
-    false_from_ne_true _ (λ h. both_ways _ e (eq-eqb _ _ (met_with_more x y pattern (eqb-true _ _ h))))
-unmet_with_fewer x y pattern mode.Orw e =
-    let none : bit_and x pattern ≡ 0 = omega (arith, ltb-false 0 (bit_and x pattern) e) in
-    let fewer : bit_and (bit_and x y) pattern ≡ 0 =
-    and_assoc pattern x y ∙ ap (bit_and x) (and_comm y pattern) ∙ sym (and_assoc y x pattern) ∙ ap (λ z. bit_and z y) none ∙ and_zero_l y in
-    rw fewer refl
-
-unmet_with_none : (x pattern : ℕ) (m : Mode) → holds x pattern m ≡ false → holds 0 pattern m ≡ false
-unmet_with_none x pattern m e = subst (λ z. holds z pattern m ≡ false) (and_zero_r x) (unmet_with_fewer x 0 pattern m e)
 
 -- The queue changes.
 
@@ -127,4 +96,4 @@ unmet_served ws s x (t ∷ ts) none but =
 pub unmet_bits_set : (ws : List Wanted) (s : EventflagState) (bits : ℕ) → WaitsUnmet ws s → WaitsUnmet ws (bits_set s ws bits).0
 unmet_bits_set ws s bits h =
     unmet_served ws s (bit_or s.eventflag.pattern bits) (map task_of s.waiters)
-    (λ t e. unmet_with_none s.eventflag.pattern (item no_bits ws t.number).pattern (item no_bits ws t.number).mode (h t e)) (λ t e. inl (has_task-map t s.waiters ∙ e))
+    (λ t e. unmet_with_none s.eventflag.pattern (item no_bits ws t.number).pattern (item no_bits ws t.number).mode (h t e)) (λ t e. inl (waits_is t s.waiters ∙ e))

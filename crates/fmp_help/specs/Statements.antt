@@ -1,5 +1,6 @@
 -- How the statements are listed.
 use Rattle.std.specs.Prelude.{ℕ, ◌+◌, ◌^◌, ◌-◌, List, [], ◌∷◌, ◌++◌, Option, Some, None, ◌==◌, nat_lt, codes, decimal, if◌then◌else◌}
+use Rattle.fmp_bytes.specs.Bytes.{comma}
 use Rattle.fmp_calls.specs.declared.kinds.ObjectKind.TheVariants.{Task, Semaphore}
 use Rattle.fmp_help.specs.Fields.{attribute_word, first_word, free_field, second_word, word_of}
 use Rattle.fmp_statements.specs.declared.attributes.Attribute.{Attribute}
@@ -14,7 +15,7 @@ use Rattle.fmp_statements.specs.Table as statements
 
 -- a part of a statement: a comma has a blank behind it
 unfoldable pub part_of : StatementName → ℕ → Part → List ℕ
-part_of name i (parts.Mark byte) = if byte == 44 then codes ", " else (byte ∷ [])
+part_of name i (parts.Mark byte) = if byte == comma then codes ", " else (byte ∷ [])
 part_of name i (parts.One item) = word_of name item
 part_of name i (parts.Series byte item) = word_of name item ++ codes " " ++ byte ∷ codes " .."
 part_of name i parts.Free = free_field name i

@@ -1,18 +1,17 @@
 -- A history that is one event longer.
-use Rattle.std.proofs.Common.{◌≡◌, ◌≤◌, ◌||◌, List, [], ◌∷◌, ◌++◌, length, refl, ap, sym, ◌∙◌, arith}
-use Rattle.std.specs.Prelude.{is_some}
-use Rattle.std.proofs.lemmas.Bool.{cond_both}
+use Rattle.std.proofs.Common.{◌≡◌, ◌≤◌, List, [], ◌∷◌, ◌++◌, length, refl, ap, sym, ◌∙◌, arith}
 use Rattle.std.proofs.lemmas.List.{map-append}
 use Rattle.std.proofs.lemmas.List.Elements.{All-push, All-tail}
 use Rattle.fmp_codes.specs.Records.{processor_of, AreOn}
 use Rattle.fmp_codes.specs.declared.records.Event.{Event}
 use Rattle.fmp_codes.specs.declared.records.Event.TheVariants as events
 use Rattle.fmp_codes.specs.declared.records.Record.{Record}
-use Rattle.fmp_setup.specs.Setup.{Setup, has_time}
-use Rattle.fmp_machine.specs.World.{World, processor, handler, runner_of, is_held}
+use Rattle.fmp_setup.specs.Setup.{Setup}
+use Rattle.fmp_machine.specs.World.{World}
 use Rattle.fmp_machine.specs.Arrivals.{State, numbered}
-use Rattle.fmp_machine.specs.Step.{settled, before_event, unchanged, step, replay, answers}
+use Rattle.fmp_machine.specs.Step.{step, replay, answers}
 use Rattle.fmp_machine.specs.Boot.{booted}
+use Rattle.fmp_machine.proofs.Replays.{replay_more, answers_more}
 use Rattle.fmp_setup.specs.Valid.{IsValid}
 use Rattle.fmp_safety.specs.Safe.{Safe}
 use Rattle.fmp_safety.proofs.Stepping.{numbered_tops, safe_step}
@@ -22,24 +21,7 @@ use Rattle.fmp_listed.specs.Queues.{Queues}
 use Rattle.fmp_refinement.specs.Stands.{Stands}
 use Rattle.fmp_histories.specs.Histories.{events_of, state_after, IsRunOf}
 
--- a record names its event
-pub step_event : (m : State) (e : Event) → (step numbered m e).1.event ≡ e
-unfolding settled before_event unchanged
-step_event m (events.Call p c) = cond_both (is_some (runner_of m p)) _ _ (λ (x : State × Record). x.1.event ≡ events.Call p c) (λ _. refl) (λ _. refl)
-step_event m (events.Tick p) =
-    cond_both (has_time m.timer p) _ _ (λ (x : State × Record). x.1.event ≡ events.Tick p)
-    (λ _. cond_both ((processor m p).locked || is_some (handler m p)) _ _ (λ (x : State × Record). x.1.event ≡ events.Tick p) (λ _. refl) (λ _. refl)) (λ _. refl)
-step_event m (events.Ipi p) = cond_both (is_held m p) _ _ (λ (x : State × Record). x.1.event ≡ events.Ipi p) (λ _. refl) (λ _. refl)
-
-replay_more : (m : State) (es : List Event) (e : Event) → replay numbered m (es ++ e ∷ []) ≡ (step numbered (replay numbered m es) e).0
-replay_more m [] e = refl
-replay_more m (x ∷ es) e = replay_more (step numbered m x).0 es e
-
-answers_more : (m : State) (es : List Event) (e : Event) → answers numbered m (es ++ e ∷ []) ≡ answers numbered m es ++ (step numbered (replay numbered m es) e).1 ∷ []
-answers_more m [] e = refl
-answers_more m (x ∷ es) e = ap (λ rs. (step numbered m x).1 ∷ rs) (answers_more (step numbered m x).0 es e)
-
-events_more : (h : List Record) (r : Record) → events_of (h ++ r ∷ []) ≡ events_of h ++ r.event ∷ []
+pub events_more : (h : List Record) (r : Record) → events_of (h ++ r ∷ []) ≡ events_of h ++ r.event ∷ []
 events_more h r = map-append (λ (x : Record). x.event) h (r ∷ [])
 
 -- the state after one more record, that of an event

@@ -18,7 +18,7 @@ use Rattle.fmp_judging.proofs.Grammars.{only_memory}
 use Rattle.fmp_judging.proofs.Yes.{answered_prints, own_prints}
 
 -- a fault that is none of the configuration is no fault of it that is not the first one
-no_config_fault : (text : List ℕ) (fault : RunFault) → is_config fault ≡ false → FirstConfigFault text fault
+pub no_config_fault : (text : List ℕ) (fault : RunFault) → is_config fault ≡ false → FirstConfigFault text fault
 no_config_fault text (run.Config fault) other = absurd (true≢false other)
 no_config_fault text _ other = tt
 

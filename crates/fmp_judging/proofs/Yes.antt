@@ -5,6 +5,7 @@ use Rattle.fmp_machine.specs.Boot.{booted}
 use Rattle.fmp_machine.specs.Arrivals.{numbered}
 use Rattle.fmp_setup.specs.Setup.{Setup}
 use Rattle.fmp_machine.specs.Step.{answers}
+use Rattle.fmp_machine.proofs.Replays.{length-answers}
 use Rattle.fmp_setup.specs.Valid.{IsValid}
 use Rattle.fmp_text.proofs.Limited.{reading_on, reading_in_bits}
 use Rattle.fmp_text.proofs.SpelledTexts.{reading_of-spelled}
@@ -14,7 +15,7 @@ use Rattle.fmp_text.specs.Limits.{most_bytes as MOST_BYTES, most_events}
 use Rattle.fmp_calls.specs.Arguments.{EventInBits}
 use Rattle.fmp_codes.specs.Records.{AreOn}
 use Rattle.fmp_codes.specs.declared.records.Event.{Event}
-use Rattle.fmp_check.proofs.FittingAnswers.{answers-fit, length-answers}
+use Rattle.fmp_check.proofs.FittingAnswers.{answers-fit}
 use Rattle.fmp_check.specs.Checking.{PrintsAnswers}
 use Rattle.fmp_trace.proofs.Lengths.{lines_few}
 use Rattle.fmp_wait_laws.proofs.Fewer.{few_releases}

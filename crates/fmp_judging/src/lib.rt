@@ -14,9 +14,11 @@ mod judging;
 mod passing;
 mod status;
 mod texts;
+mod verdicts;
 
 pub use fault::{FaultLine, RunFault};
 pub use judging::{Judged, judged_texts};
 pub use passing::pass_on;
 pub use status::Status;
 pub use texts::{config_from, scripts_from, texts_from};
+pub use verdicts::verdict_text;

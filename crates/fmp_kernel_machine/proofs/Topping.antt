@@ -3,29 +3,29 @@ use Rattle.std.proofs.Common.{◌≡◌, ℕ, ◌+◌, ◌-◌, ◌<◌, ◌≤�
 use Rattle.std.specs.Prelude.{slice_index}
 use Rattle.std.proofs.lemmas.Bool.{cases_lt}
 use Rattle.std.proofs.lemmas.List.{get_or_past}
-use Rattle.fmp_codes.specs.Numbers.{as_proc}
+use Rattle.fmp_codes.specs.Numbers.{as_proc, task_number}
 use Rattle.fmp_codes.specs.declared.numbers.Task.{Task}
 use Rattle.fmp_machine.specs.World.{World, processors_to}
 use Rattle.fmp_machine.specs.Ordering.{top}
 use Rattle.fmp_machine.specs.Step.{tops}
-use Rattle.fmp_ready.specs.Queues.{top_at, number_of}
+use Rattle.fmp_ready.specs.Queues.{top_at}
 use Rattle.fmp_ready.proofs.Tops.{number_small}
 use Rattle.fmp_listed.specs.Queues.{Queues, listed}
 use Rattle.fmp_primitives.specs.Numbered.{numbered}
 use Rattle.fmp_primitives.proofs.EachProcessor.{numbers-tell}
 use Rattle.fmp_primitives.proofs.Numbers.{numbered-task}
 
-numbered-back : (o : Option Task) → numbered (number_of o) ≡ o
+numbered-back : (o : Option Task) → numbered (task_number o) ≡ o
 numbered-back None = refl
 numbered-back (Some t) = numbered-task t
 
-pub small_each : (q : List (List Task)) (xs : List ℕ) → length xs ≡ 8 → ((k : ℕ) → k < 8 → slice_index xs k ≡ number_of (top_at q k)) → (k : ℕ) → slice_index xs k ≤ 64
+pub small_each : (q : List (List Task)) (xs : List ℕ) → length xs ≡ 8 → ((k : ℕ) → k < 8 → slice_index xs k ≡ task_number (top_at q k)) → (k : ℕ) → slice_index xs k ≤ 64
 small_each q xs long each k =
     ⊎_elim (λ (h : k < 8). subst (λ (n : ℕ). n ≤ 64) (sym (each k h)) (number_small (top_at q k)))
     (λ (h : 8 ≤ k). let nothing : slice_index xs k ≡ 0 = get_or_past xs k 0 (omega (arith, h, long)) in omega (arith, nothing)) (cases_lt k 8)
 
 pub tops_told : (w : World Queues) (xs : List ℕ) (n : ℕ) → n ≡ length w.processors → n ≤ 8 → length xs ≡ 8 →
-    ((k : ℕ) → k < 8 → slice_index xs k ≡ number_of (top_at w.order.ready k)) → map numbered (take n xs) ≡ tops listed w
+    ((k : ℕ) → k < 8 → slice_index xs k ≡ task_number (top_at w.order.ready k)) → map numbered (take n xs) ≡ tops listed w
 unfolding listed
 tops_told w xs n e few long each =
     numbers-tell (top listed w) xs n (omega (arith, few, long))

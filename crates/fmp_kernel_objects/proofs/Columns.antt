@@ -1,5 +1,5 @@
 -- What is told of all objects of a kind, field by field: a look-up of it, and a change of one object.
-use Rattle.std.proofs.Common.{◌≡◌, ℕ, List, [], get_or, set, map, slice_get, unwrap_or, sym}
+use Rattle.std.proofs.Common.{◌≡◌, ℕ, List, [], get_or, set, map, sym}
 use Rattle.std.proofs.lemmas.List.{map-id, map-set, set-get_or}
 use Rattle.std.proofs.lemmas.Simd.{map-map}
 use Rattle.std.proofs.lemmas.Option.{unwrap_or-slice_get}
@@ -10,9 +10,6 @@ use Rattle.fmp_flag.specs.Eventflags.{EventflagState}
 use Rattle.fmp_dtq.specs.DataQueue.{DataQueue}
 use Rattle.fmp_mpf.specs.MemoryPool.{MemoryPool}
 use Rattle.fmp_kernel_objects.specs.Kinds.{no_semaphore, no_eventflag, no_queue, no_pool}
-
-pub got : {X : Type 0} (xs : List X) (i : ℕ) (d : X) → unwrap_or (slice_get xs i) d ≡ get_or xs i d
-got = unwrap_or-slice_get
 
 pub changed : {X Y : Type 0} (f : X → Y) (xs : List X) (i : ℕ) (x : X) → map f (set xs i x) ≡ set (map f xs) i (f x)
 changed f xs i x = map-set f xs i x
@@ -51,7 +48,7 @@ pub pool_waiters_at : (ms : List MemoryPool) (i : ℕ) → (get_or ms i no_pool)
 pool_waiters_at ms i = sym (get_or-map (λ m. m.waiters) ms i no_pool)
 
 pub ruleset columns = (
-  got,
+  unwrap_or-slice_get,
   changed,
   kept,
   semaphore_at,

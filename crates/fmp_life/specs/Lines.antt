@@ -10,12 +10,12 @@ use Rattle.fmp_calls.specs.declared.kinds.ObjectKind.{ObjectKind}
 use Rattle.fmp_calls.specs.declared.kinds.ObjectKind.TheVariants as objects
 use Rattle.fmp_names.specs.Names.{NameLists}
 use Rattle.fmp_machine.specs.declared.machine.TaskRecord.{TaskRecord}
-use Rattle.fmp_machine.specs.Objects.{eventflag, holder, pool, semaphore, values}
+use Rattle.fmp_machine.specs.Objects.{eventflag, holder, pool, semaphore, values, free_blocks}
 use Rattle.fmp_machine.specs.Ordering.{is_runnable}
 use Rattle.fmp_machine.specs.World.{World, item, processor, processors_of, task}
 use Rattle.fmp_trace.specs.Lines.{task_text}
 use Rattle.fmp_trace.specs.Values.{named}
-use Rattle.fmp_states.specs.Changes.{free_blocks, numbers_text, object_text, ticks_text, values_from}
+use Rattle.fmp_states.specs.Changes.{numbers_text, object_text, ticks_text, values_from}
 use Rattle.fmp_states.specs.States.{flag_text, is_running, left_text, waiting_text}
 use Rattle.fmp_life.specs.declared.things.Thing.{Thing}
 use Rattle.fmp_life.specs.declared.things.Thing.TheVariants as thing

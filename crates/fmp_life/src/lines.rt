@@ -11,7 +11,7 @@ use fmp_kernel::Kernel;
 use fmp_machine::TaskRecord;
 use fmp_names::Names;
 use fmp_states::{
-    free_blocks, put_any_wait, put_flag, put_left, put_numbers, put_object, put_ticks, put_values,
+    put_any_wait, put_flag, put_left, put_numbers, put_object, put_ticks, put_values,
 };
 use fmp_trace::{put_named, put_number, put_task};
 use std::alloc::AllocError;
@@ -236,7 +236,7 @@ pub(crate) fn put_line(
         }
         Thing::DataQueue(d) => put_queue(out, names, kernel, d),
         Thing::Pool(m) => {
-            let free = free_blocks(&kernel.pool(m));
+            let free = kernel.pool(m).free_blocks();
             put_object(out, names, ObjectKind::Pool, m, b" free=", free)
         }
         Thing::Cyclic(c) => {

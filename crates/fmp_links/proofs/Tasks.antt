@@ -1,29 +1,19 @@
 -- Lists of tasks against lists of items.
-use Rattle.std.proofs.Common.{◌≡◌, ℕ, ◌+◌, ◌-◌, ◌<◌, ◌≤◌, ◌==◌, Bool, true, false, not, ◌||◌, ◌&&◌, cond, List, [], ◌∷◌, ◌++◌, filter, map, nat_eq, refl, sym, ap, ◌∙◌, subst, arith, ⊎_elim}
-use Rattle.std.specs.Coded.{le_prop}
+use Rattle.std.proofs.Common.{◌≡◌, ℕ, ◌+◌, ◌-◌, ◌<◌, ◌==◌, Bool, true, false, not, ◌||◌, ◌&&◌, cond, List, [], ◌∷◌, ◌++◌, filter, map, nat_eq, refl, sym, ap, ◌∙◌, arith, ⊎_elim}
 use Rattle.std.specs.Option.{option_map}
 use Rattle.std.proofs.lemmas.Bool.{cases_eq, eq-eqb, ne_eqb}
 use Rattle.fmp_codes.specs.declared.numbers.Task.{Task}
+use Rattle.fmp_codes.proofs.Same.{tasks_same}
 use Rattle.fmp_links.specs.Lists as links
 use Rattle.fmp_links.specs.Lists.{has, first_of}
 use Rattle.fmp_links.specs.Tasks.{task_at, has_task, without, inserted, AreDistinct}
 use Rattle.fmp_links.proofs.Having.{has_here, has_there, or_left, or_right}
 
-made_same : (n k : ℕ) → n ≡ k → (l : 1 ≤ n) (m : n ≤ 64) (l' : 1 ≤ k) (m' : k ≤ 64) →
-    ◌≡◌ {A = Task} (record { number = n; least = l; most = m }) (record { number = k; least = l'; most = m' })
-made_same n k e l m =
-    let make : (n : ℕ) → 1 ≤ n → n ≤ 64 → Task = λ n l m. record { number = n; least = l; most = m } in
-    let P : ℕ → Type 0 = λ k. (l' : 1 ≤ k) (m' : k ≤ 64) → make n l m ≡ make k l' m' in
-    subst P e (λ l' m'. ap (λ x. make n x m) (le_prop l l') ∙ ap (λ x. make n l' x) (le_prop m m'))
-
-pub task_same : (t u : Task) → t.number ≡ u.number → t ≡ u
-task_same t u e = made_same t.number u.number e t.least t.most u.least u.most
-
 pub number_at : (k : ℕ) → k < 64 → (task_at k).number ≡ k + 1
 number_at k h = omega arith
 
 pub task_is : (t : Task) (k : ℕ) → k + 1 ≡ t.number → task_at k ≡ t
-task_is t k e = task_same (task_at k) t (let low = t.most in omega (arith, e, low, t.least))
+task_is t k e = tasks_same (task_at k) t (let low = t.most in omega (arith, e, low, t.least))
 
 same_test : (t : Task) (k x : ℕ) → k + 1 ≡ t.number → x < 64 → (t.number == (task_at x).number) ≡ nat_eq k x
 same_test t k x e h =

@@ -1,11 +1,12 @@
 -- One object or one function more.
-use Rattle.std.proofs.Common.{◌≡◌, ◌≤◌, ◌<◌, ℕ, zero, suc, ◌+◌, ◌-◌, false, List, [], ◌∷◌, ◌++◌, length, drop, drop-cons, None, Some, add-one, eqb, ne_eqb, refl, sym, ap, ap₂, ◌∙◌, append_assoc, append-nil, arith}
+use Rattle.std.proofs.Common.{◌≡◌, ◌≤◌, ◌<◌, ℕ, suc, ◌+◌, ◌-◌, false, List, ◌∷◌, ◌++◌, length, drop, drop-cons, None, Some, add-one, eqb, ne_eqb, refl, sym, ap, ap₂, ◌∙◌, append_assoc, append-nil, arith}
 use Rattle.std.specs.Prelude.{slice_get}
 use Rattle.std.proofs.lemmas.Option.{slice_get_within, get_or_from_slice_get}
 use Rattle.fmp_calls.specs.declared.kinds.ObjectKind.{ObjectKind}
 use Rattle.fmp_calls.specs.declared.kinds.NameKind.TheVariants.{Function}
 use Rattle.fmp_names.specs.Names.{NameLists, name_of}
 use Rattle.fmp_names.proofs.Placed.{numbered}
+use Rattle.fmp_names.proofs.Listed.{past_last}
 use Rattle.fmp_setup.specs.Setup.{Setup}
 use Rattle.fmp_listing.specs.Functions.{function_line, functions_from}
 use Rattle.fmp_listing.specs.Listing.{object_line, objects_to}
@@ -24,13 +25,6 @@ module _ (c : Setup) (kind : ObjectKind) where
   pub object_next : (i : ℕ) (old between new : List ℕ) → between ≡ old ++ objects_to c kind i → new ≡ between ++ object_line c kind i → new ≡ old ++ objects_to c kind (i + 1)
   object_next i old between new so_far line =
       line ∙ ap (λ (xs : List ℕ). xs ++ object_line c kind i) so_far ∙ append_assoc old (objects_to c kind i) (object_line c kind i) ∙ ap (λ (xs : List ℕ). old ++ xs) (sym (objects_more i))
-
--- what is left of a list behind its end
-past : (names : List (List ℕ)) (i : ℕ) → slice_get names i ≡ None → drop i names ≡ []
-past [] zero is = refl
-past [] (suc i) is = refl
-past (name ∷ names) zero is = absurd (let gives = is in cc)
-past (name ∷ names) (suc i) is = past names i is
 
 module _ (lists : NameLists) where
   pub is_within : (n : ℕ) (name : List ℕ) → name_of lists Function n ≡ Some name → n ≤ length lists.functions
@@ -66,4 +60,4 @@ module _ (lists : NameLists) where
   -- where there is no function of this number, all lines were written
   pub functions_done : (n : ℕ) (out all : List ℕ) → 1 ≤ n → name_of lists Function n ≡ None → out ++ functions_from n (drop (n - 1) lists.functions) ≡ all → out ≡ all
   functions_done n out all least is made =
-      sym (ap (λ (names : List (List ℕ)). out ++ functions_from n names) (past lists.functions (n - 1) (no_place n least is)) ∙ append-nil out) ∙ made
+      sym (ap (λ (names : List (List ℕ)). out ++ functions_from n names) (past_last lists.functions (n - 1) (no_place n least is)) ∙ append-nil out) ∙ made

@@ -8,3 +8,6 @@ mod WorkedObjects  -- Scenarios of objects, computed. Each list is of the record
 mod MoreTasks  -- More scenarios of tasks and processors, computed
 mod MoreTime  -- More scenarios of ticks and handlers, computed
 mod MoreObjects  -- More scenarios of objects, computed. Each list is of the records that the machine makes of its own events.
+pub mod Replays  -- The state after some events and the records of their answers, one event after the other.
+pub mod Patterns  -- What is not met at a pattern is not met with fewer bits, and not with none.
+pub mod Runners  -- A place has the same task as itself.

@@ -18,3 +18,4 @@ pub mod Step  -- One step of the machine, and runs.
 pub mod Boot  -- The state at boot.
 pub mod Outcomes  -- How the code of a call answers: with an effect, or with the code that refuses the call.
 pub mod Due  -- The least ticks left for which a tick on a processor counts.
+pub mod TaskStates  -- What the state of a task is called.

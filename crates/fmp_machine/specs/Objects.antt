@@ -1,5 +1,5 @@
 -- Look-ups of the objects, and what of them a task may wait for.
-use Rattle.std.specs.Prelude.{ℕ, ℤ, not, Bool, false, Option, None, List, [], ◌==◌, nat_lt, replicate, take, bit_and}
+use Rattle.std.specs.Prelude.{ℕ, ℤ, not, Bool, false, Option, None, List, [], ◌==◌, nat_lt, replicate, take, count_by, bit_and}
 use Rattle.std.specs.List.{position}
 use Rattle.fmp_codes.specs.declared.numbers.Proc.{Proc}
 use Rattle.fmp_codes.specs.Numbers.{as_proc}
@@ -65,3 +65,7 @@ module _ {Q : Type 0} (w : World Q) where
 abbrev pub holds : ℕ → ℕ → Mode → Bool
 holds x pattern mode.Andw = bit_and x pattern == pattern
 holds x pattern mode.Orw = nat_lt 0 (bit_and x pattern)
+
+-- how many blocks of a pool are not handed out
+abbrev pub free_blocks : Pool → ℕ
+free_blocks x = count_by not (take x.setup.blocks x.handed)

@@ -10,6 +10,7 @@
 
 mod effect;
 mod machine;
+mod states;
 
 pub use effect::Effect;
 pub use fmp_setup::{
@@ -21,3 +22,4 @@ pub use machine::{
     Alarm, Context, Cyclic, Eventflag, Pool, Processor, QueueKind, Rule, Semaphore, TaskRecord,
     Wait,
 };
+pub use states::TaskState;

@@ -1,11 +1,12 @@
 -- Tests and counts of the names in lists.
-use Rattle.std.proofs.Common.{◌≡◌, ℕ, ◌+◌, ◌<◌, zero, suc, true, false, ◌&&◌, ◌||◌, inl, inr, Bool, cond, not, List, [], ◌∷◌, ◌++◌, length, map, set, get_or, Result, Ok, Err, ◌⊎◌, OnOk, OnErr, refl, sym, ap, ◌∙◌, arith, position}
+use Rattle.std.proofs.Common.{◌≡◌, ℕ, ◌+◌, ◌<◌, zero, suc, true, false, ◌&&◌, ◌||◌, inl, inr, Bool, cond, not, List, [], ◌∷◌, ◌++◌, length, map, set, get_or, Result, Ok, Err, ◌⊎◌, OnOk, OnErr, refl, sym, ap, ◌∙◌, arith, position, drop, None}
 use Rattle.std.specs.List.{prefix_len, list_any, list_all, sum_by}
 use Rattle.std.specs.Str.{bytes_eq}
 use Rattle.std.proofs.lemmas.Bool.{cases_Bool, or_parts, and_parts, and_from, false≢true}
 use Rattle.std.proofs.lemmas.List.{length-map}
 use Rattle.std.proofs.lemmas.List.Folds.{list_any_at, list_all_at, list_all-append}
 use Rattle.std.proofs.lemmas.List.Sums.{sum_by-cons, sum_by-append}
+use Rattle.std.specs.Prelude.{slice_get}
 use Rattle.fmp_names.specs.Names.{times, has_name}
 
 pub prefix_len-map : {X Y : Type 0} (p : Y → Bool) (f : X → Y) (xs : List X) → prefix_len p (map f xs) ≡ prefix_len (λ x. p (f x)) xs
@@ -74,3 +75,10 @@ list_all-push p xs y all here = list_all-append p xs (y ∷ []) ∙ and_from (li
 pub either_way : {A E : Type 0} (r : Result A E) (P Q : Type 0) → OnOk r P → OnErr r Q → P ⊎ Q
 either_way (Ok x) P Q p q = inl p
 either_way (Err e) P Q p q = inr q
+
+-- no name stands behind the last
+pub past_last : (names : List (List ℕ)) (i : ℕ) → slice_get names i ≡ None → drop i names ≡ []
+past_last [] zero is = refl
+past_last [] (suc i) is = refl
+past_last (name ∷ names) zero is = absurd cc
+past_last (name ∷ names) (suc i) is = past_last names i is

@@ -2,11 +2,10 @@
 use Rattle.std.proofs.Common.{◌≡◌, ℕ, zero, suc, ◌+◌, ◌-◌, ◌<◌, ◌≤◌, true, false, not, ◌&&◌, cond, inl, inr, Bool, List, [], ◌∷◌, length, get_or, Option, Some, None, option_map, eqb, refl, sym, ap, ◌∙◌, arith, position, slice_get}
 use Rattle.std.specs.List.{position_or_len, list_all}
 use Rattle.std.specs.Str.{bytes_eq}
-use Rattle.std.proofs.lemmas.Bool.{cases_lt, cases_eq, cases_Bool, lt-ltb, le-ltb, eq-eqb, ne_eqb, and_parts}
+use Rattle.std.proofs.lemmas.Bool.{cases_lt, cases_eq, cases_Bool, lt-ltb, le-ltb, eq-eqb, ne_eqb, and_parts, not-true}
 use Rattle.std.proofs.lemmas.Slice.Eq.{bytes_eq-Decides}
 use Rattle.std.proofs.lemmas.List.Sums.{sum_by-cons, sum_by-set, passes_at_first}
 use Rattle.std.proofs.lemmas.Option.{slice_get-get_or, slice_get_within, get_or_from_slice_get}
-use Rattle.fmp_bytes.proofs.Prefixes.{not_true}
 use Rattle.fmp_calls.specs.declared.kinds.ObjectKind.{ObjectKind}
 use Rattle.fmp_calls.specs.declared.kinds.NameKind.{NameKind}
 use Rattle.fmp_calls.specs.declared.kinds.NameKind.TheVariants.{Object, Function}
@@ -35,12 +34,12 @@ later p x xs i fails there =
       | inr le ↦ let test = le-ltb (position_or_len p xs) (length xs) le in let e2 = rw test at there in absurd cc
     ]
 
-counted_once : (b : Bool) → b ≡ true → ◌≡◌ {A = ℕ} (cond b 1 0) 1
+pub counted_once : (b : Bool) → b ≡ true → ◌≡◌ {A = ℕ} (cond b 1 0) 1
 counted_once true e = refl
 counted_once false e = absurd cc
 
 -- a name that stands at a place stands there at least once
-once_at : (name : List ℕ) (list : List (List ℕ)) (i : ℕ) → slice_get list i ≡ Some name → 1 ≤ times name list
+pub once_at : (name : List ℕ) (list : List (List ℕ)) (i : ℕ) → slice_get list i ≡ Some name → 1 ≤ times name list
 once_at name [] i there = absurd cc
 once_at name (other ∷ list) zero there =
     let same : other ≡ name = cc in
@@ -125,4 +124,4 @@ object_name lists kind n name valid named =
     let all = list_all-at (list_all (λ m. is_name m && not (is_reserved m))) lists.objects (place_of kind) [] within valid.names in
     let here = list_all-at (λ m. is_name m && not (is_reserved m)) (get_or lists.objects (place_of kind) []) (n - 1) [] inside all in
     let parts = and_parts (is_name name) (not (is_reserved name)) (rw same at here) in
-    (parts.0, not_true (is_reserved name) parts.1)
+    (parts.0, not-true (is_reserved name) parts.1)

@@ -1,9 +1,9 @@
 -- One name more keeps what holds of all names.
-use Rattle.std.proofs.Common.{◌≡◌, ℕ, ◌+◌, ◌≤◌, ◌<◌, ◌^◌, true, false, ◌&&◌, ◌||◌, cond, eqb, Result, OnOk, OnErr, inl, inr, Bool, not, List, [], ◌∷◌, ◌++◌, length, set, get_or, refl, sym, ap, ◌∙◌, arith, length-append}
+use Rattle.std.proofs.Common.{◌≡◌, ℕ, ◌+◌, ◌≤◌, ◌<◌, ◌^◌, true, false, ◌&&◌, ◌||◌, cond, eqb, Result, OnOk, OnErr, inl, inr, not, List, [], ◌∷◌, ◌++◌, length, set, get_or, refl, sym, ap, ◌∙◌, arith, length-append}
 use Rattle.std.specs.List.{list_all, list_any, sum_by}
 use Rattle.std.specs.Map.{keys_of}
 use Rattle.std.specs.Str.{bytes_eq}
-use Rattle.std.proofs.lemmas.Bool.{cases_eq, cases_Bool, or_parts, ltb-true}
+use Rattle.std.proofs.lemmas.Bool.{cases_eq, cases_Bool, or_parts, ltb-true, not-true}
 use Rattle.std.proofs.lemmas.Slice.Eq.{bytes_eq-Decides}
 use Rattle.std.proofs.lemmas.List.{length-set, map_push, get_or-set_same, get_or-set_other}
 use Rattle.std.proofs.lemmas.List.Elements.{All-append, All-cons, All-nil}
@@ -53,12 +53,8 @@ none_valid processors least most = record {
   functions_distinct = λ name. omega arith;
 }
 
-not_true : (b : Bool) → not b ≡ true → b ≡ false
-not_true true e = sym e
-not_true false e = refl
-
 -- a name stands at most once where one that was not there is added
-once_more : (name other : List ℕ) (before after : ℕ) → after ≡ before + cond (bytes_eq name other) 1 0 → (bytes_eq name other ≡ true → before ≡ 0) → before ≤ 1 → after ≤ 1
+pub once_more : (name other : List ℕ) (before after : ℕ) → after ≡ before + cond (bytes_eq name other) 1 0 → (bytes_eq name other ≡ true → before ≡ 0) → before ≤ 1 → after ≤ 1
 once_more name other before after counted new once =
     elim (cases_Bool (bytes_eq name other)) [
       | inl t ↦ let none = new t in omega (arith, rw t at counted, none)
@@ -152,7 +148,7 @@ module _ (lists : NameLists) (name : List ℕ) (valid : AreValid lists) where
         → OnOk r (objects ≡ set lists.objects place (get_or lists.objects place [] ++ copy ∷ [])) → OnErr r (objects ≡ lists.objects) → AreValid (record lists { objects = objects })
     object_kept r k place objects at_object placed ok err =
         elim (either_way r (objects ≡ set lists.objects place (get_or lists.objects place [] ++ copy ∷ [])) (objects ≡ lists.objects) ok err) [
-          | inl e ↦ rw (e, placed, copied) (with_object lists name valid is k (not_true (is_reserved name) (rw at_object at free)) (rw at_object at new) (rw at_object at room))
+          | inl e ↦ rw (e, placed, copied) (with_object lists name valid is k (not-true (is_reserved name) (rw at_object at free)) (rw at_object at new) (rw at_object at room))
           | inr e ↦ rw e valid
         ]
 

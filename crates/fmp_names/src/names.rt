@@ -65,7 +65,7 @@ pub fn is_constant(word: &[u8]) -> bool
 
 /// Whether the word is `P` and then one or more decimal digits.
 #[tactic(auto, unfolding(crate::specs::Names::is_processor_word))]
-fn is_processor_word(word: &[u8]) -> bool
+pub fn is_processor_word(word: &[u8]) -> bool
     ensures { result ≡ spec.is_processor_word word.now }
 {
     match behind(b'P', word) {

@@ -2,7 +2,6 @@
 use Rattle.std.proofs.Common.{◌≡◌, ℕ, ◌∙◌, Bool, true, false, cond, List, [], ◌∷◌, ◌++◌, length, take, Option, Some, None, refl, ap, sym, subst, arith, slice_get, append_assoc, map}
 use Rattle.std.specs.Option.{option_and_then, option_map_or}
 use Rattle.std.proofs.lemmas.Bool.{false≢true}
-use Rattle.std.proofs.lemmas.List.{map-append}
 use Rattle.fmp_codes.specs.declared.records.Event.{Event}
 use Rattle.fmp_codes.specs.declared.records.Record.{Record}
 use Rattle.fmp_scripts.specs.Scripts.{Steps}
@@ -12,9 +11,10 @@ use Rattle.fmp_machine.specs.World.{World}
 use Rattle.fmp_machine.specs.Arrivals.{numbered}
 use Rattle.fmp_machine.specs.Boot.{booted}
 use Rattle.fmp_machine.specs.Step.{step, answers}
+use Rattle.fmp_machine.proofs.Replays.{step_event}
 use Rattle.fmp_listed.specs.Queues.{Queues, listed}
 use Rattle.fmp_histories.specs.Histories.{events_of, state_after}
-use Rattle.fmp_histories.proofs.Histories.{step_event, after_more}
+use Rattle.fmp_histories.proofs.Histories.{after_more, events_more}
 use Rattle.fmp_search.specs.Runs.{run}
 use Rattle.fmp_search.specs.Guides.{Follows, NoneWithinAlong, NoneEverAlong, IsShortestAlong}
 use Rattle.fmp_question.specs.declared.question.Step.{Step}
@@ -136,9 +136,6 @@ module _ (c : Setup) (scripts : List Steps) (rs : Rules) (question : List Step) 
     begun_answer = record { never = none_ever; within = none_within; found = found_order }
 
 -- ---- a walk along the events of a history, with a question of no step, at which no event is refused
-
-pub events_more : (h : List Record) (r : Record) → events_of (h ++ r ∷ []) ≡ events_of h ++ r.event ∷ []
-events_more h r = map-append (λ (x : Record). x.event) h (r ∷ [])
 
 same_last : (h : List Record) (a b : Record) → h ++ a ∷ [] ≡ h ++ b ∷ [] → a ≡ b
 same_last [] a b e = cc

@@ -7,13 +7,12 @@ use Rattle.std.proofs.lemmas.Bool.{eqb-true, eqb-false}
 use Rattle.std.proofs.lemmas.Grind.{common_steps}
 use Rattle.std.proofs.lemmas.List.{get_or-set_same, get_or-set_other, length-set, take-append-le}
 use Rattle.std.proofs.Math.Seq.{take-length, take-append_seam}
-use Rattle.fmp_codes.specs.Records.{processor_of}
+use Rattle.fmp_codes.specs.Records.{processor_of, is_taken}
 use Rattle.fmp_codes.specs.declared.numbers.Proc.{Proc}
 use Rattle.fmp_codes.specs.declared.numbers.Task.{Task}
 use Rattle.fmp_codes.specs.declared.records.Answer.{Answer}
 use Rattle.fmp_codes.specs.declared.records.Event.{Event}
 use Rattle.fmp_codes.specs.declared.records.Event.TheVariants as event
-use Rattle.fmp_codes.specs.declared.records.Runner.{Runner}
 use Rattle.fmp_codes.specs.declared.records.Runner.TheVariants as runner
 use Rattle.fmp_codes.specs.declared.records.Record.{Record}
 use Rattle.fmp_scripts.specs.Scripts.{Steps}
@@ -23,17 +22,18 @@ use Rattle.fmp_machine.specs.World.{World}
 use Rattle.fmp_machine.specs.Arrivals.{numbered}
 use Rattle.fmp_machine.specs.Step.{step, replay}
 use Rattle.fmp_machine.specs.Boot.{booted}
+use Rattle.fmp_machine.proofs.Replays.{step_event}
 use Rattle.fmp_safety.specs.Safe.{Safe}
 use Rattle.fmp_safety.proofs.Booted.{runs_safe}
 use Rattle.fmp_listed.specs.Queues.{Queues, listed}
 use Rattle.fmp_refinement.specs.Stands.{Stands, StepsMatch}
 use Rattle.fmp_refinement.proofs.Steps.{lists_refine}
 use Rattle.fmp_histories.specs.Histories.{events_of, state_after, IsRunOf}
-use Rattle.fmp_histories.specs.Positions.{is_taken, is_tick_of}
-use Rattle.fmp_histories.specs.Places.{called_tasks, renewed}
+use Rattle.fmp_histories.specs.Positions.{is_tick_of}
+use Rattle.fmp_histories.specs.Places.{renewed}
 use Rattle.fmp_histories.specs.Counted.{taken, is_taken_tick}
-use Rattle.fmp_histories.proofs.Histories.{step_event, after_more, run_more, count_after}
-use Rattle.fmp_histories.proofs.Advancing.{tasks_moved, handlers_moved}
+use Rattle.fmp_histories.proofs.Histories.{after_more, run_more, count_after}
+use Rattle.fmp_histories.proofs.Advancing.{tasks_moved, handlers_moved, called_long}
 use Rattle.fmp_question.specs.declared.question.Step.{Step}
 use Rattle.fmp_question.specs.Questions.{allows, seen}
 use Rattle.fmp_orders.specs.declared.rules.Rules.{Rules}
@@ -46,13 +46,7 @@ use Rattle.fmp_orders.proofs.Alike.{sight_same}
 
 -- ---- lengths
 
-called_long : (ps : List ℕ) (o : Option Runner) (e : Event) (a : Answer) → length (called_tasks ps o e a) ≡ length ps
-called_long ps None e a = refl
-called_long ps (Some (runner.Task t)) e a = length-set ps _ _
-called_long ps (Some (runner.Alarm x)) e a = refl
-called_long ps (Some (runner.Cyclic y)) e a = refl
-
-renewed_long : (ps : List ℕ) (o : Option Task) → length (renewed ps o) ≡ length ps
+pub renewed_long : (ps : List ℕ) (o : Option Task) → length (renewed ps o) ≡ length ps
 renewed_long ps None = refl
 renewed_long ps (Some t) = length-set ps _ _
 
@@ -60,7 +54,7 @@ moved_long : (b : Bool) (ns ms : List ℕ) → length ms ≡ length ns → lengt
 moved_long true ns ms h = h
 moved_long false ns ms h = refl
 
-taken_long : (rs : Rules) (ns : List ℕ) (e : Event) (a : Answer) → length (moved_taken rs ns e a) ≡ length ns
+pub taken_long : (rs : Rules) (ns : List ℕ) (e : Event) (a : Answer) → length (moved_taken rs ns e a) ≡ length ns
 taken_long rs ns (event.Tick p) a = moved_long (counts_ticks rs && is_taken a) ns _ (length-set ns _ _)
 taken_long rs ns (event.Call p c) a = refl
 taken_long rs ns (event.Ipi p) a = refl
@@ -70,11 +64,11 @@ taken_long rs ns (event.Ipi p) a = refl
 pub count_more : {A : Type 0} (test : A → Bool) (xs : List A) (x : A) → count_by test (xs ++ x ∷ []) ≡ count_by test xs + cond (test x) 1 0
 count_more test xs x = let e = sum_by-append (λ y. cond (test y) 1 0) xs (x ∷ []) in omega (arith, e)
 
-seen_next : (m : Bool) (n : ℕ) → cond m (n + 1) n ≡ n + cond m 1 0
+pub seen_next : (m : Bool) (n : ℕ) → cond m (n + 1) n ≡ n + cond m 1 0
 seen_next true n = refl
 seen_next false n = omega arith
 
-seen_more : (marks : List Bool) (m : Bool) → seen (marks ++ m ∷ []) ≡ cond m (seen marks + 1) (seen marks)
+pub seen_more : (marks : List Bool) (m : Bool) → seen (marks ++ m ∷ []) ≡ cond m (seen marks + 1) (seen marks)
 seen_more marks m = count_more (λ b. b) marks m ∙ sym (seen_next m (seen marks))
 
 -- ---- the ticks that were taken

@@ -1,12 +1,13 @@
 -- Runs over places and orders of events.
 use Rattle.std.proofs.Common.{◌≡◌, ℕ, zero, suc, ◌+◌, ◌-◌, ◌*◌, ◌/◌, ◌%◌, ◌<◌, ◌≤◌, ◌==◌, ◌∙◌, Bool, true, false, ◌&&◌, ◌||◌, not, cond, List, [], ◌∷◌, ◌++◌, length, take, Option, Some, None, ◌⊎◌, inl, inr, refl, ap, sym, subst, arith, rules, slice_index, slice_get, append_assoc, append-nil, map}
-use Rattle.std.specs.Prelude.{nat_lt, nat_le, replicate}
+use Rattle.std.specs.Prelude.{nat_lt, nat_le}
 use Rattle.std.specs.Option.{option_and_then, option_map_or}
 use Rattle.std.proofs.lemmas.Grind.{common_steps}
 use Rattle.std.proofs.lemmas.Bool.{cases_Bool, eq-eqb, eqb-true}
 use Rattle.std.proofs.lemmas.List.Elements.{All-nil}
 use Rattle.std.proofs.lemmas.Nat.{div-mul-add}
 use Rattle.std.proofs.Math.Nat.{mul-add-mod_self_right}
+use Rattle.std.proofs.Math.Bool.{or-true}
 use Rattle.fmp_codes.specs.Numbers.{as_proc}
 use Rattle.fmp_codes.specs.Records.{processor_of}
 use Rattle.fmp_codes.specs.declared.numbers.Proc.{Proc}
@@ -15,17 +16,19 @@ use Rattle.fmp_codes.specs.declared.records.Event.TheVariants as event
 use Rattle.fmp_codes.specs.declared.records.Runner.{Runner}
 use Rattle.fmp_codes.specs.declared.records.Runner.TheVariants as runner
 use Rattle.fmp_codes.specs.declared.records.Record.{Record}
+use Rattle.fmp_codes.proofs.Same.{processors_same}
+use Rattle.fmp_codes.proofs.Counters.{zeros}
 use Rattle.fmp_scripts.specs.Scripts.{Steps}
 use Rattle.fmp_setup.specs.Setup.{Setup}
 use Rattle.fmp_setup.specs.Valid.{IsValid}
 use Rattle.fmp_machine.specs.World.{World, processor, runner_of, is_held}
 use Rattle.fmp_machine.specs.Arrivals.{numbered}
 use Rattle.fmp_machine.specs.Step.{step, answers}
-use Rattle.fmp_safety.proofs.Items.{proc_same}
+use Rattle.fmp_machine.proofs.Replays.{step_event}
 use Rattle.fmp_listed.specs.Queues.{Queues, listed}
 use Rattle.fmp_refinement.proofs.Boots.{boot_stands}
 use Rattle.fmp_histories.specs.Histories.{events_of, state_after}
-use Rattle.fmp_histories.proofs.Histories.{step_event, after_more}
+use Rattle.fmp_histories.proofs.Histories.{after_more}
 use Rattle.fmp_histories.specs.Positions.{task_position, handler_position}
 use Rattle.fmp_histories.specs.Scripted.{next_call, asked_at, position_of, is_asked}
 use Rattle.fmp_search.specs.declared.guided.Choice.{Choice}
@@ -42,12 +45,7 @@ use Rattle.fmp_orders.specs.Begun.{choice_at, choice_of, choices_of}
 use Rattle.fmp_orders.proofs.Alike.{may_tick_same}
 use Rattle.fmp_orders.proofs.Longer.{counts_same, same_record, same_allowed, leads_more}
 
-zeros : (n i : ℕ) → slice_index (replicate n 0) i ≡ 0
-zeros zero i = refl
-zeros (suc n) zero = refl
-zeros (suc n) (suc i) = zeros n i
-
-no_count : (b : Bool) → ◌≡◌ {A = ℕ} (cond b 0 0) 0
+pub no_count : (b : Bool) → ◌≡◌ {A = ℕ} (cond b 0 0) 0
 no_count true = refl
 no_count false = refl
 
@@ -74,15 +72,11 @@ leads_origin c scripts rs question valid = record {
 
 -- ---- one of two steps
 
-or_true : (b : Bool) → (b || true) ≡ true
-or_true true = refl
-or_true false = refl
-
 pub is_first : (c : Choice) (s : ℕ) → s ≡ c.step → is_of c s ≡ true
 is_first c s is = ap (λ b. b || (c.other == s)) (eq-eqb c.step s (sym is))
 
 is_other : (c : Choice) (s : ℕ) → s ≡ c.other → is_of c s ≡ true
-is_other c s is = ap (λ b. (c.step == s) || b) (eq-eqb c.other s (sym is)) ∙ or_true (c.step == s)
+is_other c s is = ap (λ b. (c.step == s) || b) (eq-eqb c.other s (sym is)) ∙ or-true (c.step == s)
 
 -- ---- what may happen at a place is what may happen after a history that leads there
 
@@ -186,7 +180,7 @@ module _ (c : Setup) (scripts : List Steps) (rs : Rules) (question : List Step) 
       let lt : p.number - 1 < w.config.processors = omega (arith, least, here, count) in
       let number : (as_proc (p.number - 1 + 1)).number ≡ p.number = omega (arith, least, most) in
       let rest : ((p.number - 1) * 6 + j) % 6 ≡ j = mul-add-mod_self_right (p.number - 1) 6 j ∙ part in (
-        at_place ((p.number - 1) * 6 + j) (p.number - 1) k p (div-mul-add (p.number - 1) 6 j small) (ap (λ n. n % 3) rest ∙ kind) (search (rules, lt)) (proc_same (as_proc (p.number - 1 + 1)) p number),
+        at_place ((p.number - 1) * 6 + j) (p.number - 1) k p (div-mul-add (p.number - 1) 6 j small) (ap (λ n. n % 3) rest ∙ kind) (search (rules, lt)) (processors_same (as_proc (p.number - 1 + 1)) p number),
         ap (nat_le 3) rest ∙ mark,
       )
 

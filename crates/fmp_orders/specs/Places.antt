@@ -10,13 +10,13 @@ use Rattle.fmp_codes.specs.declared.records.Event.TheVariants as event
 use Rattle.fmp_codes.specs.declared.records.Runner.{Runner}
 use Rattle.fmp_codes.specs.declared.records.Runner.TheVariants as runner
 use Rattle.fmp_codes.specs.declared.records.Record.{Record}
+use Rattle.fmp_codes.specs.Records.{is_taken}
 use Rattle.fmp_scripts.specs.Scripts.{Steps}
 use Rattle.fmp_setup.specs.Setup.{Setup}
 use Rattle.fmp_machine.specs.World.{World, processor, runner_of, is_held}
 use Rattle.fmp_machine.specs.Step.{step}
 use Rattle.fmp_machine.specs.Boot.{boot}
 use Rattle.fmp_listed.specs.Queues.{Queues, listed, no_queues}
-use Rattle.fmp_histories.specs.Positions.{is_taken}
 use Rattle.fmp_histories.specs.Places.{moved_tasks, moved_handlers}
 use Rattle.fmp_histories.specs.Scripted.{asked_at}
 use Rattle.fmp_question.specs.declared.question.Step.{Step}

@@ -1,2 +1,1 @@
 pub mod EmptyLists  -- No task stands in lists that are all empty.
-pub mod Waiters  -- The tasks of waiters.

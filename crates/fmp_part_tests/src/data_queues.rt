@@ -178,7 +178,7 @@ fn received(received: Option<Received>) -> Answer {
 }
 
 /// A task waits to send, or begins to wait anew.
-#[tactic(auto, using(crate::proofs::Waiters::waits_is))]
+#[tactic(auto, using(fmp_waitq::proofs::Waiters::waits_is))]
 fn wait_to_send(queue: &mut Dtq, task: Task, priority: Pri) {
     if waits(&queue.senders(), task) {
         queue.reorder_senders(task, priority);
@@ -188,7 +188,7 @@ fn wait_to_send(queue: &mut Dtq, task: Task, priority: Pri) {
 }
 
 /// A task waits to receive, or begins to wait anew.
-#[tactic(auto, using(crate::proofs::Waiters::waits_is))]
+#[tactic(auto, using(fmp_waitq::proofs::Waiters::waits_is))]
 fn wait_to_receive(queue: &mut Dtq, task: Task, priority: Pri) {
     if waits(&queue.receivers(), task) {
         queue.reorder_receivers(task, priority);

@@ -181,7 +181,7 @@ const CLEARS_ROWS: [Row; 12] = [
 ];
 
 /// A task waits, or begins to wait anew.
-#[tactic(auto, using(crate::proofs::Waiters::waits_is))]
+#[tactic(auto, using(fmp_waitq::proofs::Waiters::waits_is))]
 fn wait(flag: &mut Flag, task: Task, priority: Pri) {
     if waits(&flag.list(), task) {
         flag.reorder(task, priority);

@@ -99,7 +99,7 @@ const LARGE_ROWS: [Row; 8] = [
 ];
 
 /// A task waits for a block, or begins to wait anew.
-#[tactic(auto, using(crate::proofs::Waiters::waits_is))]
+#[tactic(auto, using(fmp_waitq::proofs::Waiters::waits_is))]
 fn wait(pool: &mut Mpf, task: Task, priority: Pri) {
     if waits(&pool.list(), task) {
         pool.reorder(task, priority);

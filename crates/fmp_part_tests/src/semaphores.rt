@@ -72,7 +72,7 @@ const BY_ARRIVAL_ROWS: [Row; 7] = [
 ];
 
 /// A task waits, or begins to wait anew.
-#[tactic(auto, using(crate::proofs::Waiters::waits_is))]
+#[tactic(auto, using(fmp_waitq::proofs::Waiters::waits_is))]
 fn wait(semaphore: &mut Sem, task: Task, priority: Pri) {
     if waits(&semaphore.list(), task) {
         semaphore.reorder(task, priority);

@@ -5,6 +5,7 @@ use Rattle.std.specs.Str.{bytes_eq}
 use Rattle.std.proofs.lemmas.Bool.{cases_Bool, false≢true}
 use Rattle.std.proofs.lemmas.List.Elements.{All-cons, All-nil}
 use Rattle.std.proofs.lemmas.Slice.Eq.{bytes_eq-Decides}
+use Rattle.fmp_bytes.proofs.Parsed.{bind_parts}
 use Rattle.fmp_calls.specs.Arguments.{EventInBits}
 use Rattle.fmp_codes.specs.Records.{AreOn, processor_of}
 use Rattle.fmp_codes.specs.declared.records.Event.{Event}
@@ -12,14 +13,14 @@ use Rattle.fmp_codes.specs.declared.records.Record.{Record}
 use Rattle.fmp_check.specs.declared.checking.Verdict.{Verdict}
 use Rattle.fmp_check.specs.declared.checking.Verdict.TheVariants.{Yes, No}
 use Rattle.fmp_check.specs.Checking.{PrintsAnswers}
-use Rattle.fmp_check.proofs.FittingAnswers.{answers-fit, length-answers, step_event}
+use Rattle.fmp_check.proofs.FittingAnswers.{answers-fit}
 use Rattle.fmp_machine.specs.Arrivals.{State, numbered}
 use Rattle.fmp_machine.specs.Boot.{booted}
 use Rattle.fmp_machine.specs.Step.{answers, step}
+use Rattle.fmp_machine.proofs.Replays.{step_event, length-answers}
 use Rattle.fmp_names.specs.Names.{NameLists, AreValid}
 use Rattle.fmp_setup.specs.Setup.{Setup}
 use Rattle.fmp_setup.specs.Valid.{IsValid}
-use Rattle.fmp_text.proofs.Parsed.{bind_parts}
 use Rattle.fmp_text.specs.Events.{IsMemory}
 use Rattle.fmp_text.specs.Limits.{most_events}
 use Rattle.fmp_text.specs.declared.fault.TextFault.{TextFault}

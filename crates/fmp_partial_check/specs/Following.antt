@@ -2,6 +2,7 @@
 use Rattle.std.specs.Prelude.{ℕ, ◌+◌, List, [], ◌∷◌, Result, Ok, if◌then◌else◌}
 use Rattle.std.specs.Str.{bytes_eq}
 use Rattle.fmp_bytes.specs.Bytes.{line_feed, pieces_of}
+use Rattle.fmp_bytes.specs.Results.{◌>>=◌}
 use Rattle.fmp_check.specs.declared.checking.Verdict.{Verdict}
 use Rattle.fmp_check.specs.declared.checking.Verdict.TheVariants.{Yes, No}
 use Rattle.fmp_machine.specs.Arrivals.{State, numbered}
@@ -9,7 +10,6 @@ use Rattle.fmp_machine.specs.Boot.{booted}
 use Rattle.fmp_machine.specs.Step.{step}
 use Rattle.fmp_names.specs.Names.{NameLists}
 use Rattle.fmp_setup.specs.Setup.{Setup}
-use Rattle.fmp_text.specs.Reading.{◌>>=◌}
 use Rattle.fmp_text.specs.declared.fault.TextFault.{TextFault}
 use Rattle.fmp_partial_trace.specs.Partial.{kept_text}
 use Rattle.fmp_partial_trace.specs.Saying.{said_from, said_in}

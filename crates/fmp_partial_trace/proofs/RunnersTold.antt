@@ -5,7 +5,6 @@ use Rattle.std.specs.List.{list_all, prefix_len}
 use Rattle.std.specs.Fmt.{signed_decimal}
 use Rattle.std.specs.Str.{bytes_eq}
 use Rattle.std.proofs.lemmas.Bool.{cases_Bool}
-use Rattle.std.proofs.lemmas.List.{append-nil}
 use Rattle.fmp_codes.specs.Codes.{name_of}
 use Rattle.fmp_codes.specs.declared.calls.Call.{Call}
 use Rattle.fmp_codes.specs.declared.calls.Call.TheVariants as calls
@@ -36,9 +35,9 @@ use Rattle.fmp_calls.specs.declared.kinds.ObjectKind.TheVariants as objects
 use Rattle.fmp_names.specs.Names.{NameLists, AreValid}
 use Rattle.fmp_trace.specs.Fits.{IsNamed, RunnerFits}
 use Rattle.fmp_trace.specs.Lines.{event_text, runner_text, answer_text, tail_text, code_text, behind_code}
-use Rattle.fmp_trace.specs.Values.{named, arguments_from, behind_name, call_text}
+use Rattle.fmp_trace.specs.Values.{named, call_text}
 use Rattle.fmp_trace.proofs.Bytes.{other_than, code_words}
-use Rattle.fmp_trace.proofs.GuessedCalls.{led, call_word}
+use Rattle.fmp_trace.proofs.GuessedCalls.{led, call_word, call_text-bare, behind_name-enclosed}
 use Rattle.fmp_trace.proofs.GuessedRunners.{runner_bytes}
 use Rattle.fmp_trace.proofs.GuessedTails.{tail_words, tail-led}
 use Rattle.fmp_trace.proofs.GuessedValues.{printed_name}
@@ -91,23 +90,10 @@ bare_word _ = refl
 bare_is : (call : Call) → table.is_bare call ≡ true → bytes_eq (table.text_of call) (codes "ret_hdr") ≡ true
 bare_is call bare = let word = bare_word call in rw bare at word
 
-name_alone : (names : NameLists) (call : Call) → table.is_bare call ≡ true → behind_name names call ≡ []
-unfolding behind_name
-name_alone names call bare = rw bare refl
-
-call_alone : (names : NameLists) (call : Call) → table.is_bare call ≡ true → call_text names call ≡ table.text_of call
-unfolding call_text
-call_alone names call bare = ap (λ (r : List ℕ). table.text_of call ++ r) (name_alone names call bare) ∙ append-nil (table.text_of call)
-
-name_enclosed : (names : NameLists) (call : Call) → table.is_bare call ≡ false
-    → behind_name names call ≡ 40 ∷ (arguments_from names 0 (table.kinds_of call) (table.values_of call) ++ (41 ∷ []))
-unfolding behind_name
-name_enclosed names call bare = rw bare refl
-
 call_opens : (names : NameLists) (call : Call) (rest : List ℕ) → table.is_bare call ≡ false → opens (call_text names call ++ 32 ∷ rest) ≡ true
 unfolding opens behind
 call_opens names call rest bare =
-    ap (λ (text : List ℕ). is_some (behind 40 text)) ((call_word names call rest).1 ∙ ap (λ (text : List ℕ). text ++ 32 ∷ rest) (name_enclosed names call bare))
+    ap (λ (text : List ℕ). is_some (behind 40 text)) ((call_word names call rest).1 ∙ ap (λ (text : List ℕ). text ++ 32 ∷ rest) (behind_name-enclosed names call bare))
 
 call_begins : (names : NameLists) (call : Call) (rest : List ℕ) → begins_event (call_text names call ++ 32 ∷ rest) ≡ true
 unfolding begins_event
@@ -115,7 +101,7 @@ call_begins names call rest =
     elim (cases_Bool (table.is_bare call)) [
       | inl t ↦
           let alone : opens (call_text names call ++ 32 ∷ rest) ≡ false =
-          ap (λ (text : List ℕ). opens (text ++ 32 ∷ rest)) (call_alone names call t) ∙ spaced (table.text_of call) rest (identifier_words (table.text_of call) (is_identifier-text_of call)) in
+          ap (λ (text : List ℕ). opens (text ++ 32 ∷ rest)) (call_text-bare names call t) ∙ spaced (table.text_of call) rest (identifier_words (table.text_of call) (is_identifier-text_of call)) in
           let word = (call_word names call rest).0 in
           let tick = no_tick call in let ipi = no_ipi call in let bare = bare_is call t in
           rw (alone, word, tick, ipi, bare) refl
@@ -212,7 +198,7 @@ unfolding tells_runner
 call_seen names call a r =
     elim (cases_Bool (table.is_bare call)) [
       | inl t ↦
-          ap (λ (text : List ℕ). tells_runner (text ++ 32 ∷ (answer_text a ++ tail_text names r))) (call_alone names call t)
+          ap (λ (text : List ℕ). tells_runner (text ++ 32 ∷ (answer_text a ++ tail_text names r))) (call_text-bare names call t)
           ∙ word_seen names (table.text_of call) a r (identifier_words (table.text_of call) (is_identifier-text_of call))
       | inr f ↦ let opening = call_opens names call (answer_text a ++ tail_text names r) f in rw opening refl
     ]

@@ -5,15 +5,16 @@ use Rattle.std.specs.List.{list_all, join_with_byte}
 use Rattle.std.specs.Str.{bytes_eq}
 use Rattle.std.proofs.lemmas.Bool.{cases_Bool, eqb-true, eqb-false, ltb-true, ltb-false, le-ltb, and_parts, false≢true}
 use Rattle.std.proofs.lemmas.Slice.Eq.{bytes_eq-Decides}
+use Rattle.std.proofs.lemmas.List.{nil_from_length}
 use Rattle.fmp_codes.specs.declared.numbers.Proc.{Proc}
 use Rattle.fmp_codes.specs.declared.records.Record.{Record}
 use Rattle.fmp_bytes.specs.declared.classes.Class.TheVariants.{Printed}
 use Rattle.fmp_bytes.specs.Bytes.{is_of, behind, cut_at, pieces_of}
 use Rattle.fmp_bytes.proofs.Cutting.{pieces_of-cut, cut_at-append, join-pieces_of, some-pieces_of, apart-pieces_of}
 use Rattle.fmp_bytes.proofs.Parsed.{and_then_parts}
+use Rattle.fmp_bytes.specs.Results.{◌>>=◌}
 use Rattle.fmp_text.specs.Limits.{most_bytes, most_events}
 use Rattle.fmp_text.specs.Lines.{processor_numbered}
-use Rattle.fmp_text.specs.Reading.{◌>>=◌}
 use Rattle.fmp_text.specs.declared.fault.TextFault.{TextFault}
 use Rattle.fmp_text.specs.declared.fault.TextKind.{TextKind}
 use Rattle.fmp_text.specs.declared.fault.TextKind.TheVariants.{BadByte, BadWord, UnknownName, WrongArguments, NumberOutOfRange, CutShort, TooMany, Memory}
@@ -26,6 +27,7 @@ use Rattle.fmp_trace.specs.Reading.{at_line}
 use Rattle.fmp_trace.proofs.FittingLines.{guess_event-fits}
 use Rattle.fmp_trace.proofs.FittingParts.{processor_numbered-fits, runner_in-fits}
 use Rattle.fmp_trace.proofs.Numbered.{first_piece}
+use Rattle.fmp_trace.proofs.ReadTexts.{too_long}
 use Rattle.fmp_partial_trace.specs.Partial.{kept_text}
 use Rattle.fmp_partial_trace.specs.Partly.{PartlyPrints, BeginsWith, PartlyPrintsFrom, PartlyPrintsWithin, LineFault, FaultAt, FaultBehind, FirstFault}
 use Rattle.fmp_partial_trace.specs.Said.{tells_runner, guess_from, guess_on, guess_numbered, guess_line, guess_said}
@@ -207,14 +209,10 @@ abbrev pub Told : NameLists → ℕ → List ℕ → Result (List Said) TextFaul
 Told names n text (Ok ss) = SaysFrom names n text ss × (n + length ss ≤ most_events + 1)
 Told names n text (Err fault) = FaultFrom names n text fault
 
-no_bytes : (text : List ℕ) → length text ≡ 0 → text ≡ []
-no_bytes [] e = refl
-no_bytes (b ∷ bytes) e = absurd (omega (arith, e))
-
 last_told : (names : NameLists) (n : ℕ) (last : List ℕ) → n ≤ most_events + 1 → IsUnended last → Told names n last (cond (eqb (length last) 0) (Ok []) (Err (record { kind = CutShort; line = n })))
 last_told names n last few unended =
     elim (cases_Bool (eqb (length last) 0)) [
-      | inl t ↦ rw t (no_bytes last (eqb-true (length last) 0 t), omega (arith, few))
+      | inl t ↦ rw t (nil_from_length last (eqb-true (length last) 0 t), omega (arith, few))
       | inr f ↦ rw f (record { before = []; lines = []; rest = last; at = n; parts = refl; prints = refl; is_at = omega arith; few = few; line = refl; here = (omega (arith, eqb-false (length last) 0 f), unended) })
     ]
 
@@ -270,10 +268,6 @@ text_told names text valid =
     subst (λ (t : List ℕ). Told names 1 t (said_from names 1 (pieces_of 10 text))) (join-pieces_of 10 text) (lines_told names 1 (pieces_of 10 text) valid (omega arith) (some-pieces_of 10 text) (apart-pieces_of 10 text))
 
 -- ---- whole texts
-
-too_long : {A : Type 0} (long : Bool) (read : Result A TextFault) (fault : TextFault) (a : A) → cond long (Err fault) read ≡ Ok a → (long ≡ false) × (read ≡ Ok a)
-too_long true read fault a e = absurd cc
-too_long false read fault a e = (refl, e)
 
 -- what a text within the limits says
 pub record SaysWithin (names : NameLists) (text : List ℕ) (ss : List Said) : Type 0 where

@@ -4,8 +4,8 @@ use Rattle.std.specs.List.{list_all}
 use Rattle.std.specs.Str.{bytes_eq}
 use Rattle.fmp_bytes.specs.declared.classes.Class.TheVariants.{Printed}
 use Rattle.fmp_bytes.specs.Bytes.{is_of, pieces_of, line_feed}
+use Rattle.fmp_bytes.specs.Results.{◌>>=◌}
 use Rattle.fmp_text.specs.Limits.{most_bytes, most_events}
-use Rattle.fmp_text.specs.Reading.{◌>>=◌}
 use Rattle.fmp_text.specs.declared.fault.TextFault.{TextFault}
 use Rattle.fmp_text.specs.declared.fault.TextKind.{TextKind}
 use Rattle.fmp_text.specs.declared.fault.TextKind.TheVariants.{BadByte, BadWord, CutShort, TooMany}

@@ -1,9 +1,9 @@
 -- The first of tasks in order is the one that leads each of them, and there is no other.
 use Rattle.std.proofs.Common.{◌≡◌, ℕ, zero, suc, ◌+◌, ◌<◌, ◌≤◌, ◌==◌, ltb, Bool, true, false, not, ◌&&◌, ◌||◌, ◌⊎◌, inl, inr, List, Option, None, Some, if◌then◌else◌, refl, ap, sym, ◌∙◌, subst, arith}
-use Rattle.std.specs.Coded.{le_prop}
 use Rattle.std.proofs.lemmas.Bool.{cases_Bool, eqb-true, eqb-false}
 use Rattle.fmp_codes.specs.Numbers.{as_task}
 use Rattle.fmp_codes.specs.declared.numbers.Task.{Task}
+use Rattle.fmp_codes.proofs.Same.{tasks_same}
 use Rattle.fmp_machine.specs.World.{item, first}
 use Rattle.fmp_machine.specs.Arrivals.{in_order, comes_before}
 use Rattle.fmp_plain_machine.specs.Better.{better}
@@ -46,15 +46,6 @@ stands_ahead a i m b j k x = grind arith
 stands_not_ahead : (a i m b j k : ℕ) → (comes a i b j || (not (comes b j a i) && ltb m k)) ≡ false → Stands b j k a i m
 unfolding Stands comes
 stands_not_ahead a i m b j k x = grind arith
-
-made_same : (n k : ℕ) → n ≡ k → (l : 1 ≤ n) (m : n ≤ 64) (l' : 1 ≤ k) (m' : k ≤ 64) → ◌≡◌ {A = Task} (record { number = n; least = l; most = m }) (record { number = k; least = l'; most = m' })
-made_same n k e l m =
-    let make : (n : ℕ) → 1 ≤ n → n ≤ 64 → Task = λ n l m. record { number = n; least = l; most = m } in
-    let P : ℕ → Type 0 = λ k. (l' : 1 ≤ k) (m' : k ≤ 64) → make n l m ≡ make k l' m' in
-    subst P e (λ l' m'. ap (λ x. make n x m) (le_prop l l') ∙ ap (λ x. make n l' x) (le_prop m m'))
-
-pub tasks_same : (t u : Task) → t.number ≡ u.number → t ≡ u
-tasks_same t u e = made_same t.number u.number e t.least t.most u.least u.most
 
 clash : (b : Bool) → b ≡ true → b ≡ false → ⊥
 clash b x y = grind (arith, x, y)

@@ -1,6 +1,5 @@
 -- Tasks by their numbers.
-use Rattle.std.proofs.Common.{◌≡◌, ℕ, zero, suc, ◌≤◌, Bool, None, Some, List, [], ◌∷◌, length, map, take, if◌then◌else◌, refl, sym, ap, subst, ◌∙◌, arith, ⊎_elim}
-use Rattle.std.specs.Coded.{le_prop}
+use Rattle.std.proofs.Common.{◌≡◌, ℕ, zero, suc, ◌≤◌, Bool, None, Some, List, [], ◌∷◌, length, map, take, if◌then◌else◌, refl, sym, ap, ◌∙◌, arith, ⊎_elim}
 use Rattle.std.specs.Prelude.{slice_index}
 use Rattle.std.specs.Int.{w64, to_le_bytes, from_le_bytes}
 use Rattle.std.proofs.lemmas.Bool.{cases_eq, ne_eqb}
@@ -8,14 +7,8 @@ use Rattle.std.proofs.lemmas.Nat.{le_bytes_8}
 use Rattle.std.proofs.lemmas.List.{length-take}
 use Rattle.fmp_codes.specs.Numbers.{as_task}
 use Rattle.fmp_codes.specs.declared.numbers.Task.{Task}
+use Rattle.fmp_codes.proofs.Same.{tasks_same}
 use Rattle.fmp_primitives.specs.Numbered.{numbered, AreNumbers}
-
-made_same : (n k : ℕ) → n ≡ k → (l : 1 ≤ n) (m : n ≤ 64) (l' : 1 ≤ k) (m' : k ≤ 64) →
-    ◌≡◌ {A = Task} (record { number = n; least = l; most = m }) (record { number = k; least = l'; most = m' })
-made_same n k e l m =
-    let make : (n : ℕ) → 1 ≤ n → n ≤ 64 → Task = λ n l m. record { number = n; least = l; most = m } in
-    let P : ℕ → Type 0 = λ k. (l' : 1 ≤ k) (m' : k ≤ 64) → make n l m ≡ make k l' m' in
-    subst P e (λ l' m'. ap (λ x. make n x m) (le_prop l l') ∙ ap (λ x. make n l' x) (le_prop m m'))
 
 numbered-from_1 : (n : ℕ) → (n ≡ 0 → ⊥) → numbered n ≡ Some (as_task n)
 numbered-from_1 n some = ap (λ (b : Bool). if b then None else Some (as_task n)) (ne_eqb n 0 some)
@@ -26,7 +19,7 @@ numbered-task t =
     let low = t.least in
     let high = t.most in
     let u = as_task t.number in
-    numbered-from_1 t.number (λ e. omega (arith, e, low)) ∙ ap Some (made_same u.number t.number (omega (arith, low, high)) u.least u.most t.least t.most)
+    numbered-from_1 t.number (λ e. omega (arith, e, low)) ∙ ap Some (tasks_same u t (omega (arith, low, high)))
 
 -- no two numbers name the same
 numbered-one : (n m : ℕ) → n ≤ 64 → m ≤ 64 → numbered n ≡ numbered m → n ≡ m

@@ -1,6 +1,6 @@
 -- The first place of a piece is as good as any: what stands behind a later one stands behind it too.
-use Rattle.std.proofs.Common.{◌≡◌, ℕ, zero, suc, ◌+◌, ◌<◌, ◌≤◌, ◌==◌, ◌∙◌, Bool, true, false, ◌&&◌, ◌||◌, List, [], ◌∷◌, length, drop, None, Some, inl, inr, ◌⊎◌, refl, ap, sym, subst, arith, slice_index}
-use Rattle.std.proofs.lemmas.Bool.{cases_Bool, eqb-true, eq-eqb, or_left, or_right}
+use Rattle.std.proofs.Common.{◌≡◌, ℕ, zero, suc, ◌+◌, ◌<◌, ◌≤◌, ◌==◌, ◌∙◌, Bool, true, false, ◌&&◌, ◌||◌, List, [], ◌∷◌, length, drop, None, Some, inl, inr, refl, ap, sym, subst, arith, slice_index}
+use Rattle.std.proofs.lemmas.Bool.{cases_Bool, eqb-true, eq-eqb, or_left, or_right, false_from_ne_true, and_parts, or_cases}
 use Rattle.std.proofs.lemmas.Grind.{common_steps}
 use Rattle.std.proofs.Math.Seq.{drop-nil}
 use Rattle.memchr.specs.Find.{OccursAt, FindsNeedle}
@@ -8,21 +8,10 @@ use Rattle.fmp_bytes.specs.Bytes.{cut_at, pieces_of}
 use Rattle.fmp_bytes.proofs.Cutting.{pieces_left, pieces_of-cut}
 use Rattle.fmp_question.specs.Matching.{any, begins, somewhere, stand}
 
-pub both : (a b : Bool) → (a && b) ≡ true → (a ≡ true) × (b ≡ true)
-both true b e = (refl, e)
-both false b e = cc
-
-pub either : (a b : Bool) → (a || b) ≡ true → (a ≡ true) ⊎ (b ≡ true)
-either true b e = inl refl
-either false b e = inr e
-
-pub not_true : (a : Bool) → (a ≡ true → ⊥) → a ≡ false
-not_true a never = elim (cases_Bool a) [ inl is ↦ absurd (never is) | inr is ↦ is ]
-
 same_truth : (a b : Bool) → (a ≡ true → b ≡ true) → (b ≡ true → a ≡ true) → a ≡ b
 same_truth a b there back = elim (cases_Bool a) [
   | inl is ↦ is ∙ sym (there is)
-  | inr is ↦ is ∙ sym (not_true b (λ h. let no = back h in cc))
+  | inr is ↦ is ∙ sym (false_from_ne_true b (λ h. let no = back h in cc))
 ]
 
 -- ---- what stands in the end of a text stands in the text
@@ -62,13 +51,13 @@ occurs_begin b piece text h = record {
 begins_behind : (piece : List ℕ) (test : List ℕ → Bool) (text : List ℕ) → begins piece test text ≡ true → test (drop (length piece) text) ≡ true
 begins_behind [] test text h = h
 begins_behind (b ∷ piece) test [] h = cc
-begins_behind (b ∷ piece) test (c ∷ text) h = begins_behind piece test text (both (b == c) _ h).1
+begins_behind (b ∷ piece) test (c ∷ text) h = begins_behind piece test text (and_parts (b == c) _ h).1
 
 begins_occurs : (piece : List ℕ) (test : List ℕ → Bool) (text : List ℕ) → begins piece test text ≡ true → OccursAt text piece 0
 begins_occurs [] test text h = record { fits = omega arith; reads = λ j lt. absurd (omega (arith, lt)) }
 begins_occurs (b ∷ piece) test [] h = cc
 begins_occurs (b ∷ piece) test (c ∷ text) h =
-    let parts = both (b == c) _ h in
+    let parts = and_parts (b == c) _ h in
     subst (λ x. OccursAt (x ∷ text) (b ∷ piece) 0) (eqb-true b c parts.0) (occurs_begin b piece text (begins_occurs piece test text parts.1))
 
 occurs_begins : (piece : List ℕ) (test : List ℕ → Bool) (text : List ℕ) → OccursAt text piece 0 → begins piece test text ≡ test (drop (length piece) text)
@@ -107,7 +96,7 @@ module _ (piece : List ℕ) (ps : List (List ℕ)) where
   -- what stands behind any place of the piece stands behind the first place where it could stand
   any_place : (text : List ℕ) → somewhere here text ≡ true → stand ps (drop (length piece) text) ≡ true
   any_place [] h = begins_behind piece (stand ps) [] h
-  any_place (c ∷ text) h = elim (either (here (c ∷ text)) (somewhere here text) h) [
+  any_place (c ∷ text) h = elim (or_cases (here (c ∷ text)) (somewhere here text) h) [
     | inl first ↦ begins_behind piece (stand ps) (c ∷ text) first
     | inr later ↦ behind_later (length piece) c text (any_place text later)
   ]
@@ -119,7 +108,7 @@ module _ (piece : List ℕ) (ps : List (List ℕ)) where
   -- a piece that stands somewhere has a place
   has_place : (text : List ℕ) → somewhere here text ≡ true → (k : ℕ) × (k ≤ length text) × OccursAt text piece k
   has_place [] h = (0, omega arith, begins_occurs piece (stand ps) [] h)
-  has_place (c ∷ text) h = elim (either (here (c ∷ text)) (somewhere here text) h) [
+  has_place (c ∷ text) h = elim (or_cases (here (c ∷ text)) (somewhere here text) h) [
     | inl first ↦ (0, omega arith, begins_occurs piece (stand ps) (c ∷ text) first)
     | inr later ↦
         let more = has_place text later in
@@ -131,7 +120,7 @@ module _ (piece : List ℕ) (ps : List (List ℕ)) where
   zero_more n = omega arith
 
   pub no_place : (text : List ℕ) → FindsNeedle text piece 0 None → stand (piece ∷ ps) text ≡ false
-  no_place text none = not_true _ (λ h. let at = has_place text h in none at.0 (omega arith) (let low = at.1 in omega (arith, low)) at.2)
+  no_place text none = false_from_ne_true _ (λ h. let at = has_place text h in none at.0 (omega arith) (let low = at.1 in omega (arith, low)) at.2)
 
   first_place : (text : List ℕ) (k : ℕ) → OccursAt text piece k → ((j : ℕ) → j < k → OccursAt text piece j → ⊥) → somewhere here text ≡ stand ps (drop (k + length piece) text)
   first_place text zero at before =
@@ -139,7 +128,7 @@ module _ (piece : List ℕ) (ps : List (List ℕ)) where
       ∙ ap (λ n. stand ps (drop n text)) (sym (zero_more (length piece)))
   first_place [] (suc k) at before = absurd (let f = at.fits in grind (arith, common_steps))
   first_place (c ∷ text) (suc k) at before =
-      let not_here : here (c ∷ text) ≡ false = not_true _ (λ h. before 0 (omega arith) (begins_occurs piece (stand ps) (c ∷ text) h)) in
+      let not_here : here (c ∷ text) ≡ false = false_from_ne_true _ (λ h. before 0 (omega arith) (begins_occurs piece (stand ps) (c ∷ text) h)) in
       ap (λ b. b || somewhere here text) not_here
       ∙ first_place text k (occurs_back c text piece k at) (λ j lt o. before (suc j) (omega (arith, lt)) (occurs_next c text piece j o))
       ∙ ap (λ n. stand ps (drop n (c ∷ text))) (sym (next_place k (length piece)))

@@ -4,10 +4,11 @@ use Rattle.std.specs.Prelude.{◌≤◌, slice_index}
 use Rattle.std.proofs.lemmas.Bool.{cases_eq}
 use Rattle.std.proofs.lemmas.List.{get_or-set_same, get_or-set_other, get_or-drop, get_or-replicate, length-set}
 use Rattle.fmp_codes.specs.declared.numbers.Task.{Task}
+use Rattle.fmp_codes.proofs.Same.{tasks_same}
+use Rattle.fmp_codes.specs.Numbers.{task_number}
 use Rattle.fmp_links.specs.Lists as links
 use Rattle.fmp_links.specs.Tasks.{task_at}
-use Rattle.fmp_links.proofs.Tasks.{task_same}
-use Rattle.fmp_ready.specs.Queues.{queue_at, first_of, top_at, number_of}
+use Rattle.fmp_ready.specs.Queues.{queue_at, first_of, top_at}
 use Rattle.fmp_ready.specs.Kept.{tasks_of, AreTops}
 use Rattle.fmp_ready.proofs.Tasks.{list_at-tasks_of}
 
@@ -39,21 +40,21 @@ top_elsewhere q r i k apart others =
 
 -- where one list changed, its processor's first task is found anew
 pub tops_found : (tops : List ℕ) (q r : List (List ℕ)) (i : ℕ) → AreTops tops (tasks_of q) → i < 256 →
-    ((j : ℕ) → (j ≡ i → ⊥) → links.list_at r j ≡ links.list_at q j) → AreTops (set tops (i / 32) (number_of (top_at (tasks_of r) (i / 32)))) (tasks_of r)
-tops_found tops q r i a h others = let n = number_of (top_at (tasks_of r) (i / 32)) in record {
+    ((j : ℕ) → (j ≡ i → ⊥) → links.list_at r j ≡ links.list_at q j) → AreTops (set tops (i / 32) (task_number (top_at (tasks_of r) (i / 32)))) (tasks_of r)
+tops_found tops q r i a h others = let n = task_number (top_at (tasks_of r) (i / 32)) in record {
   count = length-set tops (i / 32) n ∙ a.count;
   each = λ k hk. ⊎_elim
       (λ (e : k ≡ i / 32). ap (λ (m : ℕ). slice_index (set tops (i / 32) n) m) e
       ∙ get_or-set_same tops (i / 32) n 0 (omega (arith, h, a.count))
-      ∙ ap (λ (m : ℕ). number_of (top_at (tasks_of r) m)) (sym e))
-      (λ (e : k ≡ i / 32 → ⊥). get_or-set_other tops (i / 32) k n 0 e ∙ a.each k hk ∙ ap number_of (sym (top_elsewhere q r i k e others)))
+      ∙ ap (λ (m : ℕ). task_number (top_at (tasks_of r) m)) (sym e))
+      (λ (e : k ≡ i / 32 → ⊥). get_or-set_other tops (i / 32) k n 0 e ∙ a.each k hk ∙ ap task_number (sym (top_elsewhere q r i k e others)))
       (cases_eq k (i / 32));
 }
 
 pub tops_new : AreTops (replicate 8 0) (tasks_of (replicate 256 []))
 tops_new = record {
   count = refl;
-  each = λ k h. get_or-replicate 8 k 0 0 h ∙ ap number_of (sym (none_first 32 (drop (32 * k) (tasks_of (replicate 256 [])))
+  each = λ k h. get_or-replicate 8 k 0 0 h ∙ ap task_number (sym (none_first 32 (drop (32 * k) (tasks_of (replicate 256 [])))
       (λ j l. get_or-drop (32 * k) (tasks_of (replicate 256 [])) j [] ∙ list_at-tasks_of (replicate 256 []) (32 * k + j) ∙ ap (λ (xs : List ℕ). map task_at xs) (nothing 256 (32 * k + j)))));
 }
   where
@@ -62,15 +63,15 @@ tops_new = record {
     nothing (suc n) zero = refl
     nothing (suc n) (suc i) = nothing n i
 
-pub number_small : (o : Option Task) → number_of o ≤ 64
+pub number_small : (o : Option Task) → task_number o ≤ 64
 number_small None = omega arith
 number_small (Some t) = t.most
 
 -- a number from 1 is that of the task that it names
-pub number_names : (n : ℕ) (t : Task) (o : Option Task) → t.number ≡ n → (n ≡ 0 → ⊥) → n ≡ number_of o → Some t ≡ o
+pub number_names : (n : ℕ) (t : Task) (o : Option Task) → t.number ≡ n → (n ≡ 0 → ⊥) → n ≡ task_number o → Some t ≡ o
 number_names n t None e some h = absurd (some h)
-number_names n t (Some u) e some h = ap Some (task_same t u (e ∙ h))
+number_names n t (Some u) e some h = ap Some (tasks_same t u (e ∙ h))
 
-pub number_none : (o : Option Task) → 0 ≡ number_of o → None ≡ o
+pub number_none : (o : Option Task) → 0 ≡ task_number o → None ≡ o
 number_none None h = refl
 number_none (Some t) h = let low = t.least in absurd (omega (arith, low, h))

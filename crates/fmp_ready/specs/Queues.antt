@@ -41,11 +41,6 @@ top_at q k = first_of (take 32 (drop (32 * k) q))
 abbrev pub top_of : List (List Task) → Proc → Option Task
 top_of q p = top_at q (p.number - 1)
 
--- the number of a first task, or 0 where there is none
-abbrev pub number_of : Option Task → ℕ
-number_of None = 0
-number_of (Some t) = t.number
-
 -- 1 where a list is not empty
 abbrev pub bit_of : {X : Type 0} → List X → ℕ
 bit_of [] = 0

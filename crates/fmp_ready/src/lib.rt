@@ -11,11 +11,12 @@
 
 ghost use Rattle.std.specs.Prelude.{◌≡◌, ℕ, ◌+◌, ◌-◌, ◌*◌, ◌<◌, ◌≤◌, ◌==◌, false, true, Option, Some, None, [], length, replicate, slice_index, slice_set, if◌then◌else◌};
 ghost use Rattle.std.specs.Int.{bit_at};
+ghost use Rattle.fmp_codes.specs.Numbers.{task_number};
 ghost use Rattle.fmp_codes.specs.declared.numbers.Pri.{Pri as AnyPri};
 ghost use Rattle.fmp_codes.specs.declared.numbers.Task.{Task as AnyTask};
 ghost use Rattle.fmp_links.specs.Lists.{first_of};
 ghost use Rattle.fmp_links.specs.Tasks.{has_task};
-ghost use Rattle.fmp_ready.specs.Queues.{list_number, queue_at, push_last, take_out, rotated, top_of, top_at, number_of, bit_of, AreDisjoint};
+ghost use Rattle.fmp_ready.specs.Queues.{list_number, queue_at, push_last, take_out, rotated, top_of, top_at, bit_of, AreDisjoint};
 ghost use Rattle.fmp_ready.specs.Kept.{tasks_of, IsKept};
 
 use arrayvec::ArrayVec;
@@ -108,7 +109,7 @@ impl ReadyQueues {
     /// The numbers of the first tasks of all processors, in the order of the processors, and 0 where there is none.
     pub fn tops(&self) -> [u8; 8]
         ensures count { length result ≡ 8 }
-        ensures each { (k : ℕ) → k < 8 → slice_index result k ≡ number_of (top_at self.now.lists k) }
+        ensures each { (k : ℕ) → k < 8 → slice_index result k ≡ task_number (top_at self.now.lists k) }
     {
         self.tops
     }
@@ -185,20 +186,10 @@ fn first_at(words: &[u32; 8], links: &Links<320, 64>, processor: usize) -> Optio
     Some(Task::from_index(item))
 }
 
-/// The number of a task, or 0 where there is none.
-fn number_of(task: Option<Task>) -> u8
-    ensures { result ≡ number_of task }
-{
-    match task {
-        Some(task) => task.number,
-        None => 0,
-    }
-}
-
 /// The task of this number, or none where it is 0.
 fn numbered(number: u8) -> Option<Task>
     requires { number ≤ 64 }
-    ensures { (task : Option AnyTask) → number ≡ number_of task → result ≡ task }
+    ensures { (task : Option AnyTask) → number ≡ task_number task → result ≡ task }
 {
     if number == 0 {
         None
@@ -211,9 +202,9 @@ fn numbered(number: u8) -> Option<Task>
 fn find_top(tops: &mut [u8; 8], words: &[u32; 8], links: &Links<320, 64>, processor: usize)
     requires place { processor < 8 }
     requires kept { IsKept words.now links.now }
-    ensures { tops.new ≡ slice_set tops.old processor (number_of (top_at (tasks_of links.now) processor)) }
+    ensures { tops.new ≡ slice_set tops.old processor (task_number (top_at (tasks_of links.now) processor)) }
 {
-    tops[processor] = number_of(first_at(words, links, processor));
+    tops[processor] = Task::number_of(first_at(words, links, processor));
 }
 
 /// The place of the lowest bit that is set.

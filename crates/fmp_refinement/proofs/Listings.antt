@@ -9,9 +9,9 @@ use Rattle.fmp_codes.specs.Numbers.{as_task, within}
 use Rattle.fmp_machine.specs.Arrivals.{inserted, inserted_if, in_order}
 use Rattle.fmp_safety.specs.First.{IsStrict}
 use Rattle.fmp_codes.specs.declared.numbers.Task.{Task}
+use Rattle.fmp_codes.proofs.Same.{tasks_same}
 use Rattle.fmp_links.specs.Tasks.{has_task, without}
 use Rattle.fmp_refinement.specs.Listing.{is_task, times, StandsOnceIf, all_but, AllAfter, IsInOrder, IsListOf, IsTotal}
-use Rattle.fmp_safety.proofs.Items.{task_same}
 
 pub itself : (t : Task) → is_task t t ≡ true
 itself t = eq-eqb t.number t.number refl
@@ -24,7 +24,7 @@ head_in t us = or_left _ _ (itself t)
 
 -- what holds of a task holds of the same task
 pub at_same : (P : Task → Type 0) (t u : Task) → is_task t u ≡ true → P u → P t
-at_same P t u e h = subst P (task_same u t (eqb-true u.number t.number (eq-eqb u.number t.number (sym (eqb-true t.number u.number e))))) h
+at_same P t u e h = subst P (tasks_same u t (eqb-true u.number t.number (eq-eqb u.number t.number (sym (eqb-true t.number u.number e))))) h
 
 swapped : (t u : Task) → is_task t u ≡ false → is_task u t ≡ false
 swapped t u e = ne_eqb u.number t.number (λ g. eqb-false t.number u.number e (sym g))
@@ -172,7 +172,7 @@ same_list before s (t ∷ ts) [] a b h = absurd (false≢true (sym (h t) ∙ hea
 same_list before s (t ∷ ts) (u ∷ us) a b h =
     ⊎_elim
     (λ (e : is_task t u ≡ true).
-    let is : t ≡ u = task_same t u (eqb-true t.number u.number e) in
+    let is : t ≡ u = tasks_same t u (eqb-true t.number u.number e) in
     let rest : ts ≡ us = same_list before s ts us a.1 b.1 (λ v. ⊎_elim
     (λ (g : is_task v t ≡ true).
     at_same (λ x. has_task x ts ≡ false) v t g (not_after_itself before s t ts a.0)
@@ -217,7 +217,7 @@ module _ (q : Task → Bool) (before : Task → Task → Bool) (s : IsStrict bef
       same : (u : Task) → up_to n q u ≡ up_to (suc n) q u
       same u = ⊎_elim
           (λ (g : u.number ≡ suc n).
-          up_to_past n q u (omega (arith, g)) ∙ sym (up_to_at (suc n) q u (omega (arith, g)) ∙ ap q (task_same u t (g ∙ sym e)) ∙ none))
+          up_to_past n q u (omega (arith, g)) ∙ sym (up_to_at (suc n) q u (omega (arith, g)) ∙ ap q (tasks_same u t (g ∙ sym e)) ∙ none))
           (λ (g : u.number ≡ suc n → ⊥). ap (λ b. b && q u) (less_more n u.number g)) (cases_eq u.number (suc n))
   one_more n t e true mine us l =
       listing_in t (up_to (suc n) q) before s before us (up_to_true (suc n) q t (omega (arith, e)) mine)

@@ -1,7 +1,6 @@
 -- What calls do, on lists and on numbers.
 use Rattle.std.proofs.Common.{◌≡◌, ℕ, ◌≤◌, ℤ, Bool, length, refl, sym, ap, ◌∙◌, subst, Option, Some, None}
-use Rattle.std.specs.Prelude.{nat_lt}
-use Rattle.std.proofs.lemmas.Bool.{cond_both, false≢true}
+use Rattle.std.proofs.lemmas.Bool.{false≢true}
 use Rattle.fmp_codes.specs.declared.numbers.Proc.{Proc}
 use Rattle.fmp_codes.specs.declared.numbers.Task.{Task}
 use Rattle.fmp_codes.specs.declared.numbers.Object.{Object}
@@ -20,15 +19,13 @@ use Rattle.fmp_machine.specs.Tasks.{finish, ended, change_priority}
 use Rattle.fmp_machine.specs.Arguments.{caller, is_zero, ticks_of}
 use Rattle.fmp_machine.specs.Rows.{Row, check, called, called_by, wait_for, done_or_wait, release}
 use Rattle.fmp_safety.proofs.Calls.{Accepts, accepts}
+use Rattle.fmp_safety.proofs.KeepsTasks.{no_wait_ended}
 use Rattle.fmp_waitq.specs.Queue.{rank_of}
 use Rattle.fmp_listed.specs.Queues.{Queues, place_in, listed}
 use Rattle.fmp_refinement.specs.Stands.{count_in, with_order, AreListsOf, IsOrderOf, Matches}
 use Rattle.fmp_refinement.proofs.Places.{stands_at, HasPlace}
 use Rattle.fmp_refinement.proofs.Waits.{SameRank}
 use Rattle.fmp_refinement.proofs.Words.{by_tests, order_with_task, order_place, order_end, order_begin, order_anew, order_stays, order_at}
-
-no_wait_ended : (r : TaskRecord) → (ended r).wait ≡ None
-no_wait_ended r = cond_both (nat_lt 0 r.activations) _ _ (λ (x : TaskRecord). x.wait ≡ None) (λ _. refl) (λ _. refl)
 
 -- where nothing moves in an order
 pub matches : (m : State) (q : Queues) → AreListsOf q m → (e : Effect) → Matches (with_order m q, e) (m, e)

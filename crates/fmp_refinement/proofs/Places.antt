@@ -4,6 +4,7 @@ use Rattle.std.proofs.lemmas.Bool.{cases_eq, cases_lt, eqb-true, eq-eqb, false�
 use Rattle.std.proofs.lemmas.Option.{none-some, same_Some}
 use Rattle.std.proofs.lemmas.List.{get_or_past, length-set}
 use Rattle.fmp_codes.specs.declared.numbers.Object.{Object}
+use Rattle.fmp_codes.proofs.Same.{objects_same}
 use Rattle.fmp_setup.specs.declared.setup.Order.{Order}
 use Rattle.fmp_machine.specs.declared.machine.Wait.{Wait}
 use Rattle.fmp_machine.specs.declared.machine.Wait.TheVariants as wait
@@ -11,7 +12,7 @@ use Rattle.fmp_machine.specs.declared.machine.QueueKind.{QueueKind}
 use Rattle.fmp_machine.specs.declared.machine.QueueKind.TheVariants as kind
 use Rattle.fmp_machine.specs.World.{item, with_item}
 use Rattle.fmp_machine.specs.Ordering.{is_in, waits_in}
-use Rattle.fmp_safety.proofs.Items.{object_same, item_same, item_other}
+use Rattle.fmp_safety.proofs.Items.{item_same, item_other}
 use Rattle.fmp_waitq.specs.Queue.{Waiter}
 use Rattle.fmp_listed.specs.Queues.{WaitQueues, queues, with_queues, queue, Place, place_of, place_in, changed}
 
@@ -25,7 +26,7 @@ pub record StandsAt (x : QueueKind) (o : Object) (a : Option Wait) : Type 0 wher
 
 -- this wait in the queue of s, where it is that of o
 in_queue_of : (x : QueueKind) (s o : Object) (w : Wait) → place_of w ≡ Some (record { kind = x; object = s }) → (s.number == o.number) ≡ true → StandsAt x o (Some w)
-in_queue_of x s o w place e = record { at = record { kind = x; object = s }; place = place; kind = refl; object = object_same s o (eqb-true s.number o.number e) }
+in_queue_of x s o w place e = record { at = record { kind = x; object = s }; place = place; kind = refl; object = objects_same s o (eqb-true s.number o.number e) }
 
 in_place : (x : QueueKind) (o : Object) (w : Wait) → is_in x o w ≡ true → StandsAt x o (Some w)
 in_place kind.Semaphore o (wait.Semaphore s) e = in_queue_of kind.Semaphore s o (wait.Semaphore s) refl e
@@ -116,7 +117,7 @@ queue_after q at f x o S there here elsewhere =
     queues_after q at.kind after x (λ v. S x o (item [] v o.number))
     (λ e. ⊎_elim
     (λ (g : o.number ≡ at.object.number).
-    let same : o ≡ at.object = object_same o at.object g in
+    let same : o ≡ at.object = objects_same o at.object g in
     subst (λ y. S y o (item [] after o.number)) (sym e)
     (subst (λ i. S at.kind i (item [] after i.number)) (sym same) (subst (S at.kind at.object) (sym own) here)))
     (λ (d : o.number ≡ at.object.number → ⊥).

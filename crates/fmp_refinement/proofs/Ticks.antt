@@ -1,6 +1,7 @@
 -- A tick lowers counts and serves those at 0, on lists as on numbers.
 use Rattle.std.proofs.Common.{◌≡◌, ℕ, zero, suc, ◌-◌, Bool, true, false, if◌then◌else◌, List, [], ◌∷◌, length, refl, sym, ap, ◌∙◌, subst, arith, Option, Some, None}
 use Rattle.std.specs.Prelude.{is_some, slice_index_or}
+use Rattle.fmp_safety.proofs.TellsTick.{lowered_length}
 use Rattle.fmp_codes.specs.declared.numbers.Proc.{Proc}
 use Rattle.fmp_codes.specs.declared.numbers.Task.{Task}
 use Rattle.fmp_codes.specs.declared.numbers.Object.{Object}
@@ -36,11 +37,6 @@ lowered_at f [] ns i h = refl
 lowered_at f (x ∷ xs) [] i h = refl
 lowered_at f (x ∷ xs) (n ∷ ns) zero h = some_less (f x) n
 lowered_at f (x ∷ xs) (n ∷ ns) (suc i) h = lowered_at f xs ns i (omega (arith, h))
-
-lowered_length : {X : Type 0} (f : X → Bool) (xs : List X) (ns : List (Option ℕ)) → length (lowered f xs ns) ≡ length ns
-lowered_length f [] ns = refl
-lowered_length f (x ∷ xs) [] = refl
-lowered_length f (x ∷ xs) (n ∷ ns) = ap suc (lowered_length f xs ns)
 
 keeps_lower : (m : State) (q : Queues) → AreListsOf q m → (p : Proc) → AreListsOf q (counted_down m p)
 unfolding counted_down

@@ -6,7 +6,7 @@ use fmp_codes::{Object, Pri, Proc, Runner, Task};
 use fmp_parts::Digest;
 
 impl Same for Proc {
-    #[tactic(auto, using(crate::proofs::Equal::processors_same))]
+    #[tactic(auto, using(fmp_codes::proofs::Same::processors_same))]
     fn is_same(&self, other: &Self) -> bool {
         self.number == other.number
     }
@@ -17,7 +17,7 @@ impl Same for Proc {
 }
 
 impl Same for Task {
-    #[tactic(auto, using(crate::proofs::Equal::tasks_same))]
+    #[tactic(auto, using(fmp_codes::proofs::Same::tasks_same))]
     fn is_same(&self, other: &Self) -> bool {
         self.number == other.number
     }
@@ -28,7 +28,7 @@ impl Same for Task {
 }
 
 impl Same for Object {
-    #[tactic(auto, using(crate::proofs::Equal::objects_same))]
+    #[tactic(auto, using(fmp_codes::proofs::Same::objects_same))]
     fn is_same(&self, other: &Self) -> bool {
         self.number == other.number
     }
@@ -39,7 +39,7 @@ impl Same for Object {
 }
 
 impl Same for Pri {
-    #[tactic(auto, using(crate::proofs::Equal::priorities_same))]
+    #[tactic(auto, using(fmp_codes::proofs::Same::priorities_same))]
     fn is_same(&self, other: &Self) -> bool {
         self.number == other.number
     }

@@ -2,12 +2,12 @@
 use Rattle.std.proofs.Common.{◌≡◌, ℕ, ◌+◌, ◌<◌, ◌≤◌, ◌==◌, Bool, true, false, not, ◌⊎◌, cond, eqb, ltb, inl, inr, List, [], ◌∷◌, ◌++◌, length, Option, Some, None, Result, Ok, Err, is_some, refl, sym, ap, subst, ◌∙◌, arith, length-append, append_assoc}
 use Rattle.std.specs.Prelude.{All, codes}
 use Rattle.std.specs.List.{list_all, list_any, join_with_byte}
-use Rattle.std.proofs.lemmas.Bool.{cases_Bool, and_parts, ltb-true, ltb-false, le-ltb, false≢true}
+use Rattle.std.proofs.lemmas.Bool.{cases_Bool, and_parts, ltb-true, ltb-false, false≢true}
 use Rattle.std.proofs.lemmas.List.{append-nil}
 use Rattle.std.proofs.lemmas.List.Elements.{All-nil, All-push}
 use Rattle.fmp_bytes.specs.Bytes.{pieces_of}
 use Rattle.fmp_bytes.proofs.Cutting.{join-pieces_of, some-pieces_of, apart-pieces_of}
-use Rattle.fmp_bytes.proofs.Parsed.{tested_ok}
+use Rattle.fmp_bytes.proofs.Parsed.{tested_ok, bind_parts}
 use Rattle.fmp_names.specs.Names.{NameLists, AreValid}
 use Rattle.fmp_text.specs.Limits.{most_bytes}
 use Rattle.fmp_text.specs.declared.fault.TextFault.{TextFault}
@@ -16,7 +16,6 @@ use Rattle.fmp_text.specs.declared.fault.TextKind.TheVariants.{CutShort, TooMany
 use Rattle.fmp_text.specs.FirstFaults.{lines_text, AreApart}
 use Rattle.fmp_text.specs.Lines.{is_skipped}
 use Rattle.fmp_text.proofs.FirstFaults.{lines_text-push, apart-push, apart-cons, length-push}
-use Rattle.fmp_text.proofs.Parsed.{bind_parts}
 use Rattle.fmp_text.proofs.SpelledTexts.{no_feed, rest_read, skipped_parts}
 use Rattle.fmp_scripts.specs.declared.line.Said.{Said}
 use Rattle.fmp_scripts.specs.declared.line.Said.TheVariants as said
@@ -26,7 +25,7 @@ use Rattle.fmp_scripts.specs.Texts.{Open, Reading, nothing_read, took, with_line
 use Rattle.fmp_scripts.specs.ScriptGrammar.{IsLine, SpellsEnd, SpellsHead, SpellsScripts}
 use Rattle.fmp_scripts.specs.ScriptFaults.{LeaveOpen}
 use Rattle.fmp_scripts.specs.FirstFaults.{HaveNoFault, FaultInLine, AreOpen, FaultAtEnd, FirstFault}
-use Rattle.fmp_scripts.proofs.Read.{scripts_from-cut}
+use Rattle.fmp_scripts.proofs.Read.{scripts_from-cut, judged}
 use Rattle.fmp_scripts.proofs.ScriptFaults.{line_fault, script_of}
 use Rattle.fmp_scripts.proofs.SpelledLines.{LineSays, end_read, line_is_spelled}
 use Rattle.fmp_scripts.proofs.SpelledScripts.{reading, opened, last_line, opening_parts, scripts_in-spelled, text_is_spelled}
@@ -91,16 +90,12 @@ record After (names : NameLists) (before : List (List ℕ)) (done : List Steps) 
   reads : (more : List ℕ) → scripts_from names 0 nothing_read [] (lines_text before ++ more) ≡ scripts_from names (length before) (reading done unclosed) [] more
   open_since : Opened names before unclosed
 
-read_within : (names : NameLists) (text : List ℕ) → length text ≤ most_bytes → scripts_in names text ≡ scripts_from names 0 nothing_read [] text
-unfolding scripts_in
-read_within names text fits = let short = le-ltb most_bytes (length text) fits in rw short refl
-
 -- lines that are whole scripts
 whole : (names : NameLists) (before : List (List ℕ)) (done : List Steps) → After names before done None → length (lines_text before) ≤ most_bytes → SpellsScripts names (lines_text before) done
 unfolding scripts_from is_skipped
 whole names before done after fits =
     text_is_spelled names (lines_text before) done
-    (read_within names (lines_text before) fits ∙ ap (scripts_from names 0 nothing_read []) (sym (append-nil (lines_text before))) ∙ after.reads [])
+    (judged names (lines_text before) fits ∙ ap (scripts_from names 0 nothing_read []) (sym (append-nil (lines_text before))) ∙ after.reads [])
 
 -- an open script can be ended
 ended : (names : NameLists) (n : ℕ) (done : List Steps) (o : Open) → scripts_from names n (reading done (Some o)) [] (codes "end" ++ (10 ∷ [])) ≡ Ok (done ++ o.script ∷ [])
@@ -120,13 +115,13 @@ leaves_open names before done (Some o) after fits =
     let more : List ℕ = codes "end\n" in
     let long : length more ≡ 4 = refl in
     text_is_spelled names (lines_text before ++ more) (done ++ o.script ∷ [])
-    (read_within names (lines_text before ++ more) (omega (arith, fits, long, length-append (lines_text before) more)) ∙ after.reads more ∙ ended names (length before) done o)
+    (judged names (lines_text before ++ more) (omega (arith, fits, long, length-append (lines_text before) more)) ∙ after.reads more ∙ ended names (length before) done o)
 
 no_faults : (names : NameLists) (before : List (List ℕ)) (done : List Steps) (unclosed : Option Open) → After names before done unclosed → HaveNoFault names before
 no_faults names before done unclosed after = record {
   complete = by unclosed after;
   clean = λ more fault fits e.
-      faults_are_late names more (length before) (reading done unclosed) [] fault (sym (after.reads more) ∙ sym (read_within names (lines_text before ++ more) fits) ∙ e);
+      faults_are_late names more (length before) (reading done unclosed) [] fault (sym (after.reads more) ∙ sym (judged names (lines_text before ++ more) fits) ∙ e);
 }
   where
     by : (unclosed : Option Open) → After names before done unclosed → length (lines_text before) + 4 ≤ most_bytes → (more : List ℕ) × (scripts : List Steps) × SpellsScripts names (lines_text before ++ more) scripts
@@ -215,7 +210,7 @@ module _ (names : NameLists) (valid : AreValid names) (before : List (List ℕ))
         (λ more. reads_line more ∙ ap (λ (s : Result Reading TextKind). after_line (length before + 1) s (λ x. scripts_from names (length before + 1) x [] more)) read) in
         let told : (more : List ℕ) → length (lines_text before ++ (line ++ (10 ∷ more))) ≤ most_bytes
         → scripts_in names (lines_text before ++ (line ++ (10 ∷ more))) ≡ Err (record { kind = kind; line = length before + 1 }) =
-        (λ more fits. read_within names (lines_text before ++ (line ++ (10 ∷ more))) fits ∙ reads_fault more) in
+        (λ more fits. judged names (lines_text before ++ (line ++ (10 ∷ more))) fits ∙ reads_fault more) in
         record {
           before = before;
           line = line;

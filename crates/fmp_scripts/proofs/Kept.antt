@@ -8,6 +8,7 @@ use Rattle.std.proofs.lemmas.List.Elements.{All-nil, All-push}
 use Rattle.std.proofs.lemmas.List.Quantifiers.{all_pairs_push}
 use Rattle.fmp_bytes.specs.declared.classes.Class.TheVariants.{Blank, Word, Line}
 use Rattle.fmp_bytes.specs.Bytes.{is_of, prefix, after}
+use Rattle.fmp_bytes.specs.Results.{◌>>=◌}
 use Rattle.fmp_calls.specs.Arguments.{CallInBits}
 use Rattle.fmp_codes.specs.declared.calls.Call.{Call}
 use Rattle.fmp_names.specs.Names.{NameLists, AreValid}
@@ -15,7 +16,7 @@ use Rattle.fmp_names.proofs.Listed.{list_any-nowhere}
 use Rattle.fmp_text.specs.Limits.{most_bytes}
 use Rattle.fmp_text.specs.declared.fault.TextFault.{TextFault}
 use Rattle.fmp_text.specs.declared.fault.TextKind.{TextKind}
-use Rattle.fmp_text.specs.Reading.{◌>>=◌, call_in}
+use Rattle.fmp_text.specs.Reading.{call_in}
 use Rattle.fmp_text.specs.Lines.{is_skipped, without_return}
 use Rattle.fmp_text.proofs.SpelledCalls.{call_is_spelled}
 use Rattle.fmp_text.proofs.Limited.{call_in_bits}

@@ -4,13 +4,14 @@ use Rattle.std.specs.Prelude.{codes, nat_lt, decimal, option_map}
 use Rattle.std.specs.List.{list_all, list_any, prefix_len}
 use Rattle.std.specs.Option.{ok_or}
 use Rattle.std.specs.Str.{bytes_eq}
-use Rattle.std.proofs.lemmas.Bool.{cases_Bool, and_parts, false≢true, le-ltb, ltb-false}
+use Rattle.std.proofs.lemmas.Bool.{cases_Bool, and_parts, false≢true, le-ltb, ltb-false, false_from_ne_true}
 use Rattle.std.proofs.lemmas.Fmt.{decimal_digit}
-use Rattle.std.proofs.lemmas.Slice.Eq.{bytes_eq-Decides}
 use Rattle.fmp_bytes.specs.declared.classes.Class.TheVariants.{Blank, Word, Line}
 use Rattle.fmp_bytes.specs.Bytes.{is_of, prefix, after, is_identifier}
 use Rattle.fmp_bytes.proofs.Prefixes.{list_all-take_while}
 use Rattle.fmp_bytes.proofs.Tokens.{identifier_bytes, identifier_words}
+use Rattle.fmp_bytes.proofs.Words.{same_word, is_word, other_word, not_word}
+use Rattle.fmp_bytes.specs.Results.{◌>>=◌}
 use Rattle.fmp_calls.specs.Table.{named, text_of}
 use Rattle.fmp_calls.specs.declared.kinds.NameKind.TheVariants.{Function}
 use Rattle.fmp_calls.proofs.Matched.{named-text_of, no_ipi, no_tick, text_of-named}
@@ -26,8 +27,8 @@ use Rattle.fmp_text.specs.declared.fault.TextKind.{TextKind}
 use Rattle.fmp_text.specs.declared.fault.TextKind.TheVariants.{BadByte, BadWord, UnknownName, WrongArguments, TooMany}
 use Rattle.fmp_text.specs.EventFaults.{behind_word, first_word, CallFault, CoreFault, EventFault, HappeningFault}
 use Rattle.fmp_text.specs.Lines.{is_skipped, processor_in, without_return, event_in, event_at, event_of, line_event}
-use Rattle.fmp_text.specs.Reading.{◌>>=◌, named_call, call_after, call_at, call_in}
-use Rattle.fmp_text.proofs.EventFaults.{call_fault, err_is}
+use Rattle.fmp_text.specs.Reading.{named_call, call_after, call_at, call_in}
+use Rattle.fmp_text.proofs.EventFaults.{call_fault, err_is, ok_is_none}
 use Rattle.fmp_text.proofs.EventFaultsRead.{event_told}
 use Rattle.fmp_text.proofs.SpelledCalls.{call_in-spelled, call_is_spelled}
 use Rattle.fmp_text.proofs.SpelledEvents.{blanks_stop, processor_read}
@@ -41,27 +42,6 @@ use Rattle.fmp_scripts.proofs.SpelledLines.{blanks_no_word, by_word, first_word_
 use Rattle.fmp_scripts.proofs.SpelledScripts.{reading}
 
 -- ---- words
-
-same_word : (a b : List ℕ) → a ≡ b → bytes_eq a b ≡ true
-same_word a b e = (bytes_eq-Decides a b).1 e
-
-is_word : (a b : List ℕ) → bytes_eq a b ≡ true → a ≡ b
-is_word a b t = (bytes_eq-Decides a b).0 t
-
--- what is not true is false
-is_false : (b : Bool) → (b ≡ true → ⊥) → b ≡ false
-is_false true never = absurd (never refl)
-is_false false never = refl
-
-other_word : (a b : List ℕ) → a ≢ b → bytes_eq a b ≡ false
-other_word a b other = is_false (bytes_eq a b) (λ t. other (is_word a b t))
-
-not_word : (a b : List ℕ) → bytes_eq a b ≡ false → a ≢ b
-not_word a b f e = false≢true (sym f ∙ same_word a b e)
-
--- a result with a fault is not right
-no_fault : {A : Type 0} (a : A) (kind : TextKind) → ◌≡◌ {A = Result A TextKind} (Ok a) (Err kind) → ⊥
-no_fault a kind e = absurd cc
 
 -- ---- the head of a script
 
@@ -114,7 +94,7 @@ module _ (lists : NameLists) (valid : AreValid lists) (n : ℕ) (done : List Ste
   head_told : (kind : TextKind) → HeadFault lists done text kind → headed lists n done text ≡ Err kind
   unfolding begins function_in name_in
   head_told kind (inl (wrong, none)) =
-      let f = is_false (one_name text) (λ t. none (first_word text) (name_found text t)) in
+      let f = false_from_ne_true (one_name text) (λ t. none (first_word text) (name_found text t)) in
       rw (f, wrong) refl
   head_told kind (inr (name, is, inl (unknown, none))) =
       let here = name_is name text is in
@@ -295,7 +275,7 @@ module _ (lists : NameLists) (valid : AreValid lists) (text : List ℕ) (line : 
       where
         by : (read : Result Call TextKind) → call_at lists (after Blank text) ≡ read
             → ((read >>= λ c. Ok (event.Call (as_proc 1) c)) >>= λ happened. Ok (Some happened)) ≡ Err kind → call_in lists text ≡ Err kind
-        by (Ok c) is e2 = absurd (no_fault (Some (event.Call (as_proc 1) c)) kind e2)
+        by (Ok c) is e2 = absurd (ok_is_none (Some (event.Call (as_proc 1) c)) kind e2)
         by (Err k) is e2 = rw (line, is) (ap (λ x. Err x) (err_is {A = Option Event} k kind e2))
 
   name_told : ((call : Call) → text_of call ≢ first_word text) → call_in lists text ≡ Err BadWord
@@ -340,7 +320,7 @@ module _ (lists : NameLists) (valid : AreValid lists) (text : List ℕ) (line : 
   word_told n done (Some o) kind (inr (inl (wrong, word, more))) =
       let script : bytes_eq (first_word text) (codes "script") ≡ false = ap (λ (w : List ℕ). bytes_eq w (codes "script")) word in
       let end = same_word (first_word text) (codes "end") word in
-      let rest = is_false (list_all (is_of Blank) (behind_word text)) more in
+      let rest = false_from_ne_true (list_all (is_of Blank) (behind_word text)) more in
       rw (script, end, rest, wrong) refl
   word_told n done (Some o) kind (inr (inr (no_script, no_end, fault))) =
       step_told n done o kind (other_word (first_word text) (codes "script") no_script) (other_word (first_word text) (codes "end") no_end) fault
@@ -348,9 +328,9 @@ module _ (lists : NameLists) (valid : AreValid lists) (text : List ℕ) (line : 
 pub line_told : (lists : NameLists) (n : ℕ) (r : Reading) (line : List ℕ) (kind : TextKind) → AreValid lists → ScriptFault lists r.scripts (script_of r.unclosed) line kind → with_line lists n r line ≡ Err kind
 unfolding said_in
 line_told lists n r line kind valid (some, inl (bad, byte)) =
-    let stays = is_false (is_skipped (without_return line)) (λ t. some (nothing_spelled line t)) in
+    let stays = false_from_ne_true (is_skipped (without_return line)) (λ t. some (nothing_spelled line t)) in
     rw (stays, byte, bad) refl
 line_told lists n r line kind valid (some, inr (bytes, fault)) =
-    let stays = is_false (is_skipped (without_return line)) (λ t. some (nothing_spelled line t)) in
+    let stays = false_from_ne_true (is_skipped (without_return line)) (λ t. some (nothing_spelled line t)) in
     let told = word_told lists valid (without_return line) bytes n r.scripts r.unclosed kind fault in
     rw (stays, bytes) told

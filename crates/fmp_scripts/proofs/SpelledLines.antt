@@ -20,7 +20,7 @@ use Rattle.fmp_bytes.specs.declared.classes.Class.TheVariants.{Blank, Word, Line
 use Rattle.fmp_bytes.specs.Bytes.{is_of, prefix, after, is_identifier}
 use Rattle.fmp_bytes.proofs.Prefixes.{prefix-append, prefix-after, list_all-take_while, stops-cons, stops-all, list_all-weaker, list_all-both}
 use Rattle.fmp_bytes.proofs.Included.{argument-word, not_blank-argument}
-use Rattle.fmp_bytes.proofs.Parsed.{ok_or_parts, tested_ok}
+use Rattle.fmp_bytes.proofs.Parsed.{ok_or_parts, tested_ok, bind_parts}
 use Rattle.fmp_bytes.proofs.Tokens.{identifier_bytes, identifier_words}
 use Rattle.fmp_calls.specs.Table.{text_of}
 use Rattle.fmp_calls.proofs.Matched.{is_identifier-text_of}
@@ -33,10 +33,9 @@ use Rattle.fmp_text.specs.Reading.{call_in}
 use Rattle.fmp_text.specs.Lines.{is_skipped, without_return}
 use Rattle.fmp_text.specs.Grammar.{AreBlank}
 use Rattle.fmp_text.specs.TextGrammar.{Ended, SpellsNothing}
-use Rattle.fmp_text.proofs.Parsed.{bind_parts}
-use Rattle.fmp_text.proofs.SpelledCalls.{not-word, call_in-spelled, call_is_spelled, word_of_call, line_of_call}
+use Rattle.fmp_text.proofs.SpelledCalls.{not-word, call_in-spelled, call_is_spelled, word_of_call, line_of_call, blanks_in_line}
 use Rattle.fmp_text.proofs.SpelledEvents.{blanks_stop, blank_between, line_of_words}
-use Rattle.fmp_text.proofs.SpelledTexts.{after_first, core_of, ended, line_of_blanks, nothing_read, nothing_spelled, skipped_parts}
+use Rattle.fmp_text.proofs.SpelledTexts.{after_first, core_of, ended, nothing_read, nothing_spelled, skipped_parts}
 use Rattle.fmp_scripts.specs.declared.line.Said.{Said}
 use Rattle.fmp_scripts.specs.declared.line.Said.TheVariants as said
 use Rattle.fmp_scripts.specs.Lines.{name_in, function_in, begins, ends, asks, said_by, said_in}
@@ -124,10 +123,10 @@ head_says names text f valid s =
     let word = first.0 in let follows = first.1 in let inner = second.0 in let behind = second.1 in
     let blank = p.behind_blank in let number = number_of-name_of names Function f name valid s.is_name in
     record {
-      line = ap (list_all (is_of Line)) parts ∙ list_all-both (is_of Line) p.before (codes "script" ++ rest) (line_of_blanks p.before p.before_blank)
+      line = ap (list_all (is_of Line)) parts ∙ list_all-both (is_of Line) p.before (codes "script" ++ rest) (blanks_in_line p.before p.before_blank)
           (list_all-both (is_of Line) (codes "script") rest (line_of_words (codes "script") script_words)
-          (list_all-both (is_of Line) s.between (name ++ p.behind) (line_of_blanks s.between s.between_blank)
-          (list_all-both (is_of Line) name p.behind (line_of_words name words) (line_of_blanks p.behind p.behind_blank))));
+          (list_all-both (is_of Line) s.between (name ++ p.behind) (blanks_in_line s.between s.between_blank)
+          (list_all-both (is_of Line) name p.behind (line_of_words name words) (blanks_in_line p.behind p.behind_blank))));
       some = omega (arith, ap length word);
       says = rw (word, follows, inner, behind, identifier, blank, number) refl;
     }
@@ -138,8 +137,8 @@ end_says names text p =
     let first = first_word_of p.before (codes "end") p.behind text p.before_blank end_words (omega arith) (blanks_no_word p.behind p.behind_blank) p.parts in
     let word = first.0 in let follows = first.1 in let blank = p.behind_blank in
     record {
-      line = ap (list_all (is_of Line)) p.parts ∙ list_all-both (is_of Line) p.before (codes "end" ++ p.behind) (line_of_blanks p.before p.before_blank)
-          (list_all-both (is_of Line) (codes "end") p.behind (line_of_words (codes "end") end_words) (line_of_blanks p.behind p.behind_blank));
+      line = ap (list_all (is_of Line)) p.parts ∙ list_all-both (is_of Line) p.before (codes "end" ++ p.behind) (blanks_in_line p.before p.before_blank)
+          (list_all-both (is_of Line) (codes "end") p.behind (line_of_words (codes "end") end_words) (blanks_in_line p.behind p.behind_blank));
       some = omega (arith, ap length word);
       says = rw (word, follows, blank) refl;
     }

@@ -6,7 +6,7 @@ use Rattle.std.proofs.lemmas.Bool.{and_parts, ltb-false, lt-ltb, le-ltb, ne_eqb,
 use Rattle.std.proofs.lemmas.List.{append-nil}
 use Rattle.fmp_bytes.specs.Bytes.{pieces_of}
 use Rattle.fmp_bytes.proofs.Cutting.{join-pieces_of, some-pieces_of, apart-pieces_of}
-use Rattle.fmp_bytes.proofs.Parsed.{tested_ok}
+use Rattle.fmp_bytes.proofs.Parsed.{tested_ok, bind_parts}
 use Rattle.fmp_codes.specs.declared.calls.Call.{Call}
 use Rattle.fmp_names.specs.Names.{NameLists, AreValid}
 use Rattle.fmp_text.specs.Limits.{most_bytes}
@@ -15,7 +15,6 @@ use Rattle.fmp_text.specs.declared.fault.TextKind.{TextKind}
 use Rattle.fmp_text.specs.declared.fault.TextKind.TheVariants.{CutShort, TooMany, WrongArguments}
 use Rattle.fmp_text.specs.Lines.{is_skipped}
 use Rattle.fmp_text.specs.TextGrammar.{SpellsNothing}
-use Rattle.fmp_text.proofs.Parsed.{bind_parts}
 use Rattle.fmp_text.proofs.SpelledTexts.{no_feed, rest_read, skipped_parts}
 use Rattle.fmp_scripts.specs.declared.line.Said.{Said}
 use Rattle.fmp_scripts.specs.declared.line.Said.TheVariants as said

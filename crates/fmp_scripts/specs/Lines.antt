@@ -5,11 +5,12 @@ use Rattle.std.specs.Option.{ok_or}
 use Rattle.std.specs.Str.{bytes_eq}
 use Rattle.fmp_bytes.specs.declared.classes.Class.TheVariants.{Blank, Word, Line}
 use Rattle.fmp_bytes.specs.Bytes.{is_of, prefix, after, is_identifier}
+use Rattle.fmp_bytes.specs.Results.{◌>>=◌}
 use Rattle.fmp_calls.specs.declared.kinds.NameKind.TheVariants.{Function}
 use Rattle.fmp_text.specs.declared.fault.TextKind.{TextKind}
 use Rattle.fmp_text.specs.declared.fault.TextKind.TheVariants.{BadByte, BadWord, UnknownName, WrongArguments}
 use Rattle.fmp_names.specs.Names.{NameLists, number_of}
-use Rattle.fmp_text.specs.Reading.{◌>>=◌, call_in}
+use Rattle.fmp_text.specs.Reading.{call_in}
 use Rattle.fmp_text.specs.Lines.{is_skipped, without_return}
 use Rattle.fmp_scripts.specs.declared.line.Said.{Said}
 use Rattle.fmp_scripts.specs.declared.line.Said.TheVariants as said

@@ -2,6 +2,7 @@
 use Rattle.std.specs.Prelude.{◌≡◌, ◌⊎◌, ℕ, ◌+◌, ◌==◌, nat_lt, List, [], ◌∷◌, ◌++◌, length, Option, Some, None, is_some, Result, Ok, Err, if◌then◌else◌}
 use Rattle.std.specs.List.{list_any}
 use Rattle.fmp_bytes.specs.Bytes.{line_feed}
+use Rattle.fmp_bytes.specs.Results.{◌>>=◌}
 use Rattle.fmp_codes.specs.declared.calls.Call.{Call}
 use Rattle.fmp_text.specs.declared.fault.TextFault.{TextFault}
 use Rattle.fmp_text.specs.declared.fault.TextKind.{TextKind}
@@ -10,7 +11,6 @@ use Rattle.fmp_text.specs.Limits.{most_bytes}
 use Rattle.fmp_text.specs.Events.{IsMemory}
 use Rattle.fmp_text.specs.Lines.{is_skipped}
 use Rattle.fmp_names.specs.Names.{NameLists}
-use Rattle.fmp_text.specs.Reading.{◌>>=◌}
 use Rattle.fmp_scripts.specs.declared.line.Said.{Said}
 use Rattle.fmp_scripts.specs.declared.line.Said.TheVariants as said
 use Rattle.fmp_scripts.specs.Scripts.{Steps, most_steps}

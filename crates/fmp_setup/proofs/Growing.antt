@@ -1,5 +1,5 @@
 -- A configuration stays valid as it grows.
-use Rattle.std.proofs.Common.{◌≡◌, ℕ, ◌+◌, ◌≤◌, ◌<◌, Bool, true, false, cond, not, ◌&&◌, List, [], ◌∷◌, ◌++◌, length, Option, Some, None, refl, sym, ap, subst, ◌∙◌, inl, inr, arith, length-append}
+use Rattle.std.proofs.Common.{◌≡◌, ℕ, ◌+◌, ◌≤◌, ◌<◌, Bool, true, false, not, ◌&&◌, List, [], ◌∷◌, ◌++◌, length, Option, Some, None, refl, sym, ap, subst, ◌∙◌, inl, inr, arith, length-append}
 use Rattle.std.specs.Prelude.{All, Contains}
 use Rattle.std.specs.List.{list_all}
 use Rattle.std.specs.Str.{bytes_eq}
@@ -9,6 +9,7 @@ use Rattle.std.proofs.lemmas.List.Sums.{AllPass-from_list_all}
 use Rattle.std.proofs.lemmas.Slice.Eq.{bytes_eq-Decides}
 use Rattle.fmp_names.specs.Names.{NameLists, is_name, is_object, is_defined, is_reserved, times}
 use Rattle.fmp_names.proofs.Listed.{list_all-push, times-none, times-push}
+use Rattle.fmp_names.proofs.Valid.{once_more}
 use Rattle.fmp_setup.specs.declared.setup.Class.{Class}
 use Rattle.fmp_setup.specs.declared.setup.Limits.{Limits}
 use Rattle.fmp_setup.specs.declared.setup.Timer.{Timer}
@@ -20,13 +21,6 @@ use Rattle.fmp_setup.proofs.Named.{not_refused, undefined_from}
 pub use Rattle.fmp_setup.proofs.Objects.{object_added}
 
 -- ---- a class
-
-once_more : (name other : List ℕ) (before after : ℕ) → after ≡ before + cond (bytes_eq name other) 1 0 → (bytes_eq name other ≡ true → before ≡ 0) → before ≤ 1 → after ≤ 1
-once_more name other before after counted new once =
-    elim (cases_Bool (bytes_eq name other)) [
-      | inl t ↦ let none = new t in omega (arith, rw t at counted, none)
-      | inr f ↦ omega (arith, rw f at counted, once)
-    ]
 
 -- what holds of the elements still holds where the list grows
 module _ (c : Setup) (valid : IsValid c) (name : List ℕ) (class : Class) where

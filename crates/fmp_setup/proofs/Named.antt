@@ -2,7 +2,7 @@
 use Rattle.std.proofs.Common.{◌≡◌, ℕ, zero, suc, ◌+◌, ◌≤◌, ◌<◌, Bool, true, false, cond, not, ◌||◌, List, [], ◌∷◌, ◌++◌, length, map, set, get_or, refl, sym, ap, ◌∙◌, inl, inr, arith, length-append}
 use Rattle.std.specs.List.{list_all, list_any, position_or_len}
 use Rattle.std.specs.Str.{bytes_eq}
-use Rattle.std.proofs.lemmas.Bool.{cases_Bool, cases_lt, or_parts, and_parts, false≢true, lt-ltb, le-ltb}
+use Rattle.std.proofs.lemmas.Bool.{cases_Bool, cases_lt, or_parts, and_parts, false≢true, lt-ltb, le-ltb, not-true}
 use Rattle.std.proofs.lemmas.Slice.Eq.{bytes_eq-Decides}
 use Rattle.std.proofs.lemmas.List.{map_push}
 use Rattle.std.proofs.lemmas.List.Folds.{list_any-append}
@@ -36,10 +36,6 @@ other_way a b differs =
       | inl t ↦ absurd (false≢true (sym differs ∙ (bytes_eq-Decides a b).1 (sym ((bytes_eq-Decides b a).0 t))))
       | inr f ↦ f
     ]
-
-pub not_true : (b : Bool) → not b ≡ true → b ≡ false
-not_true true e = sym e
-not_true false e = refl
 
 -- ---- the lists of names
 
@@ -82,7 +78,7 @@ apart_still old new name [] lacks fresh apart = refl
 apart_still old new name (n ∷ ns) lacks fresh apart =
     let news = or_parts (bytes_eq name n) (has_name ns name) fresh in
     let aparts = and_parts (not (old n)) (list_all (λ m. not (old m)) ns) apart in
-    let here = lacks n (other_way name n news.0) (not_true (old n) aparts.0) in
+    let here = lacks n (other_way name n news.0) (not-true (old n) aparts.0) in
     let there = apart_still old new name ns lacks news.1 aparts.1 in
     rw (here, there) refl
 

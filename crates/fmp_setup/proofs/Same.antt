@@ -1,37 +1,25 @@
 -- The comparison of what a configuration says decides equality.
-use Rattle.std.proofs.Common.{◌≡◌, ℕ, ◌≤◌, Bool, true, false, ◌&&◌, refl, ap, ◌∙◌, subst, eqb, Decides}
+use Rattle.std.proofs.Common.{◌≡◌, ◌&&◌, refl, ap, ◌∙◌, eqb, Decides}
 use mathlib.Core.Bool.{beq}
-use Rattle.std.specs.Coded.{le_prop}
 use Rattle.std.specs.Cmp.Lexicographic.{pointwise}
 use Rattle.std.proofs.lemmas.Bool.Decides.{Decides-like, Decides-and, Decides-eqb}
 use Rattle.std.proofs.lemmas.Slice.Eq.{slice_eq-Decides}
+use Rattle.std.specs.Cmp.{booleans_Decides}
 use Rattle.fmp_setup.specs.declared.setup.Class.{Class}
 use Rattle.fmp_setup.specs.declared.setup.TaskSetup.{TaskSetup}
 use Rattle.fmp_setup.specs.declared.setup.CyclicSetup.{CyclicSetup}
 use Rattle.fmp_setup.specs.declared.setup.AlarmSetup.{AlarmSetup}
 use Rattle.fmp_codes.specs.declared.numbers.Proc.{Proc}
 use Rattle.fmp_codes.specs.declared.numbers.Pri.{Pri}
-
-bools_decide : (a b : Bool) → Decides (beq a b) (a ≡ b)
-bools_decide true true = (λ _. refl, λ _. refl)
-bools_decide true false = (λ t. cc, λ e. cc)
-bools_decide false true = (λ t. cc, λ e. cc)
-bools_decide false false = (λ _. refl, λ _. refl)
-
--- numbers within limits are made equal by equal numbers
-made_same : {X : Type 0} (most : ℕ) (make : (n : ℕ) → 1 ≤ n → n ≤ most → X) (n k : ℕ) → n ≡ k
-    → (l : 1 ≤ n) (m : n ≤ most) (l' : 1 ≤ k) (m' : k ≤ most) → make n l m ≡ make k l' m'
-made_same most make n k e l m =
-    let P : ℕ → Type 0 = λ k. (l' : 1 ≤ k) (m' : k ≤ most) → make n l m ≡ make k l' m' in
-    subst P e (λ l' m'. ap (λ x. make n x m) (le_prop l l') ∙ ap (λ x. make n l' x) (le_prop m m'))
+use Rattle.fmp_codes.proofs.Same.{processors_same, priorities_same}
 
 pub processors_decide : (p q : Proc) → Decides (eqb p.number q.number) (p ≡ q)
 processors_decide p q =
-    Decides-like _ (λ e. made_same 8 (λ n l m. record { number = n; least = l; most = m }) p.number q.number e p.least p.most q.least q.most) (ap (λ (x : Proc). x.number)) (Decides-eqb p.number q.number)
+    Decides-like _ (processors_same p q) (ap (λ (x : Proc). x.number)) (Decides-eqb p.number q.number)
 
 priorities_decide : (p q : Pri) → Decides (eqb p.number q.number) (p ≡ q)
 priorities_decide p q =
-    Decides-like _ (λ e. made_same 32 (λ n l m. record { number = n; least = l; most = m }) p.number q.number e p.least p.most q.least q.most) (ap (λ (x : Pri). x.number)) (Decides-eqb p.number q.number)
+    Decides-like _ (priorities_same p q) (ap (λ (x : Pri). x.number)) (Decides-eqb p.number q.number)
 
 -- of equal parts the whole is equal, part by part
 module _ {A B : Type 0} (a c : A) (b d : B) where
@@ -41,7 +29,7 @@ module _ {A B : Type 0} (a c : A) (b d : B) where
 pub classes_decide : (a b : Class) → Decides (eqb a.initial.number b.initial.number && pointwise beq a.members b.members) (a ≡ b)
 classes_decide a b =
     Decides-like _ (parts_same a.initial b.initial a.members b.members (λ initial members. record { initial = initial; members = members })) (λ e. (ap (λ (c : Class). c.initial) e, ap (λ (c : Class). c.members) e))
-    (Decides-and _ _ (processors_decide a.initial b.initial) (slice_eq-Decides bools_decide a.members b.members _ refl))
+    (Decides-and _ _ (processors_decide a.initial b.initial) (slice_eq-Decides booleans_Decides a.members b.members _ refl))
 
 pub alarms_decide : (a b : AlarmSetup) → Decides ((eqb a.class.initial.number b.class.initial.number && pointwise beq a.class.members b.class.members) && eqb a.handler b.handler) (a ≡ b)
 alarms_decide a b =
@@ -51,7 +39,7 @@ alarms_decide a b =
 pub tasks_decide : (a b : TaskSetup)
     → Decides ((eqb a.class.initial.number b.class.initial.number && pointwise beq a.class.members b.class.members) && (eqb a.main b.main && (eqb a.priority.number b.priority.number && beq a.starts b.starts))) (a ≡ b)
 tasks_decide a b =
-    let all = Decides-and _ _ (classes_decide a.class b.class) (Decides-and _ _ (Decides-eqb a.main b.main) (Decides-and _ _ (priorities_decide a.priority b.priority) (bools_decide a.starts b.starts))) in
+    let all = Decides-and _ _ (classes_decide a.class b.class) (Decides-and _ _ (Decides-eqb a.main b.main) (Decides-and _ _ (priorities_decide a.priority b.priority) (booleans_Decides a.starts b.starts))) in
     Decides-like _ (λ p.
     ap (λ x. record { class = x; main = a.main; priority = a.priority; starts = a.starts }) p.0
     ∙ ap (λ x. record { class = b.class; main = x; priority = a.priority; starts = a.starts }) p.1.0
@@ -62,7 +50,7 @@ tasks_decide a b =
 pub cyclics_decide : (a b : CyclicSetup)
     → Decides ((eqb a.class.initial.number b.class.initial.number && pointwise beq a.class.members b.class.members) && (eqb a.handler b.handler && (eqb a.period b.period && (eqb a.phase b.phase && beq a.starts b.starts)))) (a ≡ b)
 cyclics_decide a b =
-    let all = Decides-and _ _ (classes_decide a.class b.class) (Decides-and _ _ (Decides-eqb a.handler b.handler) (Decides-and _ _ (Decides-eqb a.period b.period) (Decides-and _ _ (Decides-eqb a.phase b.phase) (bools_decide a.starts b.starts)))) in
+    let all = Decides-and _ _ (classes_decide a.class b.class) (Decides-and _ _ (Decides-eqb a.handler b.handler) (Decides-and _ _ (Decides-eqb a.period b.period) (Decides-and _ _ (Decides-eqb a.phase b.phase) (booleans_Decides a.starts b.starts)))) in
     Decides-like _ (λ p.
     ap (λ x. record { class = x; handler = a.handler; period = a.period; phase = a.phase; starts = a.starts }) p.0
     ∙ ap (λ x. record { class = b.class; handler = x; period = a.period; phase = a.phase; starts = a.starts }) p.1.0

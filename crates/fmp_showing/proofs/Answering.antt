@@ -1,19 +1,20 @@
 -- What is seen in the answers to a list of events.
-use Rattle.std.proofs.Common.{◌≡◌, ℕ, suc, ◌+◌, ◌<◌, ◌^◌, Bool, true, false, cond, List, [], ◌∷◌, ◌++◌, length, refl, sym, ap, ◌∙◌, subst, arith}
+use Rattle.std.proofs.Common.{◌≡◌, ℕ, ◌+◌, ◌<◌, ◌^◌, Bool, true, false, cond, List, [], ◌∷◌, ◌++◌, length, refl, sym, ap, ◌∙◌, subst, arith}
 use Rattle.std.specs.Prelude.{slice_index, replicate}
 use Rattle.std.proofs.lemmas.List.Sums.{count_by-le-length}
 use Rattle.fmp_codes.specs.declared.records.Event.{Event}
 use Rattle.fmp_codes.specs.declared.records.Record.{Record}
+use Rattle.fmp_codes.proofs.Counters.{zeros}
 use Rattle.fmp_setup.specs.Setup.{Setup}
 use Rattle.fmp_machine.specs.Arrivals.{State, numbered}
 use Rattle.fmp_machine.specs.Boot.{booted}
 use Rattle.fmp_machine.specs.Step.{step, answers, replay}
 use Rattle.fmp_listed.specs.Queues.{Queues, listed}
 use Rattle.fmp_machine.specs.World.{World}
+use Rattle.fmp_machine.proofs.Replays.{step_event, replay_more, answers_more}
 use Rattle.fmp_refinement.specs.Stands.{Stands}
 use Rattle.fmp_histories.specs.Counted.{is_taken_tick, taken}
 use Rattle.fmp_histories.specs.Histories.{events_of, state_after}
-use Rattle.fmp_histories.proofs.Histories.{step_event}
 use Rattle.fmp_question.specs.declared.question.Step.{Step}
 use Rattle.fmp_orders.specs.declared.rules.Rules.{Rules}
 use Rattle.fmp_orders.specs.Laws.{TakenAre}
@@ -23,8 +24,8 @@ use Rattle.fmp_orders.specs.Shown.{last_sight}
 use Rattle.fmp_orders.specs.Sights.{sight}
 use Rattle.fmp_orders.proofs.Alike.{sight_same}
 use Rattle.fmp_orders.proofs.Longer.{counts_same, taken_moved}
+use Rattle.fmp_orders.proofs.Runs.{no_count}
 use Rattle.fmp_explore.specs.Walked.{count_in}
-use Rattle.fmp_explore.proofs.Bounds.{zeros}
 use Rattle.fmp_showing.specs.Seen.{AreNext, AreSeen, is_seen}
 use Rattle.fmp_showing.proofs.Seeing.{seen_behind}
 
@@ -33,19 +34,7 @@ events_told : (m : State) (es : List Event) → events_of (answers numbered m es
 events_told m [] = refl
 events_told m (e ∷ es) = let did = step numbered m e in ap (λ x. x ∷ events_of (answers numbered did.0 es)) (step_event m e) ∙ ap (λ l. e ∷ l) (events_told did.0 es)
 
-replay_one_more : (m : State) (es : List Event) (e : Event) → replay numbered m (es ++ e ∷ []) ≡ (step numbered (replay numbered m es) e).0
-replay_one_more m [] e = refl
-replay_one_more m (x ∷ es) e = replay_one_more (step numbered m x).0 es e
-
-answers_one_more : (m : State) (es : List Event) (e : Event) → answers numbered m (es ++ e ∷ []) ≡ answers numbered m es ++ (step numbered (replay numbered m es) e).1 ∷ []
-answers_one_more m [] e = refl
-answers_one_more m (x ∷ es) e = ap (λ rs. (step numbered m x).1 ∷ rs) (answers_one_more (step numbered m x).0 es e)
-
 -- ---- the ticks that were taken
-
-no_count : (b : Bool) → ◌≡◌ {A = ℕ} (cond b 0 0) 0
-no_count true = refl
-no_count false = refl
 
 -- at boot none were
 pub taken_at_boot : (rules : Rules) → TakenAre rules (replicate 8 0) []
@@ -65,10 +54,6 @@ taken_within rules ns h are few i small = rw (are i small) (go (counts_ticks rul
 
 -- ---- one event more
 
-pub answers_long : (m : State) (es : List Event) → length (answers numbered m es) ≡ length es
-answers_long m [] = refl
-answers_long m (e ∷ es) = ap suc (answers_long (step numbered m e).0 es)
-
 module _ (c : Setup) (rules : Rules) (question : List Step) (given : List Event) (e : Event) where
   abbrev m : State
   m = replay numbered (booted c) given
@@ -83,9 +68,9 @@ module _ (c : Setup) (rules : Rules) (question : List Step) (given : List Event)
   last_state : state_after c (h ++ r ∷ []) ≡ (step numbered m e).0
   unfolding state_after
   last_state =
-      ap (λ rs. replay numbered (booted c) (events_of rs)) (sym (answers_one_more (booted c) given e))
+      ap (λ rs. replay numbered (booted c) (events_of rs)) (sym (answers_more (booted c) given e))
       ∙ ap (replay numbered (booted c)) (events_told (booted c) (given ++ e ∷ []))
-      ∙ replay_one_more (booted c) given e
+      ∙ replay_more (booted c) given e
 
   -- the ticks that were taken
   pub taken_next : (ns ms : List ℕ) (told : Record) → told ≡ r → ms ≡ moved_taken rules ns told.event told.answer → TakenAre rules ns h → length ns ≡ 8 →
@@ -93,7 +78,7 @@ module _ (c : Setup) (rules : Rules) (question : List Step) (given : List Event)
   taken_next ns ms told is moved are long =
       let taken_is : ms ≡ moved_taken rules ns r.event r.answer = moved ∙ ap (λ (x : Record). moved_taken rules ns x.event x.answer) is in
       let there = subst (λ (l : List ℕ). TakenAre rules l (h ++ r ∷ [])) (sym taken_is) (taken_moved rules ns h r are long) in
-      subst (λ rs. TakenAre rules ms rs) (sym (answers_one_more (booted c) given e)) there
+      subst (λ rs. TakenAre rules ms rs) (sym (answers_more (booted c) given e)) there
 
   -- the kernel's lines are those of the model
   same_lines : (ns : List ℕ) (k : World Queues) (told : Record) → TakenAre rules ns (h ++ r ∷ []) → Stands k (step numbered m e).0 → told ≡ r →
@@ -109,10 +94,10 @@ module _ (c : Setup) (rules : Rules) (question : List Step) (given : List Event)
       Stands k (step numbered m e).0 → told ≡ r → AreSeen c rules question h numbers → AreNext question (sight listed c rules (count_in ns) k told) numbers next →
       AreSeen c rules question (answers numbered (booted c) (given ++ e ∷ [])) next
   seen_next ns k told numbers next taken_are stands is before are =
-      let longer = answers_one_more (booted c) given e in
+      let longer = answers_more (booted c) given e in
       let lines = same_lines ns k told (subst (TakenAre rules ns) longer taken_are) stands is in
       subst (λ rs. AreSeen c rules question rs next) (sym longer)
       (seen_behind c rules question h r numbers before next (λ n small. are n small ∙ ap (λ l. is_seen question l numbers n) lines))
 
   pub stands_next : (k : World Queues) → Stands k (step numbered m e).0 → Stands k (replay numbered (booted c) (given ++ e ∷ []))
-  stands_next k stands = subst (Stands k) (sym (replay_one_more (booted c) given e)) stands
+  stands_next k stands = subst (Stands k) (sym (replay_more (booted c) given e)) stands

@@ -1,8 +1,8 @@
 -- How many steps of a question may have been seen behind one event more.
-use Rattle.std.proofs.Common.{◌≡◌, ◌⊎◌, ℕ, zero, suc, ◌+◌, ◌<◌, ◌≤◌, Bool, true, false, ◌&&◌, ◌||◌, cond, List, [], ◌∷◌, ◌++◌, length, take, replicate, Some, refl, sym, ap, ◌∙◌, subst, inl, inr, arith}
+use Rattle.std.proofs.Common.{◌≡◌, ℕ, zero, suc, ◌+◌, ◌<◌, ◌≤◌, Bool, true, false, ◌||◌, cond, List, [], ◌∷◌, ◌++◌, length, take, replicate, Some, refl, sym, ap, ◌∙◌, subst, inl, inr, arith}
 use Rattle.std.specs.Prelude.{slice_index_or, slice_get}
 use Rattle.std.proofs.lemmas.Grind.{common_steps}
-use Rattle.std.proofs.lemmas.Bool.{cases_lt}
+use Rattle.std.proofs.lemmas.Bool.{cases_lt, and_from, or_left, or_right, and_parts, or_cases}
 use Rattle.std.proofs.Math.Bool.{and-true, or-false}
 use Rattle.std.proofs.lemmas.List.{length-append, take-append-le}
 use Rattle.std.proofs.Math.Seq.{take-append_seam}
@@ -13,7 +13,7 @@ use Rattle.fmp_question.specs.declared.question.Step.{Step}
 use Rattle.fmp_question.specs.Questions.{allows, seen}
 use Rattle.fmp_orders.specs.declared.rules.Rules.{Rules}
 use Rattle.fmp_orders.specs.Shown.{last_sight, IsMarked}
-use Rattle.fmp_orders.proofs.Longer.{count_more, marked_more}
+use Rattle.fmp_orders.proofs.Longer.{marked_more, seen_more}
 use Rattle.fmp_showing.specs.Seen.{MaySee, AreNext, AreSeen, IsSettled, goes_on, is_seen}
 
 -- ---- lists that are one longer
@@ -76,31 +76,6 @@ module _ (c : Setup) (rules : Rules) (question : List Step) (h : List Record) (r
 
 -- ---- numbers of steps
 
-seen_next : (m : Bool) (n : ℕ) → cond m (n + 1) n ≡ n + cond m 1 0
-seen_next true n = refl
-seen_next false n = omega arith
-
-seen_more : (marks : List Bool) (m : Bool) → seen (marks ++ m ∷ []) ≡ cond m (seen marks + 1) (seen marks)
-seen_more marks m = count_more (λ b. b) marks m ∙ sym (seen_next m (seen marks))
-
-and_both : (a b : Bool) → (a && b) ≡ true → (a ≡ true) × (b ≡ true)
-and_both true b both = (refl, both)
-and_both false b both = cc
-
-both_and : (a b : Bool) → a ≡ true → b ≡ true → (a && b) ≡ true
-both_and a b x y = rw (x, y) refl
-
-or_either : (a b : Bool) → (a || b) ≡ true → (a ≡ true) ⊎ (b ≡ true)
-or_either true b either = inl refl
-or_either false b either = inr either
-
-or_left : (a b : Bool) → a ≡ true → (a || b) ≡ true
-or_left a b x = rw x refl
-
-or_right : (a b : Bool) → b ≡ true → (a || b) ≡ true
-or_right true b x = refl
-or_right false b x = x
-
 module _ (c : Setup) (rules : Rules) (question : List Step) (h : List Record) (r : Record) (numbers : List Bool) (seen_before : AreSeen c rules question h numbers) where
   abbrev text : List ℕ
   text = last_sight c rules (h ++ r ∷ []) r
@@ -108,7 +83,7 @@ module _ (c : Setup) (rules : Rules) (question : List Step) (h : List Record) (r
   -- who goes on from a number that may have been seen
   gone_on : (n : ℕ) (m : Bool) → n ≤ length question → goes_on question text numbers n m ≡ true → MaySee c rules question (h ++ r ∷ []) (cond m (n + 1) n)
   gone_on n m small on =
-      let both = and_both (slice_index_or numbers n false) (allows question n m text) on in
+      let both = and_parts (slice_index_or numbers n false) (allows question n m text) on in
       let had = (seen_before n small).0 both.0 in
       let allowed : allows question (seen had.0) m text ≡ true = subst (λ k. allows question k m text ≡ true) (sym had.2) both.1 in
       (had.0 ++ m ∷ [], marked_more c rules question h r had.0 m had.1 allowed, seen_more had.0 m ∙ ap (λ k. cond m (k + 1) k) had.2)
@@ -121,7 +96,7 @@ module _ (c : Setup) (rules : Rules) (question : List Step) (h : List Record) (r
       let low : seen front ≤ seen (front ++ m ∷ []) = fewer front m in
       let had : slice_index_or numbers (seen front) false ≡ true =
       (seen_before (seen front) (omega (arith, small, low, is))).1 (front, marked_before c rules question h r front m marked, refl) in
-      both_and (slice_index_or numbers (seen front) false) (allows question (seen front) m text) had (allowed_last c rules question h r front m marked)
+      and_from (slice_index_or numbers (seen front) false) (allows question (seen front) m text) had (allowed_last c rules question h r front m marked)
     where
       cond_more : (b : Bool) (k : ℕ) → k ≤ cond b (k + 1) k
       cond_more true k = omega arith
@@ -134,7 +109,7 @@ module _ (c : Setup) (rules : Rules) (question : List Step) (h : List Record) (r
   forth : (n : ℕ) → n ≤ length question → is_seen question text numbers n ≡ true → MaySee c rules question (h ++ r ∷ []) n
   forth zero small is = gone_on zero false small is
   forth (suc n) small is =
-      elim (or_either (goes_on question text numbers (suc n) false) (goes_on question text numbers n true) is) [
+      elim (or_cases (goes_on question text numbers (suc n) false) (goes_on question text numbers n true) is) [
         | inl stays ↦ gone_on (suc n) false small stays
         | inr moves ↦ subst (MaySee c rules question (h ++ r ∷ [])) (omega arith) (gone_on n true (omega (arith, small)) moves)
       ]

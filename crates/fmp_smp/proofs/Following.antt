@@ -1,14 +1,14 @@
 -- What holds between two records of a seeded run.
 use Rattle.std.proofs.Common.{◌≡◌, ℕ, zero, suc, ◌+◌, ◌*◌, ◌%◌, ◌<◌, ◌≤◌, ◌==◌, ◌⊎◌, inl, inr, Bool, true, false, ◌&&◌, cond, List, [], ◌∷◌, ◌++◌, length, Some, None, refl, ap, sym, subst, ◌∙◌, arith}
 use Rattle.std.specs.Prelude.{All, is_some, slice_get}
-use Rattle.std.proofs.lemmas.Bool.{cases_Bool}
+use Rattle.std.proofs.lemmas.Bool.{cases_Bool, and_right}
 use Rattle.std.proofs.lemmas.Bool.Decides.{nat_tests}
 use Rattle.std.proofs.lemmas.List.Elements.{All-nil, All-cons, All-append}
 use Rattle.std.proofs.lemmas.List.Sums.{sum_by_push}
 use Rattle.std.proofs.lemmas.Nat.{mod_below}
 use Rattle.std.proofs.lemmas.Option.{slice_get_within, slice_get-get_or, get_or_from_slice_get}
 use Rattle.fmp_codes.specs.Numbers.{as_proc}
-use Rattle.fmp_codes.specs.Records.{processor_of}
+use Rattle.fmp_codes.specs.Records.{processor_of, is_taken, is_tick}
 use Rattle.fmp_codes.specs.declared.records.Event.{Event}
 use Rattle.fmp_codes.specs.declared.records.Event.TheVariants as event
 use Rattle.fmp_codes.specs.declared.records.Record.{Record}
@@ -19,20 +19,20 @@ use Rattle.fmp_setup.specs.Valid.{IsValid, IsTimerOf}
 use Rattle.fmp_scripts.specs.Scripts.{Steps}
 use Rattle.fmp_smp.specs.declared.seeded.Mover.{Mover}
 use Rattle.fmp_smp.specs.declared.seeded.Mover.TheVariants.{Cpu, Clock}
-use Rattle.fmp_smp.specs.Rounds.{Rounds, first_ticked, ticked, rounds_of, is_over, next_of, is_taken_tick, after_record, ticks_taken}
+use Rattle.fmp_smp.specs.Rounds.{Rounds, first_ticked, ticked, rounds_of, is_over, next_of, after_record, ticks_taken}
 use Rattle.fmp_smp.specs.Seeds.{state_at, number_at, cpu_of, cpus_of, movers, drawn, event_of, event_drawn, IsInOrderOf, CanMove, Moves, Goes, GoesOn}
 use Rattle.fmp_smp.proofs.Moving.{choice_own, told_event, order_more}
 use Rattle.fmp_smp.proofs.Shares.{share}
 use Rattle.fmp_histories.specs.Counted as history
-use Rattle.fmp_world.specs.Ends.{is_of_clock}
 use Rattle.fmp_histories.specs.Counted.{taken}
 use Rattle.fmp_histories.specs.Histories.{state_after, IsRunOf}
-use Rattle.fmp_histories.specs.Positions.{is_tick_of, is_taken}
+use Rattle.fmp_histories.specs.Positions.{is_tick_of}
 use Rattle.fmp_histories.specs.Scripted.{choice}
 use Rattle.fmp_world.specs.Turns.{opening, told_after}
 use Rattle.fmp_world.specs.Views.{History}
 use Rattle.fmp_histories.proofs.Histories.{run_more}
 use Rattle.fmp_world.proofs.Receipts.{taken_more}
+use Rattle.fmp_world.specs.Findings.{is_taken_tick}
 use Rattle.rand_xoshiro.specs.SplitMix64.{mix_u64, next_state}
 
 -- ---- whoever is drawn can move
@@ -78,7 +78,7 @@ nobody_drawn w r number none = none_drawn (movers w.config w.scripts w.records r
 
 -- a call or an interrupt, or a tick that was left
 abbrev IsMade : Rounds → Event → Type 0
-IsMade r e = ((is_of_clock e ≡ false) × ((n : ℕ) → is_tick_of n e ≡ false)) ⊎ ((e ≡ event.Tick (next_of r)) × (is_over r ≡ false))
+IsMade r e = ((is_tick e ≡ false) × ((n : ℕ) → is_tick_of n e ≡ false)) ⊎ ((e ≡ event.Tick (next_of r)) × (is_over r ≡ false))
 
 made_by : (w : History) (r : Rounds) (m : Mover) (e : Event) → CanMove w r m → event_of w.config w.scripts w.records r (Some m) ≡ Some e
     → ((processor_of e).number ≤ w.config.processors) × IsMade r e
@@ -95,10 +95,6 @@ and_true : (b c : Bool) → c ≡ true → (b && c) ≡ b
 and_true true c is = is
 and_true false c is = refl
 
-and_false : (b c : Bool) → c ≡ false → (b && c) ≡ false
-and_false true c is = is
-and_false false c is = refl
-
 counts : (w : History) (r : Rounds) (e : Event) → IsMade r e → Counts r (told_after w e)
 counts w r e (inl other) = let is = told_event w e in inl (rw (is, other.0) refl, λ n. rw (is, other.1 n) refl)
 counts w r e (inr tick) =
@@ -106,7 +102,7 @@ counts w r e (inr tick) =
     let is : made.event ≡ event.Tick (next_of r) = told_event w e ∙ tick.0 in
     elim (cases_Bool (is_taken made.answer)) [
       | inl took ↦ inr (rw is took, (λ n. rw is (and_true ((next_of r).number == n) (is_taken made.answer) took)), tick.1)
-      | inr held ↦ inl (rw is held, λ n. rw is (and_false ((next_of r).number == n) (is_taken made.answer) held))
+      | inr held ↦ inl (rw is held, λ n. rw is (and_right ((next_of r).number == n) (is_taken made.answer) held))
     ]
 
 -- ---- between two records

@@ -1,6 +1,7 @@
 -- Turns and ticks as moves, and a history that is one record longer.
 use Rattle.std.proofs.Common.{◌≡◌, ℕ, zero, suc, ◌+◌, ◌==◌, Bool, true, false, List, [], ◌∷◌, ◌++◌, length, take, Option, Some, None, slice_get, cond, ◌⊎◌, inl, inr, refl, ap, sym, ◌∙◌}
-use Rattle.fmp_codes.specs.Records.{processor_of}
+use Rattle.fmp_machine.proofs.Replays.{step_event}
+use Rattle.fmp_codes.specs.Records.{processor_of, is_taken, is_tick}
 use Rattle.fmp_codes.specs.declared.numbers.Proc.{Proc}
 use Rattle.fmp_codes.specs.declared.records.Event.{Event}
 use Rattle.fmp_codes.specs.declared.records.Event.TheVariants as event
@@ -9,23 +10,23 @@ use Rattle.fmp_codes.specs.declared.records.Runner.{Runner}
 use Rattle.fmp_setup.specs.Setup.{Setup}
 use Rattle.fmp_scripts.specs.Scripts.{Steps}
 use Rattle.fmp_smp.specs.declared.seeded.Mover.TheVariants.{Cpu, Clock}
-use Rattle.fmp_smp.specs.Rounds.{Rounds, is_taken_tick, next_of, after_record, Gives}
+use Rattle.fmp_smp.specs.Rounds.{Rounds, next_of, after_record, Gives}
 use Rattle.fmp_smp.specs.Seeds.{number_at, event_drawn, IsInOrderOf, Moves}
 use Rattle.fmp_world.specs.declared.seats.Receipt.{Receipt}
 use Rattle.fmp_world.specs.declared.seats.Turn.TheVariants.{Made}
-use Rattle.fmp_world.specs.Ends.{is_of_clock, is_of_cpu}
+use Rattle.fmp_world.specs.Ends.{is_of_cpu}
 use Rattle.fmp_histories.specs.Histories.{state_after}
-use Rattle.fmp_histories.specs.Positions.{is_taken, is_tick_of}
+use Rattle.fmp_histories.specs.Positions.{is_tick_of}
 use Rattle.fmp_histories.specs.Scripted.{choice, next_call, asked_at, position_of}
 use Rattle.fmp_world.specs.Turns.{told_after, Turns}
 use Rattle.fmp_world.specs.Views.{History, Seat, ClockSeat}
-use Rattle.fmp_histories.proofs.Histories.{step_event}
+use Rattle.fmp_world.specs.Findings.{is_taken_tick}
 
 -- ---- what a processor does is its own, and no tick
 
 -- the event is a call or an interrupt of this processor
 abbrev pub IsOwn : Proc → Event → Type 0
-IsOwn p e = (processor_of e ≡ p) × (is_of_clock e ≡ false) × ((n : ℕ) → is_of_cpu n e ≡ (p.number == n)) × ((n : ℕ) → is_tick_of n e ≡ false)
+IsOwn p e = (processor_of e ≡ p) × (is_tick e ≡ false) × ((n : ℕ) → is_of_cpu n e ≡ (p.number == n)) × ((n : ℕ) → is_tick_of n e ≡ false)
 
 next_own : (c : Setup) (scripts : List Steps) (h : List Record) (p : Proc) (o : Option Runner) (e : Event) → next_call c scripts h p o ≡ Some e → IsOwn p e
 next_own c scripts h p None e picked = cc
@@ -47,7 +48,7 @@ pub told_event : (w : History) (e : Event) → (told_after w e).event ≡ e
 told_event w e = step_event (state_after w.config w.records) e
 
 -- the clock stands still where the record is of no tick
-pub clock_rests : (w : History) (r : Rounds) (e : Event) → is_of_clock e ≡ false → after_record r (told_after w e) ≡ r
+pub clock_rests : (w : History) (r : Rounds) (e : Event) → is_tick e ≡ false → after_record r (told_after w e) ≡ r
 clock_rests w r e timed = let is = told_event w e in rw (is, timed) refl
 
 pub turn_moves : (w : History) (r : Rounds) (p : Proc) (s : Seat) (told : Receipt) (w' : History) (s' : Seat) → Turns w s (Made told) w' s' → s.processor ≡ p → Moves w r (Cpu p) w' r

@@ -6,14 +6,15 @@ use Rattle.std.proofs.lemmas.List.{get_or-set_same, get_or-set_other, length-set
 use Rattle.fmp_codes.specs.declared.numbers.Proc.{Proc}
 use Rattle.fmp_codes.specs.declared.records.Event.{Event}
 use Rattle.fmp_codes.specs.declared.records.Event.TheVariants as event
+use Rattle.fmp_codes.proofs.Same.{processors_same}
+use Rattle.fmp_codes.specs.Records.{is_tick}
 use Rattle.fmp_setup.specs.Setup.{Setup}
-use Rattle.fmp_safety.proofs.Items.{proc_same}
 use Rattle.fmp_scripts.specs.Scripts.{Steps}
 use Rattle.fmp_smp.specs.Seeds.{AreSeated}
 use Rattle.fmp_smp.proofs.Moving.{IsOwn, choice_own, told_event}
 use Rattle.fmp_world.specs.declared.seats.Receipt.{Receipt}
 use Rattle.fmp_world.specs.declared.seats.Turn.TheVariants.{Made, Full}
-use Rattle.fmp_world.specs.Ends.{is_of_cpu, is_of_clock, receipts_from, receipts_of_clock, SeatFits}
+use Rattle.fmp_world.specs.Ends.{is_of_cpu, receipts_from, receipts_of_clock, SeatFits}
 use Rattle.fmp_world.specs.Turns.{opening, IsOpening, is_full, told_after, receipt_of, Turns, Ticks}
 use Rattle.fmp_world.specs.Views.{History, Seat, ClockSeat}
 use Rattle.fmp_world.specs.Findings.{receipt}
@@ -72,7 +73,7 @@ module _ (w : History) (cpus : List Seat) (clock : ClockSeat) (seated : AreSeate
       (seated.seats.fit (p.number - 1) s within, seated.rooms (p.number - 1) s within)
 
   pub seat_own : (p : Proc) (s : Seat) → p.number - 1 < length cpus → s ≡ slice_index_or cpus (p.number - 1) s → s.processor ≡ p
-  seat_own p s within at = let fits = (seat_fits p s within at).0.0 in proc_same s.processor p (omega (arith, fits, p.least))
+  seat_own p s within at = let fits = (seat_fits p s within at).0.0 in processors_same s.processor p (omega (arith, fits, p.least))
 
   pub turn_full : (p : Proc) (s : Seat) (w' : History) (s' : Seat) → p.number - 1 < length cpus → s ≡ slice_index_or cpus (p.number - 1) s → Turns w s Full w' s' → is_full w ≡ true
   turn_full p s w' s' within at turns =
@@ -100,12 +101,12 @@ module _ (w : History) (cpus : List Seat) (clock : ClockSeat) (seated : AreSeate
       let past : is_of_cpu (k + 1) made.event ≡ false = rw event (own.2 (k + 1) ∙ elsewhere) in
       ((old.0, old.1 ∙ sym (untold (is_of_cpu (k + 1)) w.records made past)), seated.rooms k d below) in
       let all = after_set Good cpus i s' within new others in
-      let timed : is_of_clock made.event ≡ false = rw event own.1 in
+      let timed : is_tick made.event ≡ false = rw event own.1 in
       subst (λ x. AreSeated x (set cpus i s') clock) (sym turns.2.history) (record {
         seats = record {
           count = length-set cpus i s' ∙ seated.seats.count;
           fit = λ k d below. (all k d below).0;
-          clock_told = seated.seats.clock_told ∙ sym (untold is_of_clock w.records made timed);
+          clock_told = seated.seats.clock_told ∙ sym (untold is_tick w.records made timed);
         };
         rooms = λ k d below. (all k d below).1;
         clock_room = seated.clock_room;
@@ -114,18 +115,18 @@ module _ (w : History) (cpus : List Seat) (clock : ClockSeat) (seated : AreSeate
   -- ---- the seats after a tick
 
   pub tick_full : (p : Proc) (w' : History) (clock' : ClockSeat) → Ticks w clock p Full w' clock' → is_full w ≡ true
-  tick_full p w' clock' ticks = full_so w is_of_clock clock.room clock.receipts seated.clock_room seated.seats.clock_told ticks.0
+  tick_full p w' clock' ticks = full_so w is_tick clock.room clock.receipts seated.clock_room seated.seats.clock_told ticks.0
 
   pub tick_seated : (p : Proc) (told : Receipt) (w' : History) (clock' : ClockSeat) → Ticks w clock p (Made told) w' clock' → AreSeated w' cpus clock'
   tick_seated p told w' clock' ticks =
       let e : Event = event.Tick p in
       let made = told_after w e in
       let event = told_event w e in
-      let here : is_of_clock made.event ≡ true = rw event refl in
+      let here : is_tick made.event ≡ true = rw event refl in
       let receipts : clock.receipts ++ told ∷ [] ≡ receipts_of_clock (w.records ++ made ∷ []) =
       ap (λ l. l ++ told ∷ []) seated.seats.clock_told
       ∙ ap (λ x. receipts_of_clock w.records ++ x ∷ []) (ticks.2.receipt ∙ receipt_told w e)
-      ∙ sym (told_too is_of_clock w.records made here) in
+      ∙ sym (told_too is_tick w.records made here) in
       let past : (k : ℕ) → is_of_cpu (k + 1) made.event ≡ false = λ k. rw event refl in
       let seated_so : AreSeated (record w { records = w.records ++ made ∷ [] }) cpus (record clock { receipts = clock.receipts ++ told ∷ [] }) = record {
         seats = record {

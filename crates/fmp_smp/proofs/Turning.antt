@@ -5,21 +5,22 @@ use Rattle.fmp_codes.specs.declared.numbers.Proc.{Proc}
 use Rattle.fmp_codes.specs.declared.records.Event.{Event}
 use Rattle.fmp_codes.specs.declared.records.Event.TheVariants.{Tick}
 use Rattle.fmp_codes.specs.declared.records.Record.{Record}
+use Rattle.fmp_codes.specs.Records.{is_tick}
 use Rattle.fmp_setup.specs.Setup.{Setup}
 use Rattle.fmp_setup.specs.Valid.{IsValid}
 use Rattle.fmp_scripts.specs.Scripts.{Steps}
 use Rattle.fmp_smp.specs.declared.seeded.Mover.{Mover}
 use Rattle.fmp_smp.specs.declared.seeded.Mover.TheVariants.{Cpu, Clock}
-use Rattle.fmp_smp.specs.Rounds.{Rounds, rounds_of, next_of, is_taken_tick, after_record, ticks_taken, Gives, Takes, IsDue, TicksInTurn, AreInTurn}
+use Rattle.fmp_smp.specs.Rounds.{Rounds, rounds_of, next_of, after_record, ticks_taken, Gives, Takes, IsDue, TicksInTurn, AreInTurn}
 use Rattle.fmp_smp.specs.Seeds.{movers, drawn, event_of, number_at, IsInOrderOf}
 use Rattle.fmp_smp.proofs.Moving.{IsOwn, choice_own, told_event, clock_rests, tick_counts, below_or_last}
 use Rattle.fmp_smp.proofs.Following.{ticks_more, drawn_can, next_within}
 use Rattle.fmp_world.specs.declared.finishing.SmpRun.{SmpRun}
 use Rattle.fmp_world.specs.declared.seats.Turn.{Turn}
 use Rattle.fmp_world.specs.declared.seats.Turn.TheVariants.{Made, Nothing, Full}
-use Rattle.fmp_world.specs.Ends.{is_of_clock}
 use Rattle.fmp_world.specs.Turns.{told_after}
 use Rattle.fmp_world.specs.Views.{History, Seat, ClockSeat}
+use Rattle.fmp_world.specs.Findings.{is_taken_tick}
 
 -- ---- a history one record longer
 
@@ -58,8 +59,8 @@ made_in_turn : (ticks : ℕ) (w : History) (r : Rounds) (e : Event) (w' : Histor
     → r' ≡ after_record r (told_after w e) → ((p : Proc) → e ≡ Tick p → IsDue r p) → AreInTurn ticks w' r'
 made_in_turn ticks w r e w' r' so history rounds last = rw (history, rounds) (in_turn_more ticks w r e so last)
 
-no_tick : (e : Event) (p : Proc) → is_of_clock e ≡ false → e ≡ Tick p → ⊥
-no_tick e p other is = let none : is_of_clock (Tick p) ≡ false = subst (λ x. is_of_clock x ≡ false) is other in cc
+no_tick : (e : Event) (p : Proc) → is_tick e ≡ false → e ≡ Tick p → ⊥
+no_tick e p other is = let none : is_tick (Tick p) ≡ false = subst (λ x. is_tick x ≡ false) is other in cc
 
 same_tick : (p q : Proc) → Tick q ≡ Tick p → p ≡ q
 same_tick p q is = cc

@@ -1,20 +1,20 @@
 -- The order in which a clock gives its ticks: round by round one taken tick to each processor whose ticks count.
-use Rattle.std.specs.Prelude.{◌≡◌, ℕ, ◌+◌, ◌*◌, ◌%◌, ◌<◌, ◌≤◌, ◌⊎◌, Bool, true, false, ◌&&◌, List, take, Some, slice_get, nat_le, if◌then◌else◌}
+use Rattle.std.specs.Prelude.{◌≡◌, ℕ, ◌+◌, ◌*◌, ◌%◌, ◌<◌, ◌≤◌, ◌⊎◌, Bool, true, false, List, take, Some, slice_get, nat_le, if◌then◌else◌}
 use Rattle.std.specs.List.{count_by}
 use Rattle.fmp_codes.specs.Numbers.{as_proc}
 use Rattle.fmp_codes.specs.declared.numbers.Proc.{Proc}
 use Rattle.fmp_codes.specs.declared.records.Answer.{Answer}
 use Rattle.fmp_codes.specs.declared.records.Event.TheVariants.{Tick}
 use Rattle.fmp_codes.specs.declared.records.Record.{Record}
+use Rattle.fmp_codes.specs.Records.{is_taken}
 use Rattle.fmp_setup.specs.declared.setup.Timer.{Timer}
 use Rattle.fmp_setup.specs.declared.setup.Timer.TheVariants.{Local, Global}
 use Rattle.fmp_setup.specs.Setup.{Setup}
 use Rattle.fmp_world.specs.declared.seats.Turn.{Turn}
 use Rattle.fmp_world.specs.declared.seats.Turn.TheVariants.{Made, Nothing, Full}
-use Rattle.fmp_world.specs.Ends.{is_of_clock}
-use Rattle.fmp_histories.specs.Positions.{is_taken}
 use Rattle.fmp_world.specs.Turns.{Ticks, Turns}
 use Rattle.fmp_world.specs.Views.{History, Seat, ClockSeat}
+use Rattle.fmp_world.specs.Findings.{is_taken_tick}
 
 -- what a clock has to give: to so many processors from the first one on, so many taken ticks in all, of which some were given
 pub record Rounds : Type 0 where
@@ -74,9 +74,6 @@ is_taken_turn other = false
 abbrev pub Takes : History → Seat → Turn → History → Seat → Type 0
 Takes w s Full w' s' = ((w.config.processors < s.processor.number) ⊎ Turns w s Full w' s') × (w' ≡ w) × (s' ≡ s)
 Takes w s other w' s' = (s.processor.number ≤ w.config.processors) × Turns w s other w' s'
-
-abbrev pub is_taken_tick : Record → Bool
-is_taken_tick r = is_of_clock r.event && is_taken r.answer
 
 -- what a clock has to give after one more record
 abbrev pub after_record : Rounds → Record → Rounds

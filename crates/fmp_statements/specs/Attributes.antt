@@ -2,11 +2,12 @@
 use Rattle.std.specs.Prelude.{ℕ, true, false, List, find, Result, Ok, codes}
 use Rattle.std.specs.Option.{ok_or}
 use Rattle.std.specs.Str.{bytes_eq}
+use Rattle.fmp_bytes.specs.Results.{◌>>=◌}
 use Rattle.fmp_statements.specs.declared.attributes.Attribute.{Attribute}
 use Rattle.fmp_statements.specs.declared.attributes.Attribute.TheVariants.{Null, Activate, Start, InOrder, ByPriority, Single, Many, Clear}
 use Rattle.fmp_statements.specs.declared.attributes.Attributes.{Attributes}
 use Rattle.fmp_statements.specs.declared.fault.ConfigKind.TheVariants.{BadAttribute}
-use Rattle.fmp_statements.specs.Faults.{Fault, fault_at, ◌>>=◌}
+use Rattle.fmp_statements.specs.Faults.{Fault, fault_at}
 use Rattle.fmp_statements.specs.Folds.{each}
 use Rattle.fmp_statements.specs.Words.{Word}
 

@@ -1,5 +1,5 @@
 -- Faults, and how their kinds are printed.
-use Rattle.std.specs.Prelude.{ℕ, Bool, true, false, List, [], Result, Ok, Err, codes}
+use Rattle.std.specs.Prelude.{ℕ, Bool, true, false, List, [], codes}
 use Rattle.fmp_statements.specs.declared.fault.ConfigKind.{ConfigKind}
 use Rattle.fmp_statements.specs.declared.fault.ConfigKind.TheVariants.{Syntax, CutShort, Unsupported, OutsideClass, UnknownClass, NameTaken, OutOfRange, BadAttribute, TooMany, NoProcessors, BadClass, Memory, ForeignHandler}
 use Rattle.fmp_statements.specs.Words.{Word}
@@ -58,9 +58,3 @@ fault_of_line kind line = record { kind = kind; line = line; marked = false; wor
 -- a directive of another name than those that are read
 abbrev pub unknown_directive : ℕ → List ℕ → Fault
 unknown_directive line name = record { kind = Unsupported; line = line; marked = true; word = name }
-
--- reading goes on with what was read, and ends at the first fault
-infixl 10 ◌>>=◌
-abbrev pub ◌>>=◌ : {A B E : Type 0} → Result A E → (A → Result B E) → Result B E
-(Ok x) >>= f = f x
-(Err e) >>= f = Err e

@@ -1,6 +1,6 @@
 -- What of tasks, objects and time event handlers is not as it was at boot. What changes without these texts is told on the lines of
 -- processors, and of tasks that wait or are suspended.
-use Rattle.std.specs.Prelude.{ℕ, zero, suc, ◌+◌, ℤ, Bool, true, false, not, ◌||◌, ◌&&◌, ◌==◌, Option, None, Some, List, [], ◌∷◌, ◌++◌, length, take, if◌then◌else◌, codes, count_by, decimal}
+use Rattle.std.specs.Prelude.{ℕ, zero, suc, ◌+◌, ℤ, Bool, true, false, not, ◌||◌, ◌&&◌, ◌==◌, Option, None, Some, List, [], ◌∷◌, ◌++◌, length, if◌then◌else◌, codes, decimal}
 use Rattle.std.specs.Fmt.{signed_decimal}
 use Rattle.fmp_codes.specs.Numbers.{as_object, as_proc}
 use Rattle.fmp_codes.specs.declared.numbers.Object.{Object}
@@ -16,7 +16,7 @@ use Rattle.fmp_machine.specs.declared.machine.Pool.{Pool}
 use Rattle.fmp_machine.specs.declared.machine.Semaphore.{Semaphore}
 use Rattle.fmp_machine.specs.declared.machine.TaskRecord.{TaskRecord}
 use Rattle.fmp_machine.specs.Boot.{phase_left}
-use Rattle.fmp_machine.specs.Objects.{blank_eventflag, blank_pool, blank_semaphore, no_cyclic}
+use Rattle.fmp_machine.specs.Objects.{blank_eventflag, blank_pool, blank_semaphore, no_cyclic, free_blocks}
 use Rattle.fmp_machine.specs.World.{World, item}
 use Rattle.fmp_trace.specs.Values.{named}
 
@@ -72,10 +72,6 @@ queue_text lists d vs = codes "  " ++ named lists objects.DataQueue d.number ++ 
 
 abbrev pub queue_line : NameLists → Object → List ℤ → List ℕ
 queue_line lists d vs = if length vs == 0 then [] else queue_text lists d vs
-
--- how many blocks of a pool are free
-abbrev pub free_blocks : Pool → ℕ
-free_blocks x = count_by not (take x.setup.blocks x.handed)
 
 abbrev pub free_line : NameLists → Object → Pool → List ℕ
 free_line lists m x = if free_blocks x == x.setup.blocks then [] else object_text lists objects.Pool m (codes " free=") (free_blocks x)

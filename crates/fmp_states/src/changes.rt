@@ -111,23 +111,11 @@ fn put_queue(out: &mut Vec<u8>, names: &Names, kernel: &Kernel, d: Object) -> Re
     Ok(())
 }
 
-/// How many blocks of a pool are free.
-pub fn free_blocks(pool: &Pool) -> u64
-    ensures { result ≡ spec.free_blocks pool.now }
-{
-    let blocks = usize::from(pool.setup.blocks);
-    pool.handed
-        .iter()
-        .take(blocks)
-        .filter(|handed| !**handed)
-        .count() as u64
-}
-
 /// Adds the line of a pool of which some blocks are handed out.
 fn put_free(out: &mut Vec<u8>, names: &Names, m: Object, pool: &Pool) -> Result<(), AllocError>
     ensures { OnOk result (out.new.items ≡ out.old.items ++ spec.free_line names.now m pool.now) }
 {
-    let free = free_blocks(pool);
+    let free = pool.free_blocks();
     if free == u64::from(pool.setup.blocks) {
         return Ok(());
     }

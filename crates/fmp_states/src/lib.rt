@@ -14,7 +14,7 @@ mod states;
 mod tasks;
 mod waits;
 
-pub use changes::{free_blocks, put_object, put_values};
+pub use changes::{put_object, put_values};
 pub use handlers::put_ticks;
 pub use processors::put_flag;
 pub use states::{put_lines, put_state};

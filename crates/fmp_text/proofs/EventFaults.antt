@@ -4,16 +4,18 @@ use Rattle.std.specs.Prelude.{codes}
 use Rattle.std.specs.List.{list_all, join_with_byte}
 use Rattle.std.specs.Option.{ok_or, option_map_or, option_or}
 use Rattle.std.specs.Str.{bytes_eq}
-use Rattle.std.proofs.lemmas.Bool.{cases_Bool, and_parts, and_from, or_cases, eq-eqb, eqb-true, le-leb, false≢true}
-use Rattle.std.proofs.lemmas.Slice.Eq.{bytes_eq-Decides}
+use Rattle.std.proofs.lemmas.Bool.{cases_Bool, and_parts, and_from, or_cases, eq-eqb, eqb-true, le-leb, false≢true, or_parts}
+use Rattle.std.proofs.lemmas.Option.{cond_some}
 use Rattle.fmp_bytes.specs.Bytes.{is_of, prefix, after, behind, pieces_of, is_identifier}
 use Rattle.fmp_bytes.specs.Numerals.{are_digits, is_zero_led, number_of, signed_of, unsigned_limited}
 use Rattle.fmp_bytes.specs.declared.classes.Class.TheVariants.{Blank, Word, Line}
 use Rattle.fmp_bytes.specs.declared.numerals.Number.{Number}
 use Rattle.fmp_bytes.proofs.Cutting.{pieces_of-join, join-pieces_of, some-pieces_of}
-use Rattle.fmp_bytes.proofs.Parsed.{and_then_parts, ok_or_parts, tested_some}
+use Rattle.fmp_bytes.proofs.Parsed.{and_then_parts, ok_or_parts, some_is, bind_parts}
 use Rattle.fmp_bytes.proofs.Prefixes.{list_all-join, list_all-weaker}
 use Rattle.fmp_bytes.proofs.Spelled.{behind-same}
+use Rattle.fmp_bytes.proofs.Words.{is_word, not_word}
+use Rattle.fmp_bytes.specs.Results.{◌>>=◌}
 use Rattle.fmp_calls.specs.Kinds.{is_of_kind, are_of_kinds}
 use Rattle.fmp_calls.specs.Table.{is_bare, kinds_of, call_of, named}
 use Rattle.fmp_calls.specs.declared.kinds.ArgumentKind.{ArgumentKind}
@@ -34,11 +36,10 @@ use Rattle.fmp_text.specs.Argument.{is_argument, tokens_in, arguments_in, enclos
 use Rattle.fmp_text.specs.EventFaults.{first_word, behind_word, ArePieces, AreArguments, HasForm, ArgumentFault, ArgumentsFault, CallFault, HappeningFault, IsProcessorWord, NamesProcessor, CoreFault, EventFault}
 use Rattle.fmp_text.specs.Grammar.{AreBlank, SpellsValue}
 use Rattle.fmp_text.specs.Lines.{digits_of, processor_numbered, processor_in, alone, event_of, event_at, event_in, is_skipped, without_return, line_event}
-use Rattle.fmp_text.specs.Reading.{◌>>=◌, named_call, values_at, call_with, call_after, call_at}
+use Rattle.fmp_text.specs.Reading.{named_call, values_at, call_with, call_after, call_at}
 use Rattle.fmp_text.specs.declared.fault.TextKind.{TextKind}
 use Rattle.fmp_text.specs.declared.fault.TextKind.TheVariants.{BadByte, BadWord, UnknownName, WrongArguments, NumberOutOfRange}
 use Rattle.fmp_text.proofs.Limited.{mapped}
-use Rattle.fmp_text.proofs.Parsed.{bind_parts}
 use Rattle.fmp_text.proofs.Spelled.{value_at-spelled, value_is_spelled}
 use Rattle.fmp_text.proofs.SpelledCalls.{inside, outside, token_bytes, not_all_blank, padded_read, padded_inside, token_is_padded, tokens_parts, list_all-all, enclosed_read, enclosed_spelled}
 use Rattle.fmp_text.proofs.SpelledEvents.{processor_read, processor_spelled, digits_parts}
@@ -49,7 +50,7 @@ use Rattle.fmp_text.proofs.SpelledTexts.{nothing_read}
 pub err_is : {A : Type 0} (a b : TextKind) → ◌≡◌ {A = Result A TextKind} (Err a) (Err b) → a ≡ b
 err_is a b e = cc
 
-ok_is_none : {A : Type 0} (a : A) (b : TextKind) → ◌≡◌ {A = Result A TextKind} (Ok a) (Err b) → ⊥
+pub ok_is_none : {A : Type 0} (a : A) (b : TextKind) → ◌≡◌ {A = Result A TextKind} (Ok a) (Err b) → ⊥
 ok_is_none a b e = absurd cc
 
 -- reading on that had a fault had it first, or behind
@@ -61,13 +62,6 @@ bind_fault (Err other) f fault e = inl (ap (λ (k : TextKind). Err k) (err_is ot
 or_fault : {A : Type 0} (o : Option A) (kind fault : TextKind) → ok_or o kind ≡ Err fault → (o ≡ None) × (fault ≡ kind)
 or_fault (Some a) kind fault e = absurd (ok_is_none a fault e)
 or_fault None kind fault e = (refl, sym (err_is kind fault e))
-
-or_none : (a b : Bool) → (a || b) ≡ false → (a ≡ false) × (b ≡ false)
-or_none true b e = absurd (false≢true (sym e))
-or_none false b e = (refl, e)
-
-some_same : {A : Type 0} (a b : A) → Some a ≡ Some b → a ≡ b
-some_same a b e = cc
 
 some_none : {A : Type 0} (a : A) → Some a ≡ None → ⊥
 some_none a e = absurd cc
@@ -89,14 +83,14 @@ ranged_kind kinds.Timeout negative m value e = let p = mapped values.Number (sig
 ranged_kind kinds.Block negative m value e = let p = mapped values.Number (signed_of (2 ^ 31) negative m) value e in subst (IsOfKind kinds.Block) p.2 refl
 
 constant_kind : (constant : Constant) (kind : ArgumentKind) (value : Value) → value_of constant kind ≡ Some value → IsOfKind kind value
-constant_kind TskSelf (kinds.Object objects.Task) value e = subst (IsOfKind (kinds.Object objects.Task)) (some_same _ value e) refl
-constant_kind TpriSelf kinds.Priority value e = subst (IsOfKind kinds.Priority) (some_same _ value e) refl
-constant_kind TpriIni kinds.Priority value e = subst (IsOfKind kinds.Priority) (some_same _ value e) refl
-constant_kind TprcIni kinds.Processor value e = subst (IsOfKind kinds.Processor) (some_same _ value e) refl
-constant_kind TmoPol kinds.Timeout value e = subst (IsOfKind kinds.Timeout) (some_same _ value e) refl
-constant_kind TmoFevr kinds.Timeout value e = subst (IsOfKind kinds.Timeout) (some_same _ value e) refl
-constant_kind TwfAndw kinds.Mode value e = subst (IsOfKind kinds.Mode) (some_same _ value e) refl
-constant_kind TwfOrw kinds.Mode value e = subst (IsOfKind kinds.Mode) (some_same _ value e) refl
+constant_kind TskSelf (kinds.Object objects.Task) value e = subst (IsOfKind (kinds.Object objects.Task)) (some_is _ value e) refl
+constant_kind TpriSelf kinds.Priority value e = subst (IsOfKind kinds.Priority) (some_is _ value e) refl
+constant_kind TpriIni kinds.Priority value e = subst (IsOfKind kinds.Priority) (some_is _ value e) refl
+constant_kind TprcIni kinds.Processor value e = subst (IsOfKind kinds.Processor) (some_is _ value e) refl
+constant_kind TmoPol kinds.Timeout value e = subst (IsOfKind kinds.Timeout) (some_is _ value e) refl
+constant_kind TmoFevr kinds.Timeout value e = subst (IsOfKind kinds.Timeout) (some_is _ value e) refl
+constant_kind TwfAndw kinds.Mode value e = subst (IsOfKind kinds.Mode) (some_is _ value e) refl
+constant_kind TwfOrw kinds.Mode value e = subst (IsOfKind kinds.Mode) (some_is _ value e) refl
 constant_kind _ _ value e = absurd cc
 
 value_kind : (names : NameLists) (kind : ArgumentKind) (token : List ℕ) (value : Value) → SpellsValue names kind token value → IsOfKind kind value
@@ -136,7 +130,7 @@ named_fault names kind token fault None None identifier e =
     elim (cases_Bool (is_constant token || is_object names token)) [
       | inl t ↦ subst (ArgumentFault names kind token) (err_is {A = Value} WrongArguments fault (rw t at e)) (inl (identifier, or_cases (is_constant token) (is_object names token) t))
       | inr f ↦
-          let p = or_none (is_constant token) (is_object names token) f in
+          let p = or_parts (is_constant token) (is_object names token) f in
           subst (ArgumentFault names kind token) (err_is {A = Value} UnknownName fault (rw f at e)) (identifier, p.0, p.1)
     ]
 
@@ -242,10 +236,10 @@ arguments_are : (tokens : List (List ℕ)) (inner : List ℕ) → arguments_in 4
 unfolding arguments_in
 arguments_are tokens inner e =
     elim (cases_Bool (list_all (is_of Blank) inner)) [
-      | inl t ↦ subst (λ (ts : List (List ℕ)). AreArguments ts inner × (list_all is_argument ts ≡ true)) (some_same [] tokens (rw t at e)) (t, refl)
+      | inl t ↦ subst (λ (ts : List (List ℕ)). AreArguments ts inner × (list_all is_argument ts ≡ true)) (some_is [] tokens (rw t at e)) (t, refl)
       | inr f ↦
           let p = and_then_parts (tokens_in (pieces_of 44 inner)) _ tokens (rw f at e) in
-          let few = tested_some _ p.0 tokens p.2 in
+          let few = cond_some _ p.0 tokens p.2 in
           some_tokens tokens (p.1 ∙ ap (λ (ts : List (List ℕ)). Some ts) few.1)
     ]
   where
@@ -262,7 +256,7 @@ unfolding arguments_behind
 form_is call tokens text e many =
     elim (cases_Bool (is_bare call)) [
       | inl bare ↦
-          let t = tested_some (list_all (is_of Blank) text) [] tokens (rw bare at e) in
+          let t = cond_some (list_all (is_of Blank) text) [] tokens (rw bare at e) in
           ((many, inl (bare, t.0)), subst (λ (ts : List (List ℕ)). list_all is_argument ts ≡ true) t.1 refl)
       | inr long ↦
           let i = and_then_parts (enclosed_in text) (arguments_in 4) tokens (rw long at e) in
@@ -284,7 +278,7 @@ call_fault names call text fault valid e = by (arguments_behind 4 (is_bare call)
               inl (
                 sym (err_is {A = Call} WrongArguments fault (rw f at e)),
                 λ others form.
-                    let same : tokens ≡ others = some_same tokens others (sym is ∙ form_read call others text form) in
+                    let same : tokens ≡ others = some_is tokens others (sym is ∙ form_read call others text form) in
                     false≢true (sym f ∙ eq-eqb (length tokens) (length (kinds_of call)) (ap length same ∙ form.0)),
               )
           | inl t ↦
@@ -316,12 +310,6 @@ alone_fault event text fault e =
       | inr f ↦ (sym (err_is {A = Event} WrongArguments fault (rw f at e)), λ blank. false≢true (sym f ∙ blank))
     ]
 
-is_word : (a b : List ℕ) → bytes_eq a b ≡ true → a ≡ b
-is_word a b e = (bytes_eq-Decides a b).0 e
-
-other_word : (a b : List ℕ) → bytes_eq a b ≡ false → a ≢ b
-other_word a b f e = false≢true (sym f ∙ (bytes_eq-Decides a b).1 e)
-
 call_word : (names : NameLists) (text : List ℕ) (fault : TextKind) → AreValid names → bytes_eq (prefix Word (after Blank text)) (codes "tick") ≡ false → bytes_eq (prefix Word (after Blank text)) (codes "ipi") ≡ false
     → call_at names (after Blank text) ≡ Err fault → HappeningFault names text fault
 unfolding call_at named_call
@@ -331,8 +319,8 @@ call_word names text fault valid tick ipi e =
           let p = or_fault (named (prefix Word (after Blank text))) BadWord fault bad in
           inl (
             p.1,
-            other_word (first_word text) (codes "tick") tick,
-            other_word (first_word text) (codes "ipi") ipi,
+            not_word (first_word text) (codes "tick") tick,
+            not_word (first_word text) (codes "ipi") ipi,
             λ call is. some_none _ (sym (named-text_of call) ∙ ap (λ (w : List ℕ). named w) is ∙ p.0),
           )
       | inr good ↦

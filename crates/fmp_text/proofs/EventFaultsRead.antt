@@ -4,13 +4,13 @@ use Rattle.std.specs.Prelude.{codes}
 use Rattle.std.specs.List.{list_all}
 use Rattle.std.specs.Option.{ok_or, option_map_or, option_or}
 use Rattle.std.specs.Str.{bytes_eq}
-use Rattle.std.proofs.lemmas.Bool.{eq-eqb, eqb-true, false≢true}
-use Rattle.std.proofs.lemmas.Slice.Eq.{bytes_eq-Decides}
+use Rattle.std.proofs.lemmas.Bool.{eq-eqb, eqb-true, false≢true, false_from_ne_true}
 use Rattle.fmp_bytes.specs.Bytes.{is_of, after, behind, is_identifier}
 use Rattle.fmp_bytes.specs.Numerals.{number_of}
 use Rattle.fmp_bytes.proofs.Spelled.{number_of-identifier}
 use Rattle.fmp_bytes.specs.declared.classes.Class.TheVariants.{Blank}
 use Rattle.fmp_bytes.specs.declared.numerals.Number.{Number}
+use Rattle.fmp_bytes.proofs.Words.{same_word, other_word}
 use Rattle.fmp_calls.specs.Table.{is_bare, kinds_of, name_of, text_of, named}
 use Rattle.fmp_calls.specs.declared.kinds.ArgumentKind.{ArgumentKind}
 use Rattle.fmp_calls.specs.declared.kinds.ArgumentKind.TheVariants as kinds
@@ -31,11 +31,6 @@ use Rattle.fmp_text.proofs.EventFaults.{form_read, form_is, processor_fault}
 use Rattle.fmp_text.proofs.Spelled.{value_at-spelled, value_is_spelled}
 use Rattle.fmp_text.proofs.SpelledEvents.{processor_read, processor_spelled, digits_parts}
 use Rattle.fmp_text.proofs.SpelledTexts.{nothing_spelled}
-
--- what is not true is false
-is_false : (b : Bool) → (b ≡ true → ⊥) → b ≡ false
-is_false true never = absurd (never refl)
-is_false false never = refl
 
 -- ---- the first argument at fault
 
@@ -117,7 +112,7 @@ call_told names call text fault valid (inl s) = by (arguments_behind 4 (is_bare 
     by None is = let wrong = s.0 in rw (is, wrong) refl
     by (Some tokens) is =
         let wrong = s.0 in
-        let other = is_false (eqb (length tokens) (length (kinds_of call))) (λ t. s.1 tokens (form_is call tokens text is (eqb-true (length tokens) (length (kinds_of call)) t)).0) in
+        let other = false_from_ne_true (eqb (length tokens) (length (kinds_of call))) (λ t. s.1 tokens (form_is call tokens text is (eqb-true (length tokens) (length (kinds_of call)) t)).0) in
         rw (is, other, wrong) refl
 call_told names call text fault valid (inr s) =
     let formed = form_read call s.0 text s.1 in
@@ -141,12 +136,6 @@ named_told_of names call text fault s =
 
 -- ---- a line
 
-same_word : (a b : List ℕ) → a ≡ b → bytes_eq a b ≡ true
-same_word a b e = (bytes_eq-Decides a b).1 e
-
-other_word : (a b : List ℕ) → a ≢ b → bytes_eq a b ≡ false
-other_word a b other = is_false (bytes_eq a b) (λ t. other ((bytes_eq-Decides a b).0 t))
-
 no_name : (word : List ℕ) → ((call : Call) → text_of call ≢ word) → named word ≡ None
 no_name word none = by (named word) refl
   where
@@ -163,7 +152,7 @@ happening_told names processor text fault valid (inl s) =
     let is = s.0 in
     rw (tick, ipi, none, is) refl
 happening_told names processor text fault valid (inr (inl s)) =
-    let more = is_false (list_all (is_of Blank) (behind_word text)) s.2 in
+    let more = false_from_ne_true (list_all (is_of Blank) (behind_word text)) s.2 in
     let is = s.0 in
     elim s.1 [
       | inl word ↦ let tick = same_word (first_word text) (codes "tick") word in rw (tick, more, is) refl
@@ -212,6 +201,6 @@ core_told names text fault valid (inr (line, inr (some, inr (p, s)))) =
 pub event_told : (names : NameLists) (line : List ℕ) (fault : TextKind) → AreValid names → EventFault names line fault → line_event names line ≡ Err fault
 unfolding line_event
 event_told names line fault valid s =
-    let some = is_false (is_skipped (without_return line)) (λ t. s.0 (nothing_spelled line t)) in
+    let some = false_from_ne_true (is_skipped (without_return line)) (λ t. s.0 (nothing_spelled line t)) in
     let told = core_told names (without_return line) fault valid s.1 in
     rw (some, told) refl

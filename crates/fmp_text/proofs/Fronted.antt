@@ -3,7 +3,7 @@ use Rattle.std.proofs.Common.{◌≡◌, ℕ, ◌+◌, ◌*◌, ◌-◌, ◌/◌
 use Rattle.std.specs.Prelude.{codes, slice_index}
 use Rattle.std.specs.Option.{option_copied}
 use Rattle.std.specs.List.{list_all, join_with_byte}
-use Rattle.std.proofs.lemmas.List.{append-nil, take_all}
+use Rattle.std.proofs.lemmas.List.{append-nil, take_all, nil_from_length}
 use Rattle.std.proofs.lemmas.Bool.{eqb-true, false≢true}
 use Rattle.std.proofs.Math.Seq.{drop-append-add}
 use Rattle.std.proofs.lemmas.Fmt.{decimal_step, decimal_digit}
@@ -48,10 +48,6 @@ digit_head text some least =
 pub behind_some : (byte : ℕ) (text : List ℕ) (found : Option (Bor (List ℕ))) → option_copied found ≡ behind byte text → IfSome found (λ rest. text ≡ byte ∷ rest.now)
 behind_some byte text (Some rest) e = behind_is byte text rest.now (sym e)
 behind_some byte text None e = tt
-
-empty_list : (xs : List ℕ) → length xs ≡ 0 → xs ≡ []
-empty_list [] e = refl
-empty_list (x ∷ xs) e = absurd (omega (arith, e))
 
 -- one digit more
 pub decimal_more : (text rest more : List ℕ) (n digit : ℕ) → 0 < n → n < 10 ^ 8 → digit ≤ 9 → rest ≡ (48 + digit) ∷ more → text ≡ decimal n ++ rest
@@ -239,7 +235,7 @@ return_spelled names = record { before = []; rest = []; before_blank = refl; fol
 -- a call that is the whole text is read
 pub whole_call : (names : NameLists) (text rest : List ℕ) (call : Call) (test : Bool) → AreValid names → IsFront (SpellsCall names) text call rest → test ≡ eqb (length rest) 0 → test ≡ true → call_in names text ≡ Ok call
 whole_call names text rest call test valid f e t =
-    let whole : text ≡ f.token = f.parts ∙ ap (λ (r : List ℕ). f.token ++ r) (empty_list rest (eqb-true (length rest) 0 (sym e ∙ t))) ∙ append-nil f.token in
+    let whole : text ≡ f.token = f.parts ∙ ap (λ (r : List ℕ). f.token ++ r) (nil_from_length rest (eqb-true (length rest) 0 (sym e ∙ t))) ∙ append-nil f.token in
     ap (call_in names) whole ∙ call_in-spelled names f.token call valid f.spelled
 
 -- ---- what happens on a processor

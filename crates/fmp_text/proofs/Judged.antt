@@ -1,12 +1,13 @@
 -- Reading the values of arguments one after the other, as a loop does.
 use Rattle.std.proofs.Common.{◌≡◌, ℕ, ◌+◌, ◌≤◌, ◌<◌, List, [], ◌∷◌, ◌++◌, length, get_or, drop, Result, Ok, Err, refl, sym, ap, ◌∙◌, append_assoc}
 use Rattle.std.proofs.lemmas.List.{append-nil, drop_more, drop_all}
+use Rattle.fmp_bytes.specs.Results.{◌>>=◌}
 use Rattle.fmp_calls.specs.declared.kinds.ArgumentKind.{ArgumentKind}
 use Rattle.fmp_calls.specs.declared.kinds.Value.{Value}
 use Rattle.fmp_text.specs.declared.fault.TextKind.{TextKind}
 use Rattle.fmp_names.specs.Names.{NameLists}
 use Rattle.fmp_text.specs.Argument.{value_at}
-use Rattle.fmp_text.specs.Reading.{◌>>=◌, values_at}
+use Rattle.fmp_text.specs.Reading.{values_at}
 
 -- what was read before, and what is still read
 abbrev pub with_prefix : List Value → Result (List Value) TextKind → Result (List Value) TextKind

@@ -3,7 +3,7 @@ use Rattle.std.proofs.Common.{◌≡◌, ℕ, zero, suc, ◌-◌, ◌<◌, ◌�
 use Rattle.std.specs.Prelude.{All}
 use Rattle.std.proofs.lemmas.Bool.{and_parts, leb-true, ltb-true}
 use Rattle.std.proofs.lemmas.List.Elements.{All-nil, All-cons}
-use Rattle.std.proofs.lemmas.Option.{slice_get_within}
+use Rattle.std.proofs.lemmas.Option.{slice_get_within, cond_some}
 use Rattle.fmp_codes.specs.Records.{processor_of, AreOn, IsWithin}
 use Rattle.fmp_codes.specs.declared.calls.Call.{Call}
 use Rattle.fmp_codes.specs.declared.calls.Mode.TheVariants as modes
@@ -28,7 +28,7 @@ use Rattle.fmp_text.specs.Events.{reading_of, faultless}
 use Rattle.fmp_text.specs.Grammar.{IsObjectName, SpellsValue, SpellsPieces, SpellsArguments, FollowsName, SpellsCall}
 use Rattle.fmp_names.specs.Names.{NameLists, AreValid, names_of}
 use Rattle.fmp_text.specs.TextGrammar.{OnProcessor, SpellsEvent, SpellsLines}
-use Rattle.fmp_bytes.proofs.Parsed.{and_then_parts, tested_some}
+use Rattle.fmp_bytes.proofs.Parsed.{and_then_parts}
 use Rattle.fmp_calls.proofs.Matched.{bare_alone}
 use Rattle.fmp_names.proofs.Placed.{numbered}
 use Rattle.fmp_names.proofs.Valid.{most_of-le}
@@ -42,13 +42,13 @@ mapped f (Some a) b e = let same : f a ≡ b = cc in (a, refl, same)
 
 pub signed_within : (limit : ℕ) (negative : Bool) (m : ℕ) (z : ℤ) → 0 < limit → signed_of limit negative m ≡ Some z → IsWithin limit z
 signed_within limit true zero z some e =
-    let t = tested_some (leb 0 limit) (pos 0) z e in
+    let t = cond_some (leb 0 limit) (pos 0) z e in
     subst (IsWithin limit) t.1 some
 signed_within limit true (suc m) z some e =
-    let t = tested_some (leb (suc m) limit) (negsuc m) z e in
+    let t = cond_some (leb (suc m) limit) (negsuc m) z e in
     subst (IsWithin limit) t.1 (omega (arith, leb-true (suc m) limit t.0))
 signed_within limit false m z some e =
-    let t = tested_some (ltb m limit) (pos m) z e in
+    let t = cond_some (ltb m limit) (pos m) z e in
     subst (IsWithin limit) t.1 (ltb-true m limit t.0)
 
 number32_in_bits : (negative : Bool) (m : ℕ) (value : Value) → number32 negative m ≡ Some value → IsInBits value
@@ -59,7 +59,7 @@ number32_in_bits negative m value e =
 ranged_in_bits : (kind : ArgumentKind) (negative : Bool) (m : ℕ) (value : Value) → ranged kind negative m ≡ Some value → IsInBits value
 ranged_in_bits kinds.Pattern negative m value e =
     let p = mapped values.Pattern (unsigned_limited negative m) value e in
-    let t = tested_some (ltb m (2 ^ 32) && (not negative || eqb m 0)) m p.0 p.1 in
+    let t = cond_some (ltb m (2 ^ 32) && (not negative || eqb m 0)) m p.0 p.1 in
     let lt = (and_parts (ltb m (2 ^ 32)) (not negative || eqb m 0) t.0).0 in
     subst IsInBits p.2 (omega (arith, ltb-true m (2 ^ 32) lt, t.1))
 ranged_in_bits kinds.Data negative m value e =

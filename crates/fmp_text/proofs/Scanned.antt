@@ -138,7 +138,3 @@ module _ (names : NameLists) (whole : Reading) (events : List Event) (cut : Bool
       let no_feed : HasNoFeed (drop (at + scan.used) text) = rw (s.is_tail, drop-drop scan.used at text) at none in
       let rest = rw seen at (scanned s) in
       rest ∙ ap (with_events events) (reading_from-last names cut scan.lines count (drop (at + scan.used) text) no_feed)
-
--- the slice from a place to the end
-pub take-to_end : (bytes : List ℕ) (at : ℕ) → take (length bytes - at) (drop at bytes) ≡ drop at bytes
-take-to_end bytes at = grind (arith, common_steps)

@@ -3,7 +3,8 @@ use Rattle.std.proofs.Common.{◌≡◌, ℕ, pos, true, false, ◌||◌, ◌⊎
 use Rattle.std.specs.Prelude.{codes}
 use Rattle.std.specs.Option.{ok_or, option_map_or, option_or}
 use Rattle.std.specs.Str.{bytes_eq}
-use Rattle.std.proofs.lemmas.Bool.{cases_Bool, and_parts, false≢true}
+use Rattle.std.proofs.lemmas.Bool.{cases_Bool, and_parts, false≢true, or_left}
+use Rattle.std.proofs.Math.Bool.{or-true}
 use Rattle.fmp_bytes.specs.declared.numerals.Number.{Number}
 use Rattle.fmp_bytes.specs.Bytes.{is_identifier}
 use Rattle.fmp_bytes.specs.Numerals.{number_of}
@@ -22,13 +23,6 @@ use Rattle.fmp_text.proofs.ConstantWords.{constant_word}
 use Rattle.fmp_names.proofs.Placed.{number_of-name_of, name_of-number_of, object_name}
 
 -- ---- numbers
-
-or_from_right : (b : Bool) → (b || true) ≡ true
-or_from_right true = refl
-or_from_right false = refl
-
-or_from_left : (a b : Bool) → a ≡ true → (a || b) ≡ true
-or_from_left a b e = rw e refl
 
 ok_or_is : (found : Option Value) (value : Value) → ok_or found NumberOutOfRange ≡ Ok value → found ≡ Some value
 ok_or_is None value e = absurd cc
@@ -63,7 +57,7 @@ unfolding is_argument value_at number_value
 value_at-number names kind token value s =
     let read = number_of-spelled token s.negative s.magnitude s.spelled in
     let here = judged kind (record { negative = s.negative; magnitude = Some s.magnitude; zero_led = false }) value s.in_range in
-    (rw read (or_from_right (is_identifier token)), rw read here)
+    (rw read (or-true (is_identifier token)), rw read here)
 
 -- ---- constants
 
@@ -71,7 +65,7 @@ value_at-constant : (names : NameLists) (kind : ArgumentKind) (token : List ℕ)
 unfolding is_argument value_at named_value
 value_at-constant names kind token value e =
     let word = constant_word kind token value e in
-    (or_from_left (is_identifier token) _ word.0, rw (number_of-identifier token word.0, e) refl)
+    (or_left (is_identifier token) _ word.0, rw (number_of-identifier token word.0, e) refl)
 
 -- ---- names
 
@@ -79,7 +73,7 @@ value_at-constant names kind token value e =
 not_one : (kind : ArgumentKind) (token : List ℕ) → is_reserved token ≡ false → (found : Option Value) → constant_of kind token ≡ found → constant_of kind token ≡ None
 unfolding is_reserved
 not_one kind token free None e = e
-not_one kind token free (Some value) e = absurd (let word = (constant_word kind token value e).1 in false≢true (sym free ∙ rw word (or_from_right (bytes_eq token (codes "idle") || is_processor_word token))))
+not_one kind token free (Some value) e = absurd (let word = (constant_word kind token value e).1 in false≢true (sym free ∙ rw word (or-true (bytes_eq token (codes "idle") || is_processor_word token))))
 
 not_constant : (kind : ArgumentKind) (token : List ℕ) → is_reserved token ≡ false → constant_of kind token ≡ None
 not_constant kind token free = not_one kind token free (constant_of kind token) refl
@@ -90,7 +84,7 @@ value_at-object names kind token value valid s =
     let word = object_name names s.object s.number token valid s.is_name in
     let identifier = (and_parts (is_identifier token) _ word.0).0 in
     let number = number_of-name_of names (name_kinds.Object s.object) s.number token valid s.is_name in
-    (or_from_left (is_identifier token) _ identifier, rw (number_of-identifier token identifier, not_constant kind token word.1, s.is_kind, number, s.is_value) refl)
+    (or_left (is_identifier token) _ identifier, rw (number_of-identifier token identifier, not_constant kind token word.1, s.is_kind, number, s.is_value) refl)
 
 pub value_at-spelled : (names : NameLists) (kind : ArgumentKind) (token : List ℕ) (value : Value) → AreValid names → SpellsValue names kind token value → (is_argument token ≡ true) × (value_at names kind token ≡ Ok value)
 value_at-spelled names kind token value valid (inl s) = value_at-number names kind token value s

@@ -3,6 +3,7 @@ use Rattle.std.proofs.Common.{◌≡◌, Option, ℕ, ◌<◌, ◌≤◌, Bool, 
 use Rattle.std.specs.List.{list_all, prefix_len, join_with_byte}
 use Rattle.std.specs.Option.{ok_or}
 use Rattle.std.proofs.lemmas.Bool.{cases_Bool, and_parts, and_from, or_cases, eq-eqb, ne_eqb, le-leb, eqb-true, false≢true}
+use Rattle.std.proofs.lemmas.Option.{cond_some}
 use Rattle.fmp_codes.specs.declared.calls.Call.{Call}
 use Rattle.fmp_bytes.specs.declared.classes.Class.TheVariants.{Blank, Word, Argument, Line}
 use Rattle.fmp_bytes.specs.Bytes.{is_of, prefix, after, behind, cut_at, pieces_of, is_identifier}
@@ -17,12 +18,12 @@ use Rattle.fmp_text.specs.declared.fault.TextKind.TheVariants.{BadByte, BadWord,
 use Rattle.fmp_names.specs.Names.{NameLists, AreValid}
 use Rattle.fmp_calls.specs.Table.{text_of, is_bare, kinds_of, name_of, values_of, call_of}
 use Rattle.fmp_text.specs.Argument.{is_argument, token_in, tokens_in, arguments_in, before_close, enclosed_in, arguments_behind, value_at}
-use Rattle.fmp_text.specs.Reading.{◌>>=◌, named_call, values_at, call_with, call_after, call_at, call_in}
+use Rattle.fmp_text.specs.Reading.{named_call, values_at, call_with, call_after, call_at, call_in}
 use Rattle.fmp_text.specs.Grammar.{AreBlank, Padded, SpellsPieces, SpellsArguments, SpellsEnclosed, FollowsName, SpellsCall}
 use Rattle.fmp_text.proofs.Spelled.{value_at-spelled, value_is_spelled}
 use Rattle.fmp_calls.proofs.Matched.{call_of-parts, call_of-agrees, call_of-same, named-text_of, text_of-named, is_bare-name_of, kinds_of-name_of, bare_alone, is_identifier-text_of, length-kinds_of-le}
-use Rattle.fmp_bytes.proofs.Parsed.{and_then_parts, ok_or_parts, tested_some, tested_ok}
-use Rattle.fmp_text.proofs.Parsed.{bind_parts}
+use Rattle.fmp_bytes.proofs.Parsed.{and_then_parts, ok_or_parts, tested_ok, bind_parts}
+use Rattle.fmp_bytes.specs.Results.{◌>>=◌}
 
 -- ---- an argument with blanks around
 
@@ -90,7 +91,7 @@ padded_inside token piece padded form =
 pub token_is_padded : (piece token : List ℕ) → token_in piece ≡ Some token → Padded token piece × (is_argument token ≡ true)
 unfolding token_in
 token_is_padded piece token e =
-    let t = tested_some (is_argument (prefix Argument (after Blank piece)) && list_all (is_of Blank) (after Argument (after Blank piece))) (prefix Argument (after Blank piece)) token e in
+    let t = cond_some (is_argument (prefix Argument (after Blank piece)) && list_all (is_of Blank) (after Argument (after Blank piece))) (prefix Argument (after Blank piece)) token e in
     let p = and_parts (is_argument (prefix Argument (after Blank piece))) (list_all (is_of Blank) (after Argument (after Blank piece))) t.0 in
     let whole : piece ≡ prefix Blank piece ++ (token ++ after Argument (after Blank piece)) = sym (prefix-after Blank piece) ∙ ap (λ (r : List ℕ). prefix Blank piece ++ r) (sym (prefix-after Argument (after Blank piece)) ∙ ap (λ (f : List ℕ). f ++ after Argument (after Blank piece)) t.1) in
     (record { before = prefix Blank piece; behind = after Argument (after Blank piece); before_blank = list_all-take_while (is_of Blank) piece; behind_blank = p.1; parts = whole }, ap is_argument (sym t.1) ∙ p.0)
@@ -205,7 +206,7 @@ enclosed_read between inner rest blank no_close ended =
     let skipped = start.1 in
     rw (skipped, behind-same 40 (inner ++ (41 ∷ rest)), cut_at-append 41 inner rest no_close, ended) refl
 
-blanks_in_line : (bytes : List ℕ) → AreBlank bytes → list_all (is_of Line) bytes ≡ true
+pub blanks_in_line : (bytes : List ℕ) → AreBlank bytes → list_all (is_of Line) bytes ≡ true
 blanks_in_line bytes blank = list_all-weaker (is_of Blank) (is_of Line) line-blank bytes blank
 
 -- what reading gives of what follows a call's name
@@ -347,7 +348,7 @@ inner_spelled names [] values inner tokens formed as_many judged =
       | inl t ↦ let none : [] ≡ values = cc in (t, sym none)
       | inr f ↦
           let p = and_then_parts (tokens_in (pieces_of 44 inner)) _ tokens (rw f at formed) in
-          let few = tested_some _ p.0 tokens p.2 in
+          let few = cond_some _ p.0 tokens p.2 in
           absurd (no_pieces names (pieces_of 44 inner) p.0 values p.1 (ap length few.1 ∙ as_many) (some-pieces_of 44 inner))
     ]
 inner_spelled names (kind ∷ kinds) values inner tokens formed as_many judged =
@@ -355,7 +356,7 @@ inner_spelled names (kind ∷ kinds) values inner tokens formed as_many judged =
       | inl t ↦ let e = rw t at formed in let none : [] ≡ tokens = cc in absurd (omega (arith, ap length none, as_many))
       | inr f ↦
           let p = and_then_parts (tokens_in (pieces_of 44 inner)) _ tokens (rw f at formed) in
-          let few = tested_some _ p.0 tokens p.2 in
+          let few = cond_some _ p.0 tokens p.2 in
           let same = few.1 in
           (pieces_of 44 inner, sym (join-pieces_of 44 inner), pieces_spelled names (kind ∷ kinds) (pieces_of 44 inner) tokens values (p.1 ∙ ap (λ (ts : List (List ℕ)). Some ts) same) as_many judged)
     ]
@@ -373,7 +374,7 @@ unfolding enclosed_in before_close
 enclosed_spelled text inner e =
     let p = and_then_parts (behind 40 (after Blank text)) before_close inner e in
     let q = and_then_parts (cut_at 41 p.0).1 (λ rest. cond (list_all (is_of Blank) rest) (Some (cut_at 41 p.0).0) None) inner p.2 in
-    let t = tested_some (list_all (is_of Blank) q.0) (cut_at 41 p.0).0 inner q.2 in
+    let t = cond_some (list_all (is_of Blank) q.0) (cut_at 41 p.0).0 inner q.2 in
     let opened : after Blank text ≡ 40 ∷ p.0 = behind_is 40 (after Blank text) p.0 p.1 in
     let closed : p.0 ≡ inner ++ (41 ∷ q.0) = cut_at-parts 41 p.0 q.0 q.1 ∙ ap (λ (i : List ℕ). i ++ (41 ∷ q.0)) t.1 in
     record {
@@ -389,7 +390,7 @@ follows_spelled : (names : NameLists) (bare : Bool) (kinds : List ArgumentKind) 
     → arguments_behind 4 bare rest ≡ Some tokens → length tokens ≡ length kinds → values_at names kinds tokens ≡ Ok values
     → ((bare ≡ true) × AreBlank rest) ⊎ ((bare ≡ false) × ((inner : List ℕ) × Enclosed rest inner × SpellsArguments names kinds values inner))
 unfolding arguments_behind
-follows_spelled names true kinds values rest tokens formed as_many judged = inl (refl, (tested_some (list_all (is_of Blank) rest) [] tokens formed).0)
+follows_spelled names true kinds values rest tokens formed as_many judged = inl (refl, (cond_some (list_all (is_of Blank) rest) [] tokens formed).0)
 follows_spelled names false kinds values rest tokens formed as_many judged =
     let i = and_then_parts (enclosed_in rest) (arguments_in 4) tokens formed in
     inr (refl, (i.0, enclosed_spelled rest i.0 i.1, inner_spelled names kinds values i.0 tokens i.2 as_many judged))

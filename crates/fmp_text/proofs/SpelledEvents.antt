@@ -9,6 +9,7 @@ use Rattle.std.proofs.lemmas.Bool.{cases_Bool, and_parts, and_from, le-leb, leb-
 use Rattle.std.proofs.lemmas.Slice.Eq.{bytes_eq-Decides}
 use Rattle.std.proofs.lemmas.Fmt.{decimal_is_IsNumeral, decimal-digits_value}
 use Rattle.std.proofs.Math.Seq.{drop-append-add}
+use Rattle.std.proofs.lemmas.Option.{cond_some}
 use Rattle.fmp_codes.specs.Numbers.{as_proc}
 use Rattle.fmp_codes.specs.declared.numbers.Proc.{Proc}
 use Rattle.fmp_codes.specs.declared.records.Event.{Event}
@@ -17,7 +18,7 @@ use Rattle.fmp_bytes.specs.declared.classes.Class.TheVariants.{Blank, Word, Line
 use Rattle.fmp_bytes.specs.Bytes.{is_of, prefix, after, behind}
 use Rattle.fmp_bytes.specs.Numerals.{are_digits, is_zero_led, magnitude_of}
 use Rattle.fmp_bytes.proofs.Prefixes.{prefix-append, prefix-after, after-stops, list_all-take_while, stops-cons, stops-all, list_all-weaker, list_all-both}
-use Rattle.fmp_bytes.proofs.Included.{line-blank, line-argument, argument-word, not_word-blank, word-digit}
+use Rattle.fmp_bytes.proofs.Included.{line-argument, argument-word, not_word-blank, word-digit}
 use Rattle.fmp_bytes.proofs.Spelled.{own, behind_is, behind-same, list_all-digits, are_digits-from, digits_from, not_zero_led, zero_alone, decimal_alone, magnitude_of-small, magnitude_of-some}
 use Rattle.fmp_text.specs.declared.fault.TextKind.{TextKind}
 use Rattle.fmp_text.specs.declared.fault.TextKind.TheVariants.{BadByte, BadWord, NumberOutOfRange, WrongArguments}
@@ -29,9 +30,8 @@ use Rattle.fmp_text.specs.Grammar.{AreBlank, SpellsCall}
 use Rattle.fmp_text.specs.TextGrammar.{IsAlone, OnProcessor, SpellsEvent}
 use Rattle.fmp_bytes.proofs.Tokens.{identifier_bytes}
 use Rattle.fmp_calls.proofs.Matched.{no_tick, no_ipi, is_identifier-text_of}
-use Rattle.fmp_bytes.proofs.Parsed.{ok_or_parts, tested_ok, tested_some}
-use Rattle.fmp_text.proofs.Parsed.{bind_parts}
-use Rattle.fmp_text.proofs.SpelledCalls.{not-word, call_at-spelled, call_at_is_spelled, word_of_call, line_of_call}
+use Rattle.fmp_bytes.proofs.Parsed.{ok_or_parts, tested_ok, bind_parts}
+use Rattle.fmp_text.proofs.SpelledCalls.{not-word, call_at-spelled, call_at_is_spelled, word_of_call, line_of_call, blanks_in_line}
 
 -- ---- the processor
 
@@ -76,7 +76,7 @@ number_parts : (most : ℕ) (found : Option ℕ) (processor : Proc) → in_proce
 unfolding in_processors
 number_parts most None processor e = absurd cc
 number_parts most (Some n) processor e =
-    let t = tested_some (leb 1 n && leb n most) (as_proc n) processor e in
+    let t = cond_some (leb 1 n && leb n most) (as_proc n) processor e in
     let p = and_parts (leb 1 n) (leb n most) t.0 in
     (n, refl, leb-true 1 n p.0, leb-true n most p.1, sym t.1)
 
@@ -116,9 +116,6 @@ pub blanks_stop : (between rest : List ℕ) → AreBlank between → 1 ≤ lengt
 blanks_stop [] rest blank apart = absurd (omega (arith, apart))
 blanks_stop (b ∷ between) rest blank apart = stops-cons (is_of Word) b (between ++ rest) (not_word-blank b (and_parts (is_of Blank b) (list_all (is_of Blank) between) blank).0)
 
-line_of_blanks : (bytes : List ℕ) → AreBlank bytes → list_all (is_of Line) bytes ≡ true
-line_of_blanks bytes blank = list_all-weaker (is_of Blank) (is_of Line) line-blank bytes blank
-
 pub line_of_words : (bytes : List ℕ) → list_all (is_of Word) bytes ≡ true → list_all (is_of Line) bytes ≡ true
 line_of_words bytes words = list_all-weaker (is_of Word) (is_of Line) (λ b h. line-argument b (argument-word b h)) bytes words
 
@@ -133,9 +130,9 @@ module _ (names : NameLists) (processor : Proc) (Happens : List ℕ → Type 0) 
 
   line_of_event : list_all (is_of Line) s.rest ≡ true → list_all (is_of Line) text ≡ true
   line_of_event rest =
-      let behind = list_all-both (is_of Line) s.between s.rest (line_of_blanks s.between s.between_blank) rest in
+      let behind = list_all-both (is_of Line) s.between s.rest (blanks_in_line s.between s.between_blank) rest in
       let word = list_all-both (is_of Line) (80 ∷ decimal s.number) (s.between ++ s.rest) (line_of_words (80 ∷ decimal s.number) (word_bytes s.number small)) behind in
-      ap (list_all (is_of Line)) s.parts ∙ list_all-both (is_of Line) s.before (80 ∷ (decimal s.number ++ (s.between ++ s.rest))) (line_of_blanks s.before s.before_blank) word
+      ap (list_all (is_of Line)) s.parts ∙ list_all-both (is_of Line) s.before (80 ∷ (decimal s.number ++ (s.between ++ s.rest))) (blanks_in_line s.before s.before_blank) word
 
   on_processor_read : (event : Event) → list_all (is_of Line) s.rest ≡ true → event_of names processor (after Blank s.rest) ≡ Ok event → event_in names text ≡ Ok event
   unfolding event_in event_at
@@ -153,7 +150,7 @@ alone_read word rest h words starts =
     let stop = stops-all (is_of Word) h.behind (list_all-weaker (is_of Blank) (λ b. not (is_of Word b)) not-word h.behind h.behind_blank) in
     let whole = prefix-append Word word h.behind words stop in
     let here : after Blank rest ≡ word ++ h.behind = ap (after Blank) h.parts ∙ after-none (word ++ h.behind) starts in
-    (ap (prefix Word) here ∙ whole.0, ap (after Word) here ∙ whole.1, ap (list_all (is_of Line)) h.parts ∙ list_all-both (is_of Line) word h.behind (line_of_words word words) (line_of_blanks h.behind h.behind_blank))
+    (ap (prefix Word) here ∙ whole.0, ap (after Word) here ∙ whole.1, ap (list_all (is_of Line)) h.parts ∙ list_all-both (is_of Line) word h.behind (line_of_words word words) (blanks_in_line h.behind h.behind_blank))
 
 pub event_in-spelled : (names : NameLists) (text : List ℕ) (event : Event) → AreValid names → SpellsEvent names text event → event_in names text ≡ Ok event
 unfolding event_of is_of

@@ -10,10 +10,11 @@ use Rattle.fmp_codes.specs.declared.records.Event.TheVariants as events
 use Rattle.fmp_bytes.specs.declared.classes.Class.TheVariants.{Blank, Word, Line}
 use Rattle.fmp_bytes.specs.Bytes.{is_of, prefix, after, behind, letter_p, number_sign, carriage_return}
 use Rattle.fmp_bytes.specs.Numerals.{are_digits, is_zero_led, magnitude_of}
+use Rattle.fmp_bytes.specs.Results.{◌>>=◌}
 use Rattle.fmp_text.specs.declared.fault.TextKind.{TextKind}
 use Rattle.fmp_text.specs.declared.fault.TextKind.TheVariants.{BadByte, BadWord, WrongArguments, NumberOutOfRange}
 use Rattle.fmp_names.specs.Names.{NameLists}
-use Rattle.fmp_text.specs.Reading.{◌>>=◌, call_at}
+use Rattle.fmp_text.specs.Reading.{call_at}
 
 -- the processor of a number from 1 to how many there are
 unfoldable pub in_processors : ℕ → Option ℕ → Option Proc

@@ -11,14 +11,9 @@ use Rattle.fmp_bytes.specs.declared.classes.Class.TheVariants.{Blank, Word, Line
 use Rattle.fmp_text.specs.declared.fault.TextKind.{TextKind}
 use Rattle.fmp_text.specs.declared.fault.TextKind.TheVariants.{BadByte, BadWord, WrongArguments}
 use Rattle.fmp_bytes.specs.Bytes.{is_of, prefix, after}
+use Rattle.fmp_bytes.specs.Results.{◌>>=◌}
 use Rattle.fmp_names.specs.Names.{NameLists}
 use Rattle.fmp_text.specs.Argument.{arguments_behind, value_at}
-
--- reading goes on with what was read, and ends at the first fault
-infixl 10 ◌>>=◌
-abbrev pub ◌>>=◌ : {A B E : Type 0} → Result A E → (A → Result B E) → Result B E
-(Ok x) >>= f = f x
-(Err e) >>= f = Err e
 
 -- the call that is written so, with blanks for its arguments
 unfoldable pub named_call : List ℕ → Result Call TextKind

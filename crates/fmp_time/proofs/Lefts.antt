@@ -3,8 +3,9 @@ use Rattle.std.proofs.Common.{◌≡◌, ℕ, zero, suc, ◌+◌, ◌-◌, ◌<�
 use Rattle.std.specs.Prelude.{nat_lt, is_some}
 use Rattle.std.specs.List.{list_any}
 use Rattle.std.specs.Coded.{le_prop}
-use Rattle.std.proofs.lemmas.Bool.{cases_eq, eq-eqb, ne_eqb}
+use Rattle.std.proofs.lemmas.Bool.{cases_eq, eq-eqb, ne_eqb, false_from_ne_true}
 use Rattle.std.proofs.lemmas.List.{get_or-set_same, get_or-set_other, length-set}
+use Rattle.std.proofs.Math.Bool.{or-false}
 use Rattle.fmp_codes.specs.Numbers.{as_proc}
 use Rattle.fmp_codes.specs.declared.numbers.Proc.{Proc}
 use Rattle.fmp_links.specs.Lists as links
@@ -330,10 +331,6 @@ module _ (q : List (List Entry)) (d : AreDisjoint q) (p : Proc) where
           ∙ sym (ap (lowered_on p) (left-on k n e)
           ∙ ap (λ (b : Bool). cond b (Some (record { processor = p; ticks = n - 1 })) (Some (record { processor = p; ticks = n }))) (eq-eqb p.number p.number refl))
 
-or_false : (b : Bool) → (b || false) ≡ b
-or_false true = refl
-or_false false = refl
-
 abbrev some_over : ℕ → List (List Entry) → Bool
 some_over k q = list_any (λ es. has k (items_of (due es))) q
 
@@ -344,12 +341,8 @@ over_step i es q k None apart out e ih =
     ∙ ap (λ (o : Option ℕ). is_over (left_on (as_proc (i + 1)) o (left_from (i + 1) q k))) (sym e)
 over_step i es q k (Some n) apart out e ih =
     ap (λ (b : Bool). b || some_over k q) (has_over k es apart ∙ ap zero_left e)
-    ∙ ap (λ (b : Bool). (n == 0) || b) (ih ∙ ap is_over (left_nowhere (i + 1) q k (λ j. out j refl))) ∙ or_false (n == 0)
+    ∙ ap (λ (b : Bool). (n == 0) || b) (ih ∙ ap is_over (left_nowhere (i + 1) q k (λ j. out j refl))) ∙ or-false (n == 0)
     ∙ ap (λ (o : Option ℕ). is_over (left_on (as_proc (i + 1)) o (left_from (i + 1) q k))) (sym e)
-
-lacks : (b : Bool) → (b ≡ true → ⊥) → b ≡ false
-lacks true h = absurd (h refl)
-lacks false h = refl
 
 -- an item has no ticks left where a list has it among those that are due
 over_from : (i : ℕ) (q : List (List Entry)) (k : ℕ) → ((j : ℕ) → links.AreDistinct (items_of (entries_at q j))) → ((j l : ℕ) → has_entry k (entries_at q j) ≡ true → has_entry k (entries_at q l) ≡ true → j ≡ l) →
@@ -357,7 +350,7 @@ over_from : (i : ℕ) (q : List (List Entry)) (k : ℕ) → ((j : ℕ) → links
 over_from i [] k apart one = refl
 over_from i (es ∷ q) k apart one =
     over_step i es q k (ticks_in es k) (apart 0)
-    (λ j h. lacks (has_entry k (entries_at q j)) (λ f. let bad = one 0 (suc j) (has_ticks k es ∙ h) f in omega (arith, bad)))
+    (λ j h. false_from_ne_true (has_entry k (entries_at q j)) (λ f. let bad = one 0 (suc j) (has_ticks k es ∙ h) f in omega (arith, bad)))
     refl (over_from (i + 1) q k (λ j. apart (suc j)) (λ j l e f. let next = one (suc j) (suc l) e f in omega (arith, next)))
 
 pub over-left : (q : List (List Entry)) (k : ℕ) → AreDisjoint q → list_any (λ es. has k (items_of (due es))) q ≡ is_over (left_in q k)

@@ -7,7 +7,7 @@ use Rattle.fmp_links.specs.Lists as links
 use Rattle.fmp_links.specs.Lists.{has, AreDistinct, AreDisjoint, first_of}
 use Rattle.fmp_links.proofs.Having as having
 use Rattle.fmp_links.proofs.Having.{has_here, has_there, has_behind, lacks_from, ne}
-use Rattle.fmp_links.proofs.Soundness.{list_at-take_out}
+use Rattle.fmp_links.proofs.Soundness.{list_at-take_out, first_there}
 use Rattle.fmp_time.specs.Differences.{Entry, entries_at, has_entry, without, take_out, entries_from, entries_of, sum_of, IsSummed}
 use Rattle.fmp_time.proofs.Entries.{has_entry-entries_of}
 use Rattle.fmp_time.proofs.Sums.{frame, frame_sum, remove_sums, without_lacking}
@@ -35,12 +35,8 @@ later : (u : ℕ) (ys xs : List ℕ) → has u ys ≡ true → has u (xs ++ ys) 
 later u ys [] h = h
 later u ys (z ∷ xs) h = has_there u z (xs ++ ys) (later u ys xs h)
 
-first_has : (x : ℕ) (ys : List ℕ) → first_of ys ≡ Some x → has x ys ≡ true
-first_has x [] f = cc
-first_has x (y ∷ ys) f = let same : y ≡ x = cc in subst (λ (z : ℕ). has x (z ∷ ys) ≡ true) (sym same) (has_here x ys)
-
 pub behind_in : (xs : List ℕ) (k b : ℕ) (before behind : List ℕ) → xs ≡ before ++ k ∷ behind → first_of behind ≡ Some b → has b xs ≡ true
-behind_in xs k b before behind e f = subst (λ (ys : List ℕ). has b ys ≡ true) (sym e) (later b (k ∷ behind) before (has_there b k behind (first_has b behind f)))
+behind_in xs k b before behind e f = subst (λ (ys : List ℕ). has b ys ≡ true) (sym e) (later b (k ∷ behind) before (has_there b k behind (first_there b behind f)))
 
 parted : (k : ℕ) (before behind : List ℕ) → AreDistinct (before ++ k ∷ behind) → links.without k (before ++ k ∷ behind) ≡ before ++ behind
 parted k [] behind a = rw (eq-eqb k k refl) (having.without_lacking k behind a.0)
@@ -65,7 +61,7 @@ remove_total d e k [] (b ∷ ys) g a =
     let rest = frame_sum d e ys (λ u h. g.others u (λ (f : Some b ≡ Some u). let same : b ≡ u = cc in ne u b ys h a.1.0 (sym same))) in
     omega (arith, rest, g.gain b refl)
 remove_total d e k (x ∷ before) behind g a =
-    let same : e x ≡ d x = g.others x (λ (f : first_of behind ≡ Some x). ne x x (before ++ k ∷ behind) (later x (k ∷ behind) before (has_there x k behind (first_has x behind f))) a.0 refl) in
+    let same : e x ≡ d x = g.others x (λ (f : first_of behind ≡ Some x). ne x x (before ++ k ∷ behind) (later x (k ∷ behind) before (has_there x k behind (first_there x behind f))) a.0 refl) in
     omega (arith, same, remove_total d e k before behind g a.1)
 
 absent : (q : List (List ℕ)) (i j k : ℕ) → AreDisjoint 128 q → has k (links.list_at q i) ≡ true → (j ≡ i → ⊥) → has k (links.list_at q j) ≡ false

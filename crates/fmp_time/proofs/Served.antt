@@ -4,6 +4,7 @@ use Rattle.std.proofs.lemmas.Bool.{cases_eq, eq-eqb, ne_eqb}
 use Rattle.std.specs.List.{range_with_len}
 use Rattle.std.specs.Prelude.{slice_index_or, None}
 use Rattle.std.proofs.lemmas.List.{get_or-set_same, get_or-set_other, take_more, drop_more}
+use Rattle.std.proofs.Math.Bool.{or-false, or-true}
 use Rattle.fmp_codes.specs.declared.numbers.Proc.{Proc}
 use Rattle.fmp_codes.specs.declared.numbers.Task.{Task}
 use Rattle.fmp_links.specs.Lists.{has}
@@ -19,25 +20,17 @@ use Rattle.fmp_time.proofs.Tables.{at-table}
 use Rattle.fmp_time.proofs.Lefts.{due-left}
 use Rattle.fmp_time.proofs.Effects.{place-low, place-item_at, times_same, ticked_left}
 
-or_false : (b : Bool) → (b || false) ≡ b
-or_false true = refl
-or_false false = refl
-
-or_true : (b : Bool) → (b || true) ≡ true
-or_true true = refl
-or_true false = refl
-
 -- one more item is marked
 pub marked : (marks : List Bool) (xs : List ℕ) (t : ℕ) → length marks ≡ 128 → ((k : ℕ) → k < 128 → get_or marks k false ≡ has k xs) → (k : ℕ) → k < 128 → t < 128 →
     get_or (set marks t true) k false ≡ has k (xs ++ t ∷ [])
 marked marks xs t l h k hk ht =
     ⊎_elim (λ (e : k ≡ t). ap (λ (j : ℕ). get_or (set marks t true) j false) e ∙ get_or-set_same marks t true false (omega (arith, ht, l))
-    ∙ sym (has_push k t xs ∙ ap (λ (b : Bool). has k xs || b) (eq-eqb k t e) ∙ or_true (has k xs)))
-    (λ (e : k ≡ t → ⊥). get_or-set_other marks t k true false e ∙ h k hk ∙ sym (has_push k t xs ∙ ap (λ (b : Bool). has k xs || b) (ne_eqb k t e) ∙ or_false (has k xs)))
+    ∙ sym (has_push k t xs ∙ ap (λ (b : Bool). has k xs || b) (eq-eqb k t e) ∙ or-true (has k xs)))
+    (λ (e : k ≡ t → ⊥). get_or-set_other marks t k true false e ∙ h k hk ∙ sym (has_push k t xs ∙ ap (λ (b : Bool). has k xs || b) (ne_eqb k t e) ∙ or-false (has k xs)))
     (cases_eq k t)
 
 pub unmarked : (marks : List Bool) (xs : List ℕ) (t : ℕ) → ((k : ℕ) → k < 128 → get_or marks k false ≡ has k xs) → (k : ℕ) → k < 128 → 128 ≤ t → get_or marks k false ≡ has k (xs ++ t ∷ [])
-unmarked marks xs t h k hk ht = h k hk ∙ sym (has_push k t xs ∙ ap (λ (b : Bool). has k xs || b) (ne_eqb k t (λ e. omega (arith, e, hk, ht))) ∙ or_false (has k xs))
+unmarked marks xs t h k hk ht = h k hk ∙ sym (has_push k t xs ∙ ap (λ (b : Bool). has k xs || b) (ne_eqb k t (λ e. omega (arith, e, hk, ht))) ∙ or-false (has k xs))
 
 module _ {X : Type 0} where
   pub filter_more : (p : X → Bool) (xs : List X) (k : X) → p k ≡ true → filter p (xs ++ k ∷ []) ≡ filter p xs ++ k ∷ []

@@ -2,6 +2,7 @@
 use Rattle.std.proofs.Common.{◌≡◌, ℕ, ◌+◌, ◌-◌, ◌<◌, ◌≤◌, ◌||◌, Bool, true, false, cond, Some, None, List, [], ◌∷◌, length, drop, set, get_or, refl, sym, ap, ◌∙◌, arith, ⊎_elim}
 use Rattle.std.proofs.lemmas.Bool.{cases_eq, eq-eqb, ne_eqb, lt-ltb, le-ltb}
 use Rattle.std.proofs.lemmas.List.{get_or-set_same, get_or-set_other}
+use Rattle.std.proofs.Math.Bool.{or-false}
 use Rattle.fmp_links.specs.Lists.{has, first_of}
 use Rattle.fmp_links.proofs.Walking.{left_over, nothing_left}
 use Rattle.fmp_time.specs.Differences.{spot_in, rest_in, first_adding, zeros_of}
@@ -37,20 +38,16 @@ adding_end d xs k e = ap (first_adding d) (nothing_left xs k e)
 
 -- Marks of the items in front that add nothing.
 
-or_false : (b : Bool) → (b || false) ≡ b
-or_false true = refl
-or_false false = refl
-
 pub zeros_here : (d : ℕ → ℕ) (xs : List ℕ) (i t : ℕ) → first_of (drop i xs) ≡ Some t → d t ≡ 0 → zeros_of d (drop i xs) ≡ t ∷ zeros_of d (drop (i + 1) xs)
 zeros_here d xs i t e z = ap (zeros_of d) (left_over xs i t e) ∙ ap (λ (c : Bool). cond c (t ∷ zeros_of d (drop (i + 1) xs)) []) (eq-eqb (d t) 0 z)
 
 -- no more are to be marked
 pub no_more : (d : ℕ → ℕ) (xs : List ℕ) (i t k : ℕ) (b : Bool) → first_of (drop i xs) ≡ Some t → 0 < d t → b ≡ (b || has k (zeros_of d (drop i xs)))
 no_more d xs i t k b e l = sym (ap (λ (ys : List ℕ). b || has k ys) (ap (zeros_of d) (left_over xs i t e)
-    ∙ ap (λ (c : Bool). cond c (t ∷ zeros_of d (drop (i + 1) xs)) []) (ne_eqb (d t) 0 (λ z. omega (arith, z, l)))) ∙ or_false b)
+    ∙ ap (λ (c : Bool). cond c (t ∷ zeros_of d (drop (i + 1) xs)) []) (ne_eqb (d t) 0 (λ z. omega (arith, z, l)))) ∙ or-false b)
 
 pub zeros_none : (d : ℕ → ℕ) (xs : List ℕ) (i k : ℕ) (b : Bool) → first_of (drop i xs) ≡ None → b ≡ (b || has k (zeros_of d (drop i xs)))
-zeros_none d xs i k b e = sym (ap (λ (ys : List ℕ). b || has k (zeros_of d ys)) (nothing_left xs i e) ∙ or_false b)
+zeros_none d xs i k b e = sym (ap (λ (ys : List ℕ). b || has k (zeros_of d ys)) (nothing_left xs i e) ∙ or-false b)
 
 -- one more is marked
 pub mark_one : (d : ℕ → ℕ) (xs : List ℕ) (i t k : ℕ) (marks : List Bool) → length marks ≡ 128 → k < 128 → first_of (drop i xs) ≡ Some t → d t ≡ 0 →

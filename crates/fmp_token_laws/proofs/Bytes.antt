@@ -5,6 +5,7 @@ use Rattle.std.proofs.lemmas.Bool.{cases_Bool, and_parts, or_parts, not-true, fa
 use Rattle.std.proofs.lemmas.Bool.Decides.{nat_tests}
 use Rattle.fmp_bytes.specs.declared.classes.Class.TheVariants.{Space, Word, Letter, Digit as DigitClass}
 use Rattle.fmp_bytes.specs.Bytes.{is_of}
+use Rattle.fmp_bytes.proofs.Included.{word-letter}
 use Rattle.fmp_tokens.specs.declared.tokens.TokenKind.{TokenKind}
 use Rattle.fmp_tokens.specs.declared.tokens.TokenKind.TheVariants as kinds
 use Rattle.fmp_tokens.specs.declared.tokens.End.{End}
@@ -47,10 +48,6 @@ word_no_space b word = grind (arith, nat_tests)
 pub word_no_slash : (b : ℕ) → is_of Word b ≡ true → eqb b 47 ≡ false
 unfolding is_of
 word_no_slash b word = grind (arith, nat_tests)
-
-pub letter_is_word : (b : ℕ) → is_of Letter b ≡ true → is_of Word b ≡ true
-unfolding is_of
-letter_is_word b letter = grind (arith, nat_tests)
 
 pub digit_is_word : (b : ℕ) → is_of DigitClass b ≡ true → is_of Word b ≡ true
 unfolding is_of
@@ -105,7 +102,7 @@ blank_in_gap place line b rest may =
 pub identifier_in_gap : (place : Place) (line b : ℕ) (rest : List ℕ) → is_of Letter b ≡ true → in_gap place line b rest ≡ Give kinds.Identifier line (modes.Word (behind place))
 unfolding begun
 identifier_in_gap place line b rest letter =
-    let word = letter_is_word b letter in
+    let word = word-letter b letter in
     let slash = word_no_slash b word in
     let opens : opens_comment b rest ≡ false = rw slash refl in
     begun_in_gap place line b rest (word_no_space b word) opens ∙ rw letter refl

@@ -1,8 +1,9 @@
 -- A text can be cut before each of its tokens.
-use Rattle.std.proofs.Common.{◌≡◌, ℕ, ◌+◌, Bool, true, false, ◌&&◌, ◌⊎◌, eqb, inl, inr, List, [], ◌∷◌, ◌++◌, suc, take, refl, sym, ap, subst, ◌∙◌, arith}
-use Rattle.std.specs.List.{list_all, prefix_len}
+use Rattle.std.proofs.Common.{◌≡◌, ℕ, ◌+◌, true, false, ◌&&◌, ◌⊎◌, eqb, inl, inr, List, [], ◌∷◌, ◌++◌, refl, sym, ap, subst, ◌∙◌}
+use Rattle.std.specs.List.{list_all}
 use Rattle.std.proofs.lemmas.Bool.{cases_Bool, cond_both, and_parts}
 use Rattle.std.specs.Char.{is_ascii_graphic}
+use Rattle.std.proofs.Math.Bool.{and-false}
 use Rattle.fmp_bytes.specs.declared.classes.Class.TheVariants as class
 use Rattle.fmp_bytes.specs.declared.classes.Class.TheVariants.{Word}
 use Rattle.fmp_bytes.specs.Bytes.{is_of, prefix, after}
@@ -18,6 +19,7 @@ use Rattle.fmp_tokens.specs.declared.modes.Step.TheVariants.{Pass, Give, Stop}
 use Rattle.fmp_tokens.specs.Steps.{is_next, goes_on, at_line_end, single_in_code, single, begun, in_gap, in_line_comment, step_of, line_after}
 use Rattle.fmp_tokens.specs.Lexing.{Lexeme, Lexed, text_of, ended_at, ended_in, stepped, lexed, lexed_text}
 use Rattle.fmp_token_laws.specs.Cuts.{AreTokens, IsCutBehind}
+use Rattle.fmp_token_laws.proofs.Gaps.{prefix_more}
 
 -- ---- what a step asks of the bytes behind its own
 
@@ -49,10 +51,6 @@ same_step mode line b [] ys same = absurd same
 same_step mode line b (x ∷ xs) [] same = absurd same
 same_step mode line b (x ∷ xs) (y ∷ ys) same = ap (λ c. step_of mode line b (c ∷ xs)) same ∙ same_behind mode line b y xs ys
 
-and_false : (b : Bool) → (b && false) ≡ false
-and_false true = refl
-and_false false = refl
-
 -- a byte that gives a token gives it at the end of a text, too
 module _ (kind : TokenKind) (l : ℕ) (next : Mode) where
   pass_no : (mode : Mode) → Pass mode ≡ Give kind l next → ⊥
@@ -65,7 +63,7 @@ module _ (kind : TokenKind) (l : ℕ) (next : Mode) where
   single_alone places.Directive line b rest e =
       elim (cases_Bool (eqb b 92 && is_next 10 rest)) [
         | inl t ↦ absurd (pass_no modes.Continued (rw t at e))
-        | inr f ↦ let none = and_false (eqb b 92) in rw none (rw f at e)
+        | inr f ↦ let none = and-false (eqb b 92) in rw none (rw f at e)
       ]
 
   begun_alone : (place : Place) (line b : ℕ) (rest : List ℕ) → begun place line b rest ≡ Give kind l next → begun place line b [] ≡ Give kind l next
@@ -90,7 +88,7 @@ module _ (kind : TokenKind) (l : ℕ) (next : Mode) where
                     | inr h ↦
                         elim (cases_Bool (eqb b 47 && is_next 42 rest)) [
                           | inl t ↦ absurd (pass_no (modes.Opening place line) (rw (f, g, h, t) at e))
-                          | inr i ↦ let none = and_false (eqb b 47) in rw (f, g, none) (begun_alone place line b rest (rw (f, g, h, i) at e))
+                          | inr i ↦ let none = and-false (eqb b 47) in rw (f, g, none) (begun_alone place line b rest (rw (f, g, h, i) at e))
                         ]
                   ]
             ]
@@ -212,11 +210,6 @@ mode_tokens (modes.Block place began) line = inl refl
 mode_tokens (modes.Star place began) line = inl refl
 mode_tokens modes.Continued line = ended_tokens places.Directive line
 
-word_cons : (b : ℕ) (bytes : List ℕ) → is_of Word b ≡ true → prefix Word (b ∷ bytes) ≡ b ∷ prefix Word bytes
-word_cons b bytes t =
-    let one : 1 + prefix_len (is_of Word) bytes ≡ suc (prefix_len (is_of Word) bytes) = omega arith in
-    rw t (ap (λ (i : ℕ). take i (b ∷ bytes)) one)
-
 word_none : (b : ℕ) (bytes : List ℕ) → is_of Word b ≡ false → prefix Word (b ∷ bytes) ≡ []
 word_none b bytes f = rw f refl
 
@@ -224,7 +217,7 @@ word_head : (bytes : List ℕ) → (prefix Word bytes ≡ []) ⊎ SameHead (pref
 word_head [] = inl refl
 word_head (b ∷ bytes) =
     elim (cases_Bool (is_of Word b)) [
-      | inl t ↦ inr (subst (λ (w : List ℕ). SameHead w (b ∷ bytes)) (sym (word_cons b bytes t)) refl)
+      | inl t ↦ inr (subst (λ (w : List ℕ). SameHead w (b ∷ bytes)) (sym (prefix_more b bytes t)) refl)
       | inr f ↦ inl (word_none b bytes f)
     ]
 
@@ -232,7 +225,7 @@ word_twice : (bytes : List ℕ) → prefix Word (prefix Word bytes) ≡ prefix W
 word_twice [] = refl
 word_twice (b ∷ bytes) =
     elim (cases_Bool (is_of Word b)) [
-      | inl t ↦ ap (prefix Word) (word_cons b bytes t) ∙ word_cons b (prefix Word bytes) t ∙ ap (λ (w : List ℕ). b ∷ w) (word_twice bytes) ∙ sym (word_cons b bytes t)
+      | inl t ↦ ap (prefix Word) (prefix_more b bytes t) ∙ prefix_more b (prefix Word bytes) t ∙ ap (λ (w : List ℕ). b ∷ w) (word_twice bytes) ∙ sym (prefix_more b bytes t)
       | inr f ↦ ap (prefix Word) (word_none b bytes f) ∙ sym (word_none b bytes f)
     ]
 
@@ -269,7 +262,7 @@ with_token t x lexemes before same (inr (end, kind, is)) = inr (end, kind, ap (�
 more_word : (b : ℕ) (xs ys : List ℕ) → prefix Word xs ≡ prefix Word ys → prefix Word (b ∷ xs) ≡ prefix Word (b ∷ ys)
 more_word b xs ys same =
     elim (cases_Bool (is_of Word b)) [
-      | inl t ↦ word_cons b xs t ∙ ap (λ (w : List ℕ). b ∷ w) same ∙ sym (word_cons b ys t)
+      | inl t ↦ prefix_more b xs t ∙ ap (λ (w : List ℕ). b ∷ w) same ∙ sym (prefix_more b ys t)
       | inr f ↦ word_none b xs f ∙ sym (word_none b ys f)
     ]
 

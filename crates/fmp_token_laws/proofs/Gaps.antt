@@ -8,6 +8,7 @@ use Rattle.fmp_bytes.specs.declared.classes.Class.TheVariants.{Space, Word, Lett
 use Rattle.fmp_bytes.specs.declared.classes.Class.TheVariants as class
 use Rattle.fmp_bytes.specs.Bytes.{is_of, prefix, after}
 use Rattle.fmp_bytes.proofs.Prefixes.{prefix-after, after-stops, list_all-take_while}
+use Rattle.fmp_bytes.proofs.Included.{word-letter}
 use Rattle.fmp_tokens.specs.declared.tokens.TokenKind.{TokenKind}
 use Rattle.fmp_tokens.specs.declared.tokens.TokenKind.TheVariants as kinds
 use Rattle.fmp_tokens.specs.declared.tokens.End.TheVariants.{Done, Bad}
@@ -19,7 +20,7 @@ use Rattle.fmp_tokens.specs.Steps.{is_next, at_line_end, single_in_code, single,
 use Rattle.fmp_tokens.specs.Lexing.{text_of, lexed}
 use Rattle.fmp_token_laws.specs.Parts.{Blank, BlockComment, LineComment, JoinedLine, Identifier, Digits, Symbol, Quoted, Hash, LineEnd, is_directive, begins_with, ends_comment, ends_behind, opens_comment, stands_alone, may_stand}
 use Rattle.fmp_token_laws.specs.Tokens.{Glyph}
-use Rattle.fmp_token_laws.proofs.Bytes.{passes, gives, stops, word_no_letter, word_no_digit, word_is_digit, letter_is_word, digit_is_word, begun_in_gap, blank_in_gap, identifier_in_gap, digits_in_gap, symbol_in_gap}
+use Rattle.fmp_token_laws.proofs.Bytes.{passes, gives, stops, word_no_letter, word_no_digit, word_is_digit, digit_is_word, begun_in_gap, blank_in_gap, identifier_in_gap, digits_in_gap, symbol_in_gap}
 use Rattle.fmp_token_laws.proofs.Left.{glyphs_in, GapLeft, IsLeft, part_before}
 
 -- ---- words
@@ -181,7 +182,7 @@ module _ (place : Place) (line b : ℕ) (bytes : List ℕ) (tail : IsLeft bytes)
       let word = list_all-take_while (is_of Word) bytes in
       let may = and_from (is_of Letter b && list_all (is_of Word) (prefix Word bytes)) _ (and_from (is_of Letter b) _ letter word) (not_from_false _ (word_stops (after Word bytes) (after-stops Word bytes))) in
       let here = part_before place (Identifier (b ∷ prefix Word bytes)) (after Word bytes) _ may (tail _ _ (rw e at done)) in
-      rw e (whole_word place kinds.Identifier b bytes _ (letter_is_word b letter) here)
+      rw e (whole_word place kinds.Identifier b bytes _ (word-letter b letter) here)
 
   digits_left : is_of class.Digit b ≡ true → GapLeft place (b ∷ bytes) (glyphs_in (modes.Gap place) line (b ∷ bytes))
   unfolding step_of text_of

@@ -6,6 +6,7 @@ use Rattle.fmp_bytes.specs.declared.classes.Class.TheVariants.{Word, Letter}
 use Rattle.fmp_bytes.specs.declared.classes.Class.TheVariants as class
 use Rattle.fmp_bytes.specs.Bytes.{is_of, prefix, is_identifier}
 use Rattle.fmp_bytes.proofs.Prefixes.{prefix-append, stops-cons}
+use Rattle.fmp_bytes.proofs.Included.{word-letter}
 use Rattle.fmp_tokens.specs.declared.tokens.TokenKind.{TokenKind}
 use Rattle.fmp_tokens.specs.declared.tokens.TokenKind.TheVariants as kinds
 use Rattle.fmp_tokens.specs.declared.tokens.End.TheVariants.{Done}
@@ -17,7 +18,7 @@ use Rattle.fmp_tokens.specs.Steps.{behind, at_line_end, single_in_code, single, 
 use Rattle.fmp_tokens.specs.Lexing.{text_of, ended_in, lexed, lexed_text}
 use Rattle.fmp_token_laws.specs.Parts.{Part, Blank, BlockComment, LineComment, JoinedLine, Identifier, Digits, Symbol, Quoted, Hash, LineEnd, TextEnd, written, is_directive, begins_with, is_number, may_stand}
 use Rattle.fmp_token_laws.specs.Tokens.{Glyph, glyph_of, glyphs_of, place_behind, SpellsParts, SpellsTokens}
-use Rattle.fmp_token_laws.proofs.Bytes.{passes, gives, letter_is_word, digit_is_word, blank_in_gap, identifier_in_gap, digits_in_gap, symbol_in_gap}
+use Rattle.fmp_token_laws.proofs.Bytes.{passes, gives, digit_is_word, blank_in_gap, identifier_in_gap, digits_in_gap, symbol_in_gap}
 use Rattle.fmp_token_laws.proofs.Passing.{ReadsTo, Follows, one_read, block_passes, line_comment_passes, slash_first, string_passes, word_passes}
 
 no_word_first : (rest : List ℕ) → begins_with Word rest ≡ false → prefix_len (is_of Word) rest ≡ 0
@@ -42,7 +43,7 @@ identifier_read place [] rest glyphs may follows line = absurd (false≢true may
 identifier_read place (b ∷ word) rest glyphs may follows line =
     let ends = and_parts (is_identifier (b ∷ word)) _ may in
     let parts = and_parts (is_of Letter b) _ ends.0 in
-    let all = and_from (is_of Word b) _ (letter_is_word b parts.0) parts.1 in
+    let all = and_from (is_of Word b) _ (word-letter b parts.0) parts.1 in
     word_read place kinds.Identifier b word rest glyphs line (identifier_in_gap place line b (word ++ rest) parts.0) refl all (not-true _ ends.1) follows
 
 digits_read : (place : Place) (word rest : List ℕ) (glyphs : List Glyph) → may_stand place (Digits word) rest ≡ true → Follows (behind place) rest glyphs

@@ -1,7 +1,7 @@
 -- What a comment passes over leaves what is read as it is.
 use Rattle.std.proofs.Common.{◌≡◌, ◌≢◌, ℕ, zero, suc, ◌-◌, ◌<◌, ◌≤◌, true, List, [], ◌∷◌, length, take, drop, slice_index, refl, ap, ◌∙◌, sym, arith}
 use Rattle.std.proofs.lemmas.Bool.{ne_eqb}
-use Rattle.std.proofs.lemmas.Grind.{common_steps}
+use Rattle.fmp_bytes.proofs.Cutting.{take-to_end}
 use Rattle.memchr.specs.Find.{is_byte2}
 use Rattle.fmp_tokens.specs.declared.modes.Mode.{Mode}
 use Rattle.fmp_tokens.specs.declared.modes.Mode.TheVariants as modes
@@ -34,9 +34,6 @@ block_quiet : (place : Place) (began b : ℕ) → b ≢ 10 → b ≢ 42 → IsQu
 unfolding step_of
 block_quiet place began b feed star line rest = (rw (ne_eqb b 42 star) refl, rw (ne_eqb b 10 feed) refl)
 
-whole_rest : (bytes : List ℕ) (n : ℕ) → take (length bytes - n) (drop n bytes) ≡ drop n bytes
-whole_rest bytes n = grind (arith, common_steps)
-
 -- neither of two bytes stands below a place
 abbrev IsClear : ℕ → ℕ → List ℕ → ℕ → Type 0
 IsClear a b bytes n = (j : ℕ) → 0 ≤ j → j < n → is_byte2 a b (slice_index bytes j) ≡ true → ⊥
@@ -51,10 +48,10 @@ pub past_line : (place : Place) (line : ℕ) (bytes : List ℕ) (n : ℕ) → n 
     → lexed (modes.LineComment place) line bytes ≡ lexed (modes.LineComment place) line (take (length bytes - n) (drop n bytes))
 past_line place line bytes n few clear =
     passed_over (modes.LineComment place) line bytes n few
-    (λ j low. line_quiet place (slice_index bytes j) (not_first 10 92 bytes n j clear low refl) (not_second 10 92 bytes n j clear low refl)) ∙ ap (lexed (modes.LineComment place) line) (sym (whole_rest bytes n))
+    (λ j low. line_quiet place (slice_index bytes j) (not_first 10 92 bytes n j clear low refl) (not_second 10 92 bytes n j clear low refl)) ∙ ap (lexed (modes.LineComment place) line) (sym (take-to_end bytes n))
 
 pub past_star : (place : Place) (began line : ℕ) (bytes : List ℕ) (n : ℕ) → n ≤ length bytes → IsClear 10 42 bytes n
     → lexed (modes.Block place began) line bytes ≡ lexed (modes.Block place began) line (take (length bytes - n) (drop n bytes))
 past_star place began line bytes n few clear =
     passed_over (modes.Block place began) line bytes n few
-    (λ j low. block_quiet place began (slice_index bytes j) (not_first 10 42 bytes n j clear low refl) (not_second 10 42 bytes n j clear low refl)) ∙ ap (lexed (modes.Block place began) line) (sym (whole_rest bytes n))
+    (λ j low. block_quiet place began (slice_index bytes j) (not_first 10 42 bytes n j clear low refl) (not_second 10 42 bytes n j clear low refl)) ∙ ap (lexed (modes.Block place began) line) (sym (take-to_end bytes n))

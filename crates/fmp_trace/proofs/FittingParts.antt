@@ -4,7 +4,7 @@ use Rattle.std.specs.Prelude.{codes}
 use Rattle.std.specs.Option.{option_or}
 use Rattle.std.specs.Str.{bytes_eq}
 use Rattle.std.proofs.lemmas.Bool.{and_parts, leb-true}
-use Rattle.std.proofs.lemmas.Option.{slice_get_within}
+use Rattle.std.proofs.lemmas.Option.{slice_get_within, cond_some}
 use Rattle.fmp_codes.specs.Numbers.{as_proc, as_task, as_object}
 use Rattle.fmp_codes.specs.declared.calls.Call.{Call}
 use Rattle.fmp_codes.specs.declared.codes.Code.{Code}
@@ -26,7 +26,7 @@ use Rattle.fmp_names.specs.Names.{NameLists, AreValid, names_of, name_of}
 use Rattle.fmp_names.specs.Names.{number_of as number_of_name}
 use Rattle.fmp_text.specs.Reading.{call_in}
 use Rattle.fmp_text.proofs.Limited.{mapped, signed_within, call_in_bits}
-use Rattle.fmp_bytes.proofs.Parsed.{and_then_parts, tested_some}
+use Rattle.fmp_bytes.proofs.Parsed.{and_then_parts}
 use Rattle.fmp_names.proofs.Placed.{name_of-number_of, numbered}
 use Rattle.fmp_text.proofs.SpelledCalls.{call_is_spelled}
 use Rattle.fmp_codes.specs.Records.{IsWithin, ValueFits, AnswerFits}
@@ -47,7 +47,7 @@ in_processors-fits : (most : ℕ) (found : Option ℕ) (p : Proc) → most ≤ 8
 unfolding in_processors
 in_processors-fits most None p few e = absurd cc
 in_processors-fits most (Some n) p few e =
-    let t = tested_some (leb 1 n && leb n most) (as_proc n) p e in
+    let t = cond_some (leb 1 n && leb n most) (as_proc n) p e in
     let parts = and_parts (leb 1 n) (leb n most) t.0 in
     let number = ap (λ (q : Proc). q.number) t.1 in
     omega (arith, number, leb-true 1 n parts.0, leb-true n most parts.1, few)

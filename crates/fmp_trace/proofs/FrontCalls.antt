@@ -25,11 +25,11 @@ use Rattle.fmp_text.specs.Fronts.{IsFront}
 use Rattle.fmp_text.specs.Grammar.{AreBlank, Padded, SpellsPieces, SpellsArguments, SpellsEnclosed, FollowsName, SpellsCall}
 use Rattle.fmp_text.specs.Reading.{call_in}
 use Rattle.fmp_text.proofs.Spelled.{value_at-spelled}
-use Rattle.fmp_text.proofs.SpelledCalls.{call_in-spelled, not-word}
+use Rattle.fmp_text.proofs.SpelledCalls.{call_in-spelled, not-word, token_bytes}
 use Rattle.fmp_trace.specs.Guess.{is_bare_name, cut_call}
 use Rattle.fmp_trace.specs.Heads.{called_event, event_at}
 use Rattle.fmp_trace.proofs.Bytes.{other_than}
-use Rattle.fmp_trace.proofs.GuessedCalls.{is_bare_name-text_of, argument_bytes}
+use Rattle.fmp_trace.proofs.GuessedCalls.{is_bare_name-text_of}
 
 -- ---- no closing parenthesis stands before that of the call
 
@@ -50,7 +50,7 @@ unfolding is_of
 open_piece token piece argument padded =
     ap (list_all is_open) padded.parts
     ∙ list_all-both is_open padded.before (token ++ padded.behind) (open_blanks padded.before padded.before_blank)
-    (list_all-both is_open token padded.behind (other_than (is_of Argument) 41 refl token (argument_bytes token argument).1) (open_blanks padded.behind padded.behind_blank))
+    (list_all-both is_open token padded.behind (other_than (is_of Argument) 41 refl token (token_bytes token argument).1) (open_blanks padded.behind padded.behind_blank))
 
 open_pieces : (names : NameLists) (kinds : List ArgumentKind) (values : List Value) (pieces : List (List ℕ)) → AreValid names → SpellsPieces names kinds values pieces → list_all (list_all is_open) pieces ≡ true
 open_pieces names [] [] [] valid spelled = refl

@@ -4,12 +4,12 @@ use Rattle.std.specs.Prelude.{decimal}
 use Rattle.std.specs.Fmt.{signed_decimal}
 use Rattle.std.specs.List.{list_all, prefix_len, join_with_byte}
 use Rattle.std.specs.Option.{option_map_or}
-use Rattle.std.proofs.lemmas.Bool.{cases_Bool, or_cases, lt-ltb}
+use Rattle.std.proofs.lemmas.Bool.{cases_Bool, lt-ltb}
 use Rattle.std.proofs.lemmas.List.{append-nil, take_at}
 use Rattle.fmp_codes.specs.declared.calls.Call.{Call}
 use Rattle.fmp_codes.specs.declared.calls.Mode.TheVariants as modes
 use Rattle.fmp_bytes.specs.declared.classes.Class.TheVariants.{Blank, Word, Argument, Printed}
-use Rattle.fmp_bytes.specs.Bytes.{is_of, is_identifier, prefix, after, cut_at}
+use Rattle.fmp_bytes.specs.Bytes.{is_of, prefix, after, cut_at}
 use Rattle.fmp_bytes.specs.Numerals.{signed_of}
 use Rattle.fmp_bytes.proofs.Cutting.{cut_at-append}
 use Rattle.fmp_bytes.proofs.Prefixes.{prefix-append, stops-cons, list_all-weaker, list_all-both}
@@ -24,13 +24,13 @@ use Rattle.fmp_calls.specs.declared.kinds.ObjectKind.TheVariants as objects
 use Rattle.fmp_calls.specs.declared.kinds.Value.{Value}
 use Rattle.fmp_calls.specs.declared.kinds.Value.TheVariants as values
 use Rattle.fmp_calls.specs.Table as table
-use Rattle.fmp_text.specs.Argument.{constant_of, ranged, number32, is_argument}
+use Rattle.fmp_text.specs.Argument.{constant_of, ranged, number32}
 use Rattle.fmp_text.specs.Grammar.{IsNumber, SpellsValue, SpellsPieces, SpellsArguments, FollowsName}
 use Rattle.fmp_names.specs.Names.{NameLists, AreValid, name_of}
 use Rattle.fmp_text.specs.Reading.{call_in}
 use Rattle.fmp_text.proofs.Spelled.{value_at-spelled}
-use Rattle.fmp_text.proofs.SpelledCalls.{call_in-spelled}
-use Rattle.fmp_bytes.proofs.Tokens.{AreOfArgument, identifier_bytes, identifier_words, number_bytes}
+use Rattle.fmp_text.proofs.SpelledCalls.{call_in-spelled, token_bytes}
+use Rattle.fmp_bytes.proofs.Tokens.{identifier_bytes, identifier_words}
 use Rattle.fmp_trace.specs.Guess.{is_bare_name, cut_call}
 use Rattle.fmp_trace.specs.Values.{named, object_text, value_text, arguments_from, behind_name, call_text}
 use Rattle.fmp_trace.proofs.Bytes.{other_than, inner, inner-argument, printed-inner}
@@ -124,14 +124,9 @@ value_spelled names kinds.Mode (values.Number z) fits = absurd fits
 value_spelled names kinds.Mode (values.Pattern bits) fits = absurd fits
 value_spelled names kinds.Mode (values.Data z) fits = absurd fits
 
--- an argument by its form is made of the bytes of arguments
-pub argument_bytes : (token : List ℕ) → is_argument token ≡ true → AreOfArgument token
-unfolding is_argument
-argument_bytes token h = elim (or_cases (is_identifier token) _ h) [ inl t ↦ identifier_bytes token t | inr t ↦ number_bytes token t ]
-
 value_bytes : (names : NameLists) (kind : ArgumentKind) (value : Value) → AreValid names → ArgumentFits kind value → list_all (is_of Argument) (value_text names kind value) ≡ true
 value_bytes names kind value valid fits =
-    (argument_bytes (value_text names kind value) (value_at-spelled names kind (value_text names kind value) value valid (value_spelled names kind value fits)).0).1
+    (token_bytes (value_text names kind value) (value_at-spelled names kind (value_text names kind value) value valid (value_spelled names kind value fits)).0).1
 
 -- ---- arguments
 
@@ -189,16 +184,16 @@ arguments_bytes names (kind ∷ kinds) [] valid fits = absurd fits
 abbrev unclosed : NameLists → Call → List ℕ
 unclosed names call = table.text_of call ++ (40 ∷ arguments_from names 0 (table.kinds_of call) (table.values_of call))
 
-behind_name-bare : (names : NameLists) (call : Call) → table.is_bare call ≡ true → behind_name names call ≡ []
+pub behind_name-bare : (names : NameLists) (call : Call) → table.is_bare call ≡ true → behind_name names call ≡ []
 unfolding behind_name
 behind_name-bare names call bare = rw bare refl
 
-behind_name-enclosed : (names : NameLists) (call : Call) → table.is_bare call ≡ false
+pub behind_name-enclosed : (names : NameLists) (call : Call) → table.is_bare call ≡ false
     → behind_name names call ≡ 40 ∷ (arguments_from names 0 (table.kinds_of call) (table.values_of call) ++ (41 ∷ []))
 unfolding behind_name
 behind_name-enclosed names call bare = rw bare refl
 
-call_text-bare : (names : NameLists) (call : Call) → table.is_bare call ≡ true → call_text names call ≡ table.text_of call
+pub call_text-bare : (names : NameLists) (call : Call) → table.is_bare call ≡ true → call_text names call ≡ table.text_of call
 unfolding call_text
 call_text-bare names call bare = ap (λ (r : List ℕ). table.text_of call ++ r) (behind_name-bare names call bare) ∙ append-nil (table.text_of call)
 

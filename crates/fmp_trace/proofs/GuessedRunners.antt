@@ -1,12 +1,12 @@
 -- The runner that is printed is guessed right: no two objects have one name, of whatever kinds.
-use Rattle.std.proofs.Common.{◌≡◌, ◌≢◌, ℕ, zero, suc, ◌-◌, ◌<◌, ◌≤◌, Bool, true, false, cond, inl, inr, List, [], ◌∷◌, length, get_or, set, Option, Some, None, option_map, slice_get, refl, sym, ap, ◌∙◌, arith}
+use Rattle.std.proofs.Common.{◌≡◌, ◌≢◌, ℕ, ◌-◌, ◌<◌, ◌≤◌, true, false, inl, inr, List, [], length, get_or, set, Option, Some, None, option_map, refl, sym, ap, ◌∙◌, arith}
 use Rattle.std.specs.Prelude.{codes}
 use Rattle.std.specs.List.{list_all, sum_by}
 use Rattle.std.specs.Str.{bytes_eq}
 use Rattle.std.proofs.lemmas.Bool.{cases_Bool, false≢true}
 use Rattle.std.proofs.lemmas.Slice.Eq.{bytes_eq-Decides}
 use Rattle.std.proofs.lemmas.List.{get_or-set_other, length-set}
-use Rattle.std.proofs.lemmas.List.Sums.{sum_by-cons, sum_by-set}
+use Rattle.std.proofs.lemmas.List.Sums.{sum_by-set}
 use Rattle.fmp_codes.specs.Numbers.{as_task, as_object}
 use Rattle.fmp_codes.specs.declared.records.Runner.{Runner}
 use Rattle.fmp_codes.specs.declared.records.Runner.TheVariants as runners
@@ -18,7 +18,7 @@ use Rattle.fmp_calls.specs.declared.kinds.ObjectKind.{ObjectKind}
 use Rattle.fmp_calls.specs.declared.kinds.ObjectKind.TheVariants as objects
 use Rattle.fmp_names.specs.Names.{NameLists, AreValid, names_of, name_of, times}
 use Rattle.fmp_names.specs.Names.{number_of as number_of_name}
-use Rattle.fmp_names.proofs.Placed.{name_of-number_of, numbered}
+use Rattle.fmp_names.proofs.Placed.{name_of-number_of, numbered, once_at}
 use Rattle.fmp_names.proofs.Valid.{place_of-lt}
 use Rattle.fmp_trace.specs.Fits.{IsNamed, RunnerFits}
 use Rattle.fmp_trace.specs.GuessParts.{task_in, object_in, named_runner, runner_in}
@@ -27,18 +27,6 @@ use Rattle.fmp_trace.specs.Values.{named}
 use Rattle.fmp_trace.proofs.GuessedValues.{printed_name, task_guessed, object_guessed, name_bytes}
 
 -- ---- names of two kinds
-
-counted_once : (b : Bool) → b ≡ true → ◌≡◌ {A = ℕ} (cond b 1 0) 1
-counted_once true e = refl
-counted_once false e = absurd cc
-
--- a name that stands in a list is counted there
-once_in : (name : List ℕ) (list : List (List ℕ)) (i : ℕ) → slice_get list i ≡ Some name → 1 ≤ times name list
-once_in name [] i there = absurd cc
-once_in name (other ∷ list) zero there =
-    let same : other ≡ name = cc in
-    omega (arith, sum_by-cons (λ o. cond (bytes_eq name o) 1 0) other list, counted_once (bytes_eq name other) ((bytes_eq-Decides name other).1 (sym same)))
-once_in name (other ∷ list) (suc i) there = omega (arith, sum_by-cons (λ o. cond (bytes_eq name o) 1 0) other list, once_in name list i there)
 
 twice : (f : List (List ℕ) → ℕ) (lists : List (List (List ℕ))) (i j : ℕ) → f [] ≡ 0 → i ≢ j → i < length lists → j < length lists → 1 ≤ f (get_or lists i []) → 1 ≤ f (get_or lists j []) → 2 ≤ sum_by f lists
 twice f lists i j none apart within_i within_j here there =
@@ -51,8 +39,8 @@ twice f lists i j none apart within_i within_j here there =
 other_kind : (names : NameLists) (kind other : ObjectKind) (n : ℕ) (name : List ℕ) (found : Option ℕ) → AreValid names → place_of kind ≢ place_of other → name_of names (kinds.Object kind) n ≡ Some name → number_of_name names (kinds.Object other) name ≡ found → found ≡ None
 other_kind names kind other n name None valid apart is_name found = refl
 other_kind names kind other n name (Some m) valid apart is_name found =
-    let here = once_in name (names_of names (kinds.Object kind)) (n - 1) (numbered names (kinds.Object kind) n name is_name).1 in
-    let there = once_in name (names_of names (kinds.Object other)) (m - 1) (numbered names (kinds.Object other) m name (name_of-number_of names (kinds.Object other) m name found)).1 in
+    let here = once_at name (names_of names (kinds.Object kind)) (n - 1) (numbered names (kinds.Object kind) n name is_name).1 in
+    let there = once_at name (names_of names (kinds.Object other)) (m - 1) (numbered names (kinds.Object other) m name (name_of-number_of names (kinds.Object other) m name found)).1 in
     let kinds_are = valid.kinds in
     let more = twice (times name) names.objects (place_of kind) (place_of other) refl apart (omega (arith, kinds_are, place_of-lt kind)) (omega (arith, kinds_are, place_of-lt other)) here there in
     absurd (omega (arith, more, valid.distinct name))

@@ -30,12 +30,12 @@ use Rattle.fmp_names.specs.Names.{number_of as number_of_name}
 use Rattle.fmp_names.specs.Names as names
 use Rattle.fmp_names.proofs.Placed.{number_of-name_of, object_name}
 use Rattle.fmp_codes.specs.Records.{IsWithin, ValueFits, AnswerFits}
+use Rattle.fmp_codes.proofs.Same.{as_proc-number, as_task-number, as_object-number}
 use Rattle.fmp_trace.specs.Fits.{IsNamed, RunningFits}
 use Rattle.fmp_trace.specs.GuessParts.{signed_in, task_in, object_in, code_in, value_in, coded_in, done_in, word_answer, answer_in, running_in}
 use Rattle.fmp_trace.specs.Lines.{code_text, answer_text, task_text, running_text}
 use Rattle.fmp_trace.specs.Values.{named}
 use Rattle.fmp_trace.proofs.Bytes.{other_than, decimal_bytes, of_words, code_words}
-use Rattle.fmp_trace.proofs.Told.{as_proc-number, as_task-number, as_object-number}
 
 -- ---- numbers
 

@@ -25,5 +25,5 @@ pub use lines::{
     put_answer, put_core, put_event, put_line, put_lost, put_releases, put_requests,
     put_run_change, put_runner, put_running, put_task, trace_line, trace_text,
 };
-pub use reading::{next_line, read_trace, validate_from};
+pub use reading::{is_line, next_line, read_trace, validate_from};
 pub use values::{put_named, put_number, put_signed};

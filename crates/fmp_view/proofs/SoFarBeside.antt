@@ -6,9 +6,10 @@ use Rattle.std.proofs.lemmas.List.{append-nil}
 use Rattle.fmp_bytes.specs.Bytes.{cut_at}
 use Rattle.fmp_codes.specs.declared.records.Event.{Event}
 use Rattle.fmp_codes.specs.declared.records.Record.{Record}
-use Rattle.fmp_check.specs.Checking.{cores_from, own_text}
-use Rattle.fmp_check.specs.Differences.{Difference, differences, differences_from}
+use Rattle.fmp_check.specs.Checking.{own_text}
+use Rattle.fmp_check.specs.Differences.{differences}
 use Rattle.fmp_check.proofs.CheckedTexts.{told}
+use Rattle.fmp_check.proofs.Compared.{differing}
 use Rattle.fmp_machine.specs.Arrivals.{State, numbered}
 use Rattle.fmp_machine.specs.Boot.{booted}
 use Rattle.fmp_machine.specs.Step.{step}
@@ -21,10 +22,6 @@ use Rattle.fmp_trace.specs.Lines.{core_text, line_text, lines_from}
 use Rattle.fmp_trace.specs.Prints.{PrintsWithin}
 use Rattle.fmp_view.specs.Given.{given_beside, given_text}
 use Rattle.fmp_view.proofs.Lines.{after_is, core_is, event_is, is_told, none_left, not_over}
-
--- where the lines of these records, from line n on, differ from what the machine answers in state w to their events
-abbrev pub differing : NameLists → State → ℕ → List Record → List Difference
-differing names w n rs = differences_from n (cores_from names n rs) (cores_from names n (told w rs))
 
 -- one record more
 given-cons : (names : NameLists) (w : State) (n : ℕ) (r : Record) (rs : List Record)

@@ -1,6 +1,6 @@
 -- Changes that are put in their places leave there what the model says.
-use Rattle.std.proofs.Common.{◌≡◌, ◌⊎◌, ◌<◌, ℕ, zero, suc, Bool, true, false, not, ◌||◌, ◌&&◌, eqb, List, [], ◌∷◌, ◌++◌, inl, inr, refl, sym, ap, subst, ◌∙◌, arith}
-use Rattle.std.proofs.lemmas.Bool.{cases_Bool, eqb-false, eqb-true}
+use Rattle.std.proofs.Common.{◌≡◌, ◌⊎◌, ◌<◌, ℕ, zero, suc, Bool, true, false, not, ◌||◌, eqb, List, [], ◌∷◌, ◌++◌, inl, inr, refl, sym, ap, subst, ◌∙◌, arith}
+use Rattle.std.proofs.lemmas.Bool.{cases_Bool, eqb-false, eqb-true, and_parts, and_cases}
 use Rattle.std.proofs.lemmas.Slice.Eq.{bytes_eq-Decides}
 use Rattle.std.specs.Str.{bytes_eq}
 use Rattle.fmp_codes.specs.declared.records.Event.{Event}
@@ -71,21 +71,9 @@ in-second : (s : Signal) (i : ℕ) (xs ys : List Change) → IsIn s i ys → IsI
 in-second s i [] ys here = here
 in-second s i (x ∷ xs) ys here = inr (in-second s i xs ys here)
 
--- both tests hold
-both_true : (a b : Bool) → (a && b) ≡ true → (a ≡ true) × (b ≡ true)
-both_true true true h = (refl, refl)
-both_true true false h = absurd (cc)
-both_true false b h = absurd (cc)
-
--- one of both tests does not hold
-one_false : (a b : Bool) → (a && b) ≡ false → (a ≡ false) ⊎ (b ≡ false)
-one_false true true h = absurd (cc)
-one_false true false h = inr refl
-one_false false b h = inl refl
-
 not_off : (x : Change) (s : Signal) (i : ℕ) → s ≡ x.signal → i ≡ x.place → is_at s i x ≡ false → ⊥
 not_off x s i signal place off =
-    elim (one_false (eqb (rank s) (rank x.signal)) (eqb i x.place) off) [
+    elim (and_cases (eqb (rank s) (rank x.signal)) (eqb i x.place) off) [
       | inl f ↦ eqb-false (rank s) (rank x.signal) f (ap rank signal)
       | inr f ↦ eqb-false i x.place f place
     ]
@@ -96,7 +84,7 @@ module _ (v : Moment) where
   with_right x t s i here right =
       elim (cases_Bool (is_at s i x)) [
         | inl at ↦
-            let p = both_true (eqb (rank s) (rank x.signal)) (eqb i x.place) at in
+            let p = and_parts (eqb (rank s) (rank x.signal)) (eqb i x.place) at in
             let signal : s ≡ x.signal = same_rank s x.signal (eqb-true (rank s) (rank x.signal) p.0) in
             let place : i ≡ x.place = eqb-true i x.place p.1 in
             rw at (rw (signal, place) here)

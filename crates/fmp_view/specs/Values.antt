@@ -1,6 +1,6 @@
 -- The texts of the values. Places count from 0, and numbers from 1.
-use Rattle.std.specs.Prelude.{ℕ, ◌+◌, Bool, true, false, not, ◌==◌, Option, None, Some, List, [], ◌∷◌, ◌++◌, length, take, count_by, if◌then◌else◌, codes, decimal}
-use Rattle.fmp_codes.specs.Numbers.{as_object, as_proc, as_task}
+use Rattle.std.specs.Prelude.{ℕ, ◌+◌, Bool, true, false, Option, None, Some, List, [], ◌∷◌, ◌++◌, length, codes, decimal}
+use Rattle.fmp_codes.specs.Numbers.{as_object, as_proc, as_task, task_number}
 use Rattle.fmp_codes.specs.declared.numbers.Object.{Object}
 use Rattle.fmp_codes.specs.declared.numbers.Pri.{Pri}
 use Rattle.fmp_codes.specs.declared.numbers.Proc.{Proc}
@@ -8,25 +8,21 @@ use Rattle.fmp_codes.specs.declared.numbers.Task.{Task}
 use Rattle.fmp_codes.specs.declared.records.Runner.{Runner}
 use Rattle.fmp_codes.specs.declared.records.Runner.TheVariants as runners
 use Rattle.fmp_machine.specs.World.{item, processor, task}
-use Rattle.fmp_machine.specs.Objects.{alarm, cyclic, eventflag, holder, pool, semaphore, values}
+use Rattle.fmp_machine.specs.Objects.{alarm, cyclic, eventflag, holder, pool, semaphore, values, free_blocks}
 use Rattle.fmp_machine.specs.declared.machine.Pool.{Pool}
 use Rattle.fmp_machine.specs.declared.machine.Processor.{Processor}
 use Rattle.fmp_machine.specs.declared.machine.TaskRecord.{TaskRecord}
 use Rattle.fmp_machine.specs.declared.machine.Wait.{Wait}
 use Rattle.fmp_machine.specs.declared.machine.Wait.TheVariants as waits
+use Rattle.fmp_machine.specs.TaskStates.{task_state}
 use Rattle.fmp_view.specs.declared.signal.Signal.{Signal}
 use Rattle.fmp_view.specs.declared.signal.Signal.TheVariants as signals
-use Rattle.fmp_view.specs.declared.value.TaskState.{TaskState}
-use Rattle.fmp_view.specs.declared.value.TaskState.TheVariants.{Dormant, Ready, Running, Waiting, Suspended, WaitingSuspended}
+use Rattle.fmp_machine.specs.declared.states.TaskState.{TaskState}
+use Rattle.fmp_machine.specs.declared.states.TaskState.TheVariants.{Dormant, Ready, Running, Waiting, Suspended, WaitingSuspended}
 use Rattle.fmp_view.specs.declared.value.Value.{Value}
 use Rattle.fmp_view.specs.declared.value.Value.TheVariants as shown
 use Rattle.fmp_view.specs.Moments.{Moment}
 use Rattle.fmp_view.specs.Ticks.{started_text, until_of, until_text}
-
--- the number of a task or of a processor, or 0
-abbrev pub task_number : Option Task → ℕ
-task_number None = 0
-task_number (Some t) = t.number
 
 abbrev pub proc_number : Option Proc → ℕ
 proc_number None = 0
@@ -54,22 +50,6 @@ handlers_behind (r ∷ rs) = codes "," ++ handler_text r ++ handlers_behind rs
 abbrev pub due_text : List Runner → List ℕ
 due_text [] = codes "-"
 due_text (r ∷ rs) = handler_text r ++ handlers_behind rs
-
--- a task that could run does so, or is ready
-abbrev pub ready_state : Task → Option Task → TaskState
-ready_state t None = Ready
-ready_state t (Some u) = if u.number == t.number then Running else Ready
-
--- the state of an active task, which waits or not and is suspended or not
-abbrev pub active_state : Task → Option Wait → Bool → Option Task → TaskState
-active_state t (Some x) true running = WaitingSuspended
-active_state t (Some x) false running = Waiting
-active_state t None true running = Suspended
-active_state t None false running = ready_state t running
-
--- the state of a task, by what runs on its processor
-abbrev pub task_state : Task → TaskRecord → Option Task → TaskState
-task_state t x running = if x.active then active_state t x.wait x.suspended running else Dormant
 
 abbrev pub state_letter : TaskState → List ℕ
 state_letter Dormant = codes "-"
@@ -109,10 +89,6 @@ text_of (shown.Flags locked disabled latch) = flags_text locked disabled latch
 text_of (shown.State state wait until) = state_text state wait until
 text_of (shown.Rest p priority activations wakeups) = rest_text p priority activations wakeups
 text_of (shown.Started p until) = started_text p until
-
--- how many blocks of a pool are free
-abbrev pub free_blocks : Pool → ℕ
-free_blocks x = count_by not (take x.setup.blocks x.handed)
 
 abbrev pub flags_of : Processor → Value
 flags_of x = shown.Flags x.locked x.disabled x.latch

@@ -6,39 +6,10 @@ ghost use Rattle.fmp_view.specs.Ticks.{until_of};
 ghost use Rattle.fmp_view.specs.Values as spec;
 
 use crate::player::Player;
-use crate::value::{TaskState, Value};
+use crate::value::Value;
 use fmp_codes::{Object, Proc, Task};
-use fmp_machine::TaskRecord;
+use fmp_machine::TaskState;
 use fmp_primitives::{Objects, Words};
-
-/// The state of a task that could run: it does, or it is ready.
-fn ready_state(t: Task, running: Option<Task>) -> TaskState
-    ensures { result ≡ spec.ready_state t running }
-{
-    match running {
-        None => TaskState::Ready,
-        Some(other) => {
-            if other.number == t.number {
-                TaskState::Running
-            } else {
-                TaskState::Ready
-            }
-        }
-    }
-}
-
-/// The state of a task, where this task runs on its processor.
-fn task_state(t: Task, task: &TaskRecord, running: Option<Task>) -> TaskState
-    ensures { result ≡ spec.task_state t task.now running }
-{
-    match (task.active, task.wait.is_some(), task.suspended) {
-        (false, _, _) => TaskState::Dormant,
-        (true, true, true) => TaskState::WaitingSuspended,
-        (true, true, false) => TaskState::Waiting,
-        (true, false, true) => TaskState::Suspended,
-        (true, false, false) => ready_state(t, running),
-    }
-}
 
 impl Player {
     /// How many ticks there will have been for what is assigned to a processor, when so many more are over.
@@ -61,7 +32,7 @@ impl Player {
         let task = self.machine().task(t);
         let running = self.machine().processor(task.assigned).running;
         Value::State(
-            task_state(t, &task, running),
+            TaskState::of(t, &task, running),
             task.wait,
             self.until(task.assigned, self.wait_left(t)),
         )

@@ -4,20 +4,9 @@ ghost use Rattle.fmp_view.specs.Ticks as ticks;
 ghost use Rattle.fmp_view.specs.Values as spec;
 
 use fmp_codes::{Object, Pri, Proc, Runner};
-use fmp_machine::Wait;
+use fmp_machine::{TaskState, Wait};
 use fmp_trace::put_number;
 use std::alloc::AllocError;
-
-/// The state of a task.
-#[derive(Clone, Copy, Debug)]
-pub enum TaskState {
-    Dormant,
-    Ready,
-    Running,
-    Waiting,
-    Suspended,
-    WaitingSuspended,
-}
 
 /// A value of one of the signals, but for the handlers that are due, which are a list.
 #[derive(Clone, Copy, Debug)]

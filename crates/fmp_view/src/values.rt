@@ -1,6 +1,7 @@
 //! The value of each signal.
 ghost use Rattle.std.specs.Prelude.{◌≡◌, ◌++◌, ◌+◌, ◌<◌, length, IsTrue, MatchOption, OnOk};
-ghost use Rattle.fmp_machine.specs.Objects.{eventflag, holder, pool, semaphore, values};
+ghost use Rattle.fmp_codes.specs.Numbers.{task_number};
+ghost use Rattle.fmp_machine.specs.Objects.{eventflag, free_blocks, holder, pool, semaphore, values};
 ghost use Rattle.fmp_machine.specs.World.{processor};
 ghost use Rattle.fmp_view.specs.Signals as signals;
 ghost use Rattle.fmp_view.specs.Values as spec;
@@ -9,20 +10,10 @@ use crate::player::Player;
 use crate::signal::Signal;
 use crate::value::{Value, put_due, put_value};
 use fmp_codes::{Object, Proc, Task};
-use fmp_machine::{Pool, Processor};
+use fmp_machine::Processor;
 use fmp_plain_machine::PlainMachine;
 use fmp_primitives::{Objects, Words};
 use std::alloc::AllocError;
-
-/// The number of a task, or 0.
-fn task_number(task: Option<Task>) -> u64
-    ensures { result ≡ spec.task_number task }
-{
-    match task {
-        None => 0,
-        Some(t) => u64::from(t.number),
-    }
-}
 
 /// The number of a processor, or 0.
 fn proc_number(p: Option<Proc>) -> u64
@@ -32,18 +23,6 @@ fn proc_number(p: Option<Proc>) -> u64
         None => 0,
         Some(p) => u64::from(p.number),
     }
-}
-
-/// How many blocks of a pool are free.
-fn free_blocks(pool: &Pool) -> u64
-    ensures { result ≡ spec.free_blocks pool.now }
-{
-    let blocks = usize::from(pool.setup.blocks);
-    pool.handed
-        .iter()
-        .take(blocks)
-        .filter(|handed| !**handed)
-        .count() as u64
 }
 
 /// The value of a processor's flags.
@@ -57,9 +36,9 @@ fn flags_value(processor: Processor) -> Value
 /// The number of the task that runs on a processor, or 0.
 #[inline(always)]
 fn running_number(machine: &PlainMachine, p: Proc) -> u64
-    ensures { result ≡ (spec.task_number (processor machine.now p).running) }
+    ensures { result ≡ (task_number (processor machine.now p).running) }
 {
-    task_number(machine.processor(p).running)
+    u64::from(Task::number_of(machine.processor(p).running))
 }
 
 /// The count of a semaphore.
@@ -89,9 +68,9 @@ fn data_queue_number(machine: &PlainMachine, d: Object) -> u64
 /// How many blocks of a pool are free.
 #[inline(always)]
 fn pool_number(machine: &PlainMachine, m: Object) -> u64
-    ensures { result ≡ (spec.free_blocks (pool machine.now m)) }
+    ensures { result ≡ free_blocks (pool machine.now m) }
 {
-    free_blocks(&machine.pool(m))
+    machine.pool(m).free_blocks()
 }
 
 /// The number of the processor that holds a spin lock, or 0.

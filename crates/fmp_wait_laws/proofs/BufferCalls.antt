@@ -29,11 +29,12 @@ use Rattle.fmp_balance.specs.Pools.{returns}
 use Rattle.fmp_balance.specs.Queues.{sends, receives}
 use Rattle.fmp_balance.proofs.Called.{by_called}
 use Rattle.fmp_balance.proofs.Steps.{told as record_of}
+use Rattle.fmp_balance.proofs.Queues.{waits_to_receive, waits_to_send}
 use Rattle.fmp_setup.specs.Setup.{Setup}
 use Rattle.fmp_wait_laws.specs.Asked.{asked}
 use Rattle.fmp_wait_laws.specs.Waits.{OpenWaits}
 use Rattle.fmp_wait_laws.specs.Releases.{Gives}
-use Rattle.fmp_wait_laws.proofs.Named.{asked_named, names_itself, waits_to_send, waits_to_receive, waits_for_block}
+use Rattle.fmp_wait_laws.proofs.Named.{asked_named, names_itself, waits_for_block}
 use Rattle.fmp_wait_laws.proofs.Words.{IsKept}
 use Rattle.fmp_wait_laws.proofs.Follows.{Sound, CallFollows, follows_beside, refused_follows, done_follows, release_follows, done_or_waits_follow}
 

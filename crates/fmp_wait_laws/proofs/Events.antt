@@ -11,6 +11,7 @@ use Rattle.fmp_codes.specs.declared.records.Event.{Event}
 use Rattle.fmp_codes.specs.declared.records.Event.TheVariants as event
 use Rattle.fmp_codes.specs.declared.records.Record.{Record}
 use Rattle.fmp_codes.specs.declared.records.Release.{Release}
+use Rattle.fmp_codes.specs.Records.{is_taken}
 use Rattle.fmp_setup.specs.declared.setup.Timer.{Timer}
 use Rattle.fmp_setup.specs.Setup.{has_time, counts_for}
 use Rattle.fmp_machine.specs.Effects.{Effect}
@@ -23,7 +24,7 @@ use Rattle.fmp_machine.specs.Step.{tops, row_of, settled, before_event, unchange
 use Rattle.fmp_safety.proofs.Settling.{settle_is}
 use Rattle.fmp_balance.proofs.Steps.{told}
 use Rattle.fmp_balance.specs.Accepted.{is_accepted}
-use Rattle.fmp_wait_laws.specs.Waits.{is_taken, is_tick_for}
+use Rattle.fmp_wait_laws.specs.Waits.{is_tick_for}
 
 module _ {Q : Type 0} (k : Ordering Q) (w : World Q) where
   abbrev Tells : Event → World Q × Record → Type 0

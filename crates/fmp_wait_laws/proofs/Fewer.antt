@@ -15,9 +15,10 @@ use Rattle.fmp_codes.specs.declared.records.Runner.{Runner}
 use Rattle.fmp_codes.specs.declared.records.Runner.TheVariants as runner
 use Rattle.fmp_setup.specs.Setup.{Setup}
 use Rattle.fmp_setup.specs.Valid.{IsValid}
-use Rattle.fmp_machine.specs.Arrivals.{State, numbered}
-use Rattle.fmp_machine.specs.Step.{answers, step}
+use Rattle.fmp_machine.specs.Arrivals.{numbered}
+use Rattle.fmp_machine.specs.Step.{answers}
 use Rattle.fmp_machine.specs.Boot.{booted}
+use Rattle.fmp_machine.proofs.Replays.{length-answers}
 use Rattle.fmp_safety.specs.Runs.{AreOn}
 use Rattle.fmp_balance.specs.Queues.{is_call_of}
 use Rattle.fmp_wait_laws.specs.Asked.{OpenWait}
@@ -144,10 +145,6 @@ few_behind c pending (r ∷ rs) numbers cover fit =
     let here = length-left (caller_number r.runner ∷ numbers) r.releases fit.0.once (all_in c pending r (caller_number r.runner) numbers r.releases cover fit.0.fit) in
     let rest = few_behind c (after_record c pending r) rs (left (caller_number r.runner ∷ numbers) r.releases) (cover_after c pending r numbers cover) fit.1 in
     omega (arith, here, rest, sum_by-cons (λ (x : Record). length x.releases) r rs)
-
-length-answers : (m : State) (es : List Event) → length (answers numbered m es) ≡ length es
-length-answers m [] = refl
-length-answers m (e ∷ es) = let others = length-answers (step numbered m e).0 es in omega (arith, others)
 
 pub few_releases : (c : Setup) (es : List Event) → IsValid c → AreOn c.processors es → sum_by (λ (r : Record). length r.releases) (answers numbered (booted c) es) ≤ length es
 few_releases c es valid on =

@@ -4,6 +4,7 @@ use Rattle.std.specs.Prelude.{All, if◌then◌else◌, is_some, is_none, option
 use Rattle.std.specs.Option.{option_or}
 use Rattle.std.proofs.lemmas.Bool.{cond_both, cond-false, false≢true}
 use Rattle.std.proofs.lemmas.List.Elements.{All-nil, All-cons}
+use Rattle.std.proofs.Math.Bool.{or-false}
 use Rattle.fmp_codes.specs.declared.numbers.Proc.{Proc}
 use Rattle.fmp_codes.specs.declared.numbers.Task.{Task}
 use Rattle.fmp_codes.specs.declared.calls.Call.{Call}
@@ -13,6 +14,7 @@ use Rattle.fmp_codes.specs.declared.records.Answer.TheVariants as answer
 use Rattle.fmp_codes.specs.declared.records.Event.{Event}
 use Rattle.fmp_codes.specs.declared.records.Event.TheVariants as event
 use Rattle.fmp_codes.specs.declared.records.Record.{Record}
+use Rattle.fmp_codes.proofs.Same.{processors_same}
 use Rattle.fmp_machine.specs.Effects.{Effect}
 use Rattle.fmp_machine.specs.declared.machine.Processor.{Processor}
 use Rattle.fmp_machine.specs.declared.machine.TaskRecord.{TaskRecord}
@@ -33,11 +35,10 @@ use Rattle.fmp_balance.proofs.Shapes.{Few}
 use Rattle.fmp_balance.proofs.Steps.{told as record_of}
 use Rattle.fmp_setup.specs.Setup.{Setup}
 use Rattle.fmp_machine.specs.Tick.{one_less}
-use Rattle.fmp_safety.proofs.Items.{proc_same}
 use Rattle.fmp_wait_laws.specs.Asked.{OpenWait, asked}
 use Rattle.fmp_wait_laws.specs.Waits.{is_tick_for, migrates, assigned_by, assigned_after, lasts, OpenWaits, after_record, terminates}
 use Rattle.fmp_wait_laws.specs.Releases.{EndsOpenWait, Fits, NoneTwice}
-use Rattle.fmp_wait_laws.proofs.Named.{or-false, eqb_sym, caller_runs, HasOpen, open_of}
+use Rattle.fmp_wait_laws.proofs.Named.{eqb_sym, caller_runs, HasOpen, open_of}
 use Rattle.fmp_wait_laws.proofs.Words.{SameCounts, KeptAs, IsKept, counts_task, counts_wait, told_kept, told_ended, told_begun}
 
 -- there are at most so many of each, a place for the ticks left of each task, and the timer is as configured
@@ -184,7 +185,7 @@ module _ {Q : Type 0} (config : Setup) (k : Ordering Q) (w : World Q) (pending :
                 (subst (λ h. IsKept config v t (option_or (if is_task t h then asked p c else None) (pending t))) (sym (caller_runs w p from))
                 (subst (λ h. IsKept config v t (option_or (if t.number == u.number then h else None) (pending t))) (sym is)
                 (subst (λ b. IsKept config v t (option_or (if b then Some o else None) (pending t))) (eqb_sym u.number t.number)
-                (told_begun config w pending told u (record (task w u) { wait = Some x }) o w.order refl (proc_same (task w u).assigned p may.assigned) refl within timed t))));
+                (told_begun config w pending told u (record (task w u) { wait = Some x }) o w.order refl (processors_same (task w u).assigned p may.assigned) refl within timed t))));
             fits = All-nil (EndsOpenWait config pending r);
             once = tt;
             counts = counts_wait w u (record (task w u) { wait = Some x }) left w.order;

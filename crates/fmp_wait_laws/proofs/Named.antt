@@ -1,5 +1,5 @@
 -- Tasks and objects by the arguments that name them, and the open wait of a task by how it waits.
-use Rattle.std.proofs.Common.{◌≡◌, ℕ, ◌≤◌, ℤ, pos, negsuc, ◌==◌, Bool, true, false, ◌&&◌, ◌||◌, List, length, refl, sym, ap, ◌∙◌, subst, arith, Option, Some, None, ⊎_elim}
+use Rattle.std.proofs.Common.{◌≡◌, ℕ, ◌≤◌, ℤ, pos, negsuc, ◌==◌, Bool, true, false, ◌&&◌, List, length, refl, sym, ap, ◌∙◌, subst, arith, Option, Some, None, ⊎_elim}
 use Rattle.std.specs.Prelude.{nat_le, is_some, unwrap_or, option_map}
 use Rattle.std.proofs.lemmas.Bool.{cases_eq, cond_both, cond-true, and_parts, and_from, eqb-true, eq-eqb, ne_eqb, leb-true, le-leb, false≢true}
 use Rattle.std.proofs.lemmas.Option.{none-some, same_Some}
@@ -18,16 +18,12 @@ use Rattle.fmp_safety.proofs.Calls.{FromTask}
 use Rattle.std.specs.Option.{option_or}
 use Rattle.fmp_codes.specs.declared.records.Runner.{Runner}
 use Rattle.fmp_codes.specs.declared.records.Runner.TheVariants as runner
-use Rattle.fmp_safety.proofs.Items.{task_same, object_same}
+use Rattle.fmp_codes.proofs.Same.{tasks_same, objects_same}
 use Rattle.fmp_balance.specs.Accepted.{names}
 use Rattle.fmp_balance.proofs.Objects.{object_known}
 use Rattle.fmp_wait_laws.specs.Asked.{OpenWait, asked_of}
 use Rattle.fmp_wait_laws.specs.Waits.{is_number_of}
 use Rattle.fmp_wait_laws.specs.Laws.{Waits}
-
-pub or-false : (b : Bool) → (b || false) ≡ b
-or-false true = refl
-or-false false = refl
 
 pub eqb_sym : (m n : ℕ) → (m == n) ≡ (n == m)
 eqb_sym m n =
@@ -37,7 +33,7 @@ eqb_sym m n =
 pub by_task : (P : Task → Bool → Type 0) (u t : Task) → (u.number ≡ t.number → P u true) → ((t.number ≡ u.number → ⊥) → P t false) → P t (u.number == t.number)
 by_task P u t same other =
     ⊎_elim
-    (λ (e : u.number ≡ t.number). subst (P t) (sym (eq-eqb u.number t.number e)) (subst (λ (x : Task). P x true) (task_same u t e) (same e)))
+    (λ (e : u.number ≡ t.number). subst (P t) (sym (eq-eqb u.number t.number e)) (subst (λ (x : Task). P x true) (tasks_same u t e) (same e)))
     (λ (d : u.number ≡ t.number → ⊥). subst (P t) (sym (ne_eqb u.number t.number d)) (other (λ e. d (sym e)))) (cases_eq u.number t.number)
 
 -- a task that makes a call runs
@@ -88,27 +84,17 @@ asked_named xs waits (pos n) timeout p few e =
 -- Who waits in a queue waits for its object.
 
 pub waits_for_semaphore : (o : Object) (a : Option Wait) → waits_in kind.Semaphore o a ≡ true → a ≡ Some (wait.Semaphore o)
-waits_for_semaphore o (Some (wait.Semaphore d)) e = ap (λ (x : Object). Some (wait.Semaphore x)) (object_same d o (eqb-true d.number o.number e))
+waits_for_semaphore o (Some (wait.Semaphore d)) e = ap (λ (x : Object). Some (wait.Semaphore x)) (objects_same d o (eqb-true d.number o.number e))
 waits_for_semaphore o (Some wait.Sleep) e = absurd (false≢true e)
 waits_for_semaphore o _ e = absurd (false≢true e)
 
 pub waits_for_flag : (o : Object) (a : Option Wait) → waits_in kind.Eventflag o a ≡ true → (x : ℕ) × (m : Mode) × (a ≡ Some (wait.Eventflag o x m))
-waits_for_flag o (Some (wait.Eventflag d x m)) e = (x, m, ap (λ (i : Object). Some (wait.Eventflag i x m)) (object_same d o (eqb-true d.number o.number e)))
+waits_for_flag o (Some (wait.Eventflag d x m)) e = (x, m, ap (λ (i : Object). Some (wait.Eventflag i x m)) (objects_same d o (eqb-true d.number o.number e)))
 waits_for_flag o (Some wait.Sleep) e = absurd (false≢true e)
 waits_for_flag o _ e = absurd (false≢true e)
 
-pub waits_to_send : (o : Object) (a : Option Wait) → waits_in kind.Send o a ≡ true → (x : ℤ) × (a ≡ Some (wait.Send o x))
-waits_to_send o (Some (wait.Send d x)) e = (x, ap (λ (i : Object). Some (wait.Send i x)) (object_same d o (eqb-true d.number o.number e)))
-waits_to_send o (Some wait.Sleep) e = absurd (false≢true e)
-waits_to_send o _ e = absurd (false≢true e)
-
-pub waits_to_receive : (o : Object) (a : Option Wait) → waits_in kind.Receive o a ≡ true → a ≡ Some (wait.Receive o)
-waits_to_receive o (Some (wait.Receive d)) e = ap (λ (x : Object). Some (wait.Receive x)) (object_same d o (eqb-true d.number o.number e))
-waits_to_receive o (Some wait.Sleep) e = absurd (false≢true e)
-waits_to_receive o _ e = absurd (false≢true e)
-
 pub waits_for_block : (o : Object) (a : Option Wait) → waits_in kind.Pool o a ≡ true → a ≡ Some (wait.Pool o)
-waits_for_block o (Some (wait.Pool d)) e = ap (λ (x : Object). Some (wait.Pool x)) (object_same d o (eqb-true d.number o.number e))
+waits_for_block o (Some (wait.Pool d)) e = ap (λ (x : Object). Some (wait.Pool x)) (objects_same d o (eqb-true d.number o.number e))
 waits_for_block o (Some wait.Sleep) e = absurd (false≢true e)
 waits_for_block o _ e = absurd (false≢true e)
 

@@ -12,6 +12,7 @@ use Rattle.fmp_codes.specs.declared.codes.Code.TheVariants as code
 use Rattle.fmp_codes.specs.declared.records.Answer.TheVariants as answer
 use Rattle.fmp_codes.specs.declared.records.Event.{Event}
 use Rattle.fmp_codes.specs.declared.records.Release.{Release}
+use Rattle.fmp_codes.proofs.Same.{tasks_same}
 use Rattle.fmp_machine.specs.declared.machine.TaskRecord.{TaskRecord}
 use Rattle.fmp_machine.specs.declared.machine.Wait.{Wait}
 use Rattle.fmp_machine.specs.declared.machine.Wait.TheVariants as wait
@@ -21,7 +22,7 @@ use Rattle.fmp_machine.specs.Ordering.{Ordering}
 use Rattle.fmp_machine.specs.Tasks.{make_ready}
 use Rattle.fmp_machine.specs.SyncCalls.{is_met, cleared, served}
 use Rattle.fmp_machine.specs.Tick.{code_of, released}
-use Rattle.fmp_safety.proofs.Items.{item_after, item_put, item_other, task_same}
+use Rattle.fmp_safety.proofs.Items.{item_after, item_put, item_other}
 use Rattle.fmp_setup.specs.Setup.{Setup}
 use Rattle.fmp_machine.specs.Tick.{is_over}
 use Rattle.fmp_wait_laws.specs.Asked.{OpenWait}
@@ -106,7 +107,7 @@ module _ {Q : Type 0} (config : Setup) (k : Ordering Q) (f : Object) where
       cond_both (is_met x (task w u).wait) _ _ (λ (did : World Q × List Release). is_released t did.1 ≡ false)
       (λ met.
       let parts = met_parts x (task w u).wait met in
-      let other : u.number ≡ t.number → ⊥ = λ e. none-some (wait.Eventflag parts.0 parts.1 parts.2) (sym none ∙ ap (λ (v : Task). (task w v).wait) (sym (task_same u t e)) ∙ parts.3) in
+      let other : u.number ≡ t.number → ⊥ = λ e. none-some (wait.Eventflag parts.0 parts.1 parts.2) (sym none ∙ ap (λ (v : Task). (task w v).wait) (sym (tasks_same u t e)) ∙ parts.3) in
       ap (λ b. b || is_released t (served k (make_ready k w u) f (cleared w f x) ts).1) (ne_eqb u.number t.number other)
       ∙ served_none (make_ready k w u) t (still_none config k w u t none) (cleared w f x) ts)
       (λ _. served_none w t none x ts)

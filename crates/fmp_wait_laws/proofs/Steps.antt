@@ -21,9 +21,10 @@ use Rattle.fmp_safety.proofs.Queues.{Lists}
 use Rattle.fmp_balance.specs.Accepted.{is_accepted}
 use Rattle.fmp_balance.specs.Queues.{is_call_of}
 use Rattle.fmp_balance.proofs.Shapes.{few_step}
-use Rattle.fmp_balance.proofs.Steps.{told as record_of, is_call}
+use Rattle.fmp_balance.proofs.Steps.{told as record_of}
 use Rattle.fmp_setup.specs.Setup.{Setup}
 use Rattle.fmp_codes.specs.declared.records.Record.{Record}
+use Rattle.fmp_codes.specs.Records.{is_call}
 use Rattle.fmp_machine.specs.World.{item}
 use Rattle.fmp_safety.specs.Safe.{TicksInRange}
 use Rattle.fmp_wait_laws.specs.Asked.{asked_by}

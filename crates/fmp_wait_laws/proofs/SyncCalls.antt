@@ -3,6 +3,7 @@ use Rattle.std.proofs.Common.{◌≡◌, ℕ, ◌-◌, ℤ, inl, inr, true, fals
 use Rattle.std.specs.Prelude.{option_map, if◌then◌else◌, is_some, nat_lt, unwrap_or}
 use Rattle.std.proofs.lemmas.List.{length-set}
 use Rattle.std.proofs.lemmas.List.Elements.{All-nil, All-cons}
+use Rattle.std.proofs.Math.Bool.{or-false}
 use Rattle.fmp_codes.specs.Numbers.{as_object}
 use Rattle.fmp_codes.specs.declared.numbers.Proc.{Proc}
 use Rattle.fmp_codes.specs.declared.numbers.Task.{Task}
@@ -36,7 +37,7 @@ use Rattle.fmp_setup.specs.Setup.{Setup}
 use Rattle.fmp_wait_laws.specs.Asked.{asked}
 use Rattle.fmp_wait_laws.specs.Waits.{OpenWaits, is_released, lasts}
 use Rattle.fmp_wait_laws.specs.Releases.{sets, Gives}
-use Rattle.fmp_wait_laws.proofs.Named.{or-false, names_itself, asked_named, waits_for_semaphore, waits_for_flag}
+use Rattle.fmp_wait_laws.proofs.Named.{names_itself, asked_named, waits_for_semaphore, waits_for_flag}
 use Rattle.fmp_wait_laws.proofs.Words.{IsKept}
 use Rattle.fmp_wait_laws.proofs.Follows.{Sound, CallFollows, lasts_same, refused_follows, done_follows, release_follows, done_or_waits_follow}
 use Rattle.fmp_wait_laws.proofs.Several.{AreForFlag, served_told, served_counts, served_once, served_fit}

@@ -15,6 +15,7 @@ use Rattle.fmp_codes.specs.declared.codes.Code.TheVariants as code
 use Rattle.fmp_codes.specs.declared.records.Answer.TheVariants as answer
 use Rattle.fmp_codes.specs.declared.records.Event.TheVariants as event
 use Rattle.fmp_codes.specs.declared.records.Record.{Record}
+use Rattle.fmp_codes.proofs.Same.{tasks_same, processors_same}
 use Rattle.fmp_machine.specs.Effects.{Effect}
 use Rattle.fmp_machine.specs.declared.machine.TaskRecord.{TaskRecord}
 use Rattle.fmp_machine.specs.declared.machine.Wait.{Wait}
@@ -34,7 +35,7 @@ use Rattle.fmp_balance.proofs.Called.{by_called}
 use Rattle.fmp_balance.proofs.Steps.{told as record_of}
 use Rattle.fmp_setup.specs.Setup.{Setup}
 use Rattle.fmp_machine.specs.World.{item}
-use Rattle.fmp_safety.proofs.Items.{proc_same, task_same, item_same, item_other}
+use Rattle.fmp_safety.proofs.Items.{item_same, item_other}
 use Rattle.fmp_wait_laws.specs.Asked.{OpenWait, asked}
 use Rattle.fmp_wait_laws.specs.Waits.{OpenWaits, is_number_of, setup_of, assigned_by, lasts}
 use Rattle.fmp_wait_laws.specs.Releases.{breaks_off, Gives, EndsOpenWait}
@@ -195,7 +196,7 @@ module _ {Q : Type 0} (config : Setup) (k : Ordering Q) (w : World Q) (s : Safe 
           subst (λ xs. KeptAs config t now (task v t) (item None xs t.number)) (sym left)
           (⊎_elim
           (λ (e : t.number ≡ moved.number).
-          subst (λ (u : Task). KeptAs config u (option_map (lasts config u tells) (pending u)) (task v u) (item None w.waits_left u.number)) (sym (task_same t moved e))
+          subst (λ (u : Task). KeptAs config u (option_map (lasts config u tells) (pending u)) (task v u) (item None w.waits_left u.number)) (sym (tasks_same t moved e))
           (subst (λ r. KeptAs config moved (option_map (lasts config moved tells) (pending moved)) r (item None w.waits_left moved.number)) (sym here) moved_there))
           (λ (d : t.number ≡ moved.number → ⊥). subst (λ r. KeptAs config t now r (item None w.waits_left t.number)) (sym (others t d)) (others_stay t d)) (cases_eq t.number moved.number));
       fits = All-nil (EndsOpenWait config pending tells);
@@ -208,7 +209,7 @@ module _ {Q : Type 0} (config : Setup) (k : Ordering Q) (w : World Q) (s : Safe 
         let r : TaskRecord = record (task w moved) { assigned = next } in
         cond_both ((task w moved).assigned.number == next.number) w (place k w moved r) (λ (v : World Q). Ends (call.MigTsk id to) (v, done))
         (λ e. migrates_follow w (refl, refl, refl, refl) refl
-        (ap (λ (q : Proc). record (task w moved) { assigned = q }) (proc_same (task w moved).assigned next (eqb-true (task w moved).assigned.number next.number e))) (λ t d. refl))
+        (ap (λ (q : Proc). record (task w moved) { assigned = q }) (processors_same (task w moved).assigned next (eqb-true (task w moved).assigned.number next.number e))) (λ t d. refl))
         (λ _. migrates_follow (place k w moved r) (counts_task w moved r w.order) refl (item_same no_task w.tasks moved.number r moved.least (names_within id known))
         (λ t d. item_other no_task w.tasks moved.number r t.number t.least moved.least d))
 

@@ -17,6 +17,7 @@ use Rattle.fmp_machine.specs.Tick.{code_of, one_less, lowered, counted_down, is_
 use Rattle.fmp_safety.proofs.KeepsDue.{alarms_keep, cyclics_keep}
 use Rattle.fmp_balance.proofs.Steps.{told as record_of}
 use Rattle.std.proofs.lemmas.Option.{none-some, same_Some}
+use Rattle.std.proofs.Math.Bool.{or-false}
 use Rattle.fmp_codes.specs.declared.records.Answer.TheVariants as answer
 use Rattle.fmp_setup.specs.Setup.{Setup}
 use Rattle.fmp_machine.specs.declared.machine.TaskRecord.{TaskRecord}
@@ -24,11 +25,11 @@ use Rattle.fmp_machine.specs.declared.machine.Wait.{Wait}
 use Rattle.fmp_machine.specs.World.{no_task, task}
 use Rattle.fmp_machine.specs.Rows.{plain}
 use Rattle.fmp_safety.specs.Safe.{TicksInRange, Safe}
+use Rattle.fmp_safety.proofs.TellsTick.{lowered_length}
 use Rattle.fmp_wait_laws.specs.Asked.{OpenWait}
 use Rattle.fmp_wait_laws.specs.Waits.{OpenWaits, is_released, is_tick_for, lasts}
 use Rattle.fmp_wait_laws.specs.Releases.{EndsOpenWait}
 use Rattle.fmp_wait_laws.specs.Laws.{Waits, left_of}
-use Rattle.fmp_wait_laws.proofs.Named.{or-false}
 use Rattle.fmp_wait_laws.proofs.Words.{SameCounts, IsKept, same_counts_then}
 use Rattle.fmp_wait_laws.proofs.Follows.{Sound, Follows, follows_beside}
 use Rattle.fmp_wait_laws.proofs.Several.{Distinct, Ends, IsDue, released_told, released_counts, released_once, released_fit}
@@ -94,11 +95,6 @@ lowered_at qualifies blank [] (n ∷ ns) i e = absurd (omega (arith, e))
 lowered_at qualifies blank (x ∷ xs) [] i e = absurd (omega (arith, e))
 lowered_at qualifies blank (x ∷ xs) (n ∷ ns) zero e = refl
 lowered_at qualifies blank (x ∷ xs) (n ∷ ns) (suc i) e = lowered_at qualifies blank xs ns i (omega (arith, e))
-
-pub lowered_length : {X : Type 0} (qualifies : X → Bool) (xs : List X) (counts : List (Option ℕ)) → length (lowered qualifies xs counts) ≡ length counts
-lowered_length qualifies [] counts = refl
-lowered_length qualifies (x ∷ xs) [] = refl
-lowered_length qualifies (x ∷ xs) (n ∷ ns) = ap suc (lowered_length qualifies xs ns)
 
 -- where no ticks are left none are taken
 none_falls : (b : Bool) → (if b then one_less None else None) ≡ None

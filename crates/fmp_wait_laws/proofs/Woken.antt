@@ -2,6 +2,7 @@
 use Rattle.std.proofs.Common.{◌≡◌, ◌+◌, ℤ, ◌==◌, true, refl, sym, ap, ◌∙◌, Option, Some, None, ⊎_elim}
 use Rattle.std.specs.Prelude.{is_some, option_map, unwrap_or}
 use Rattle.std.proofs.lemmas.Bool.{cases_eq, cond_both, and_parts, both_ways, eqb-true, eq-eqb, false≢true}
+use Rattle.std.proofs.Math.Bool.{or-false}
 use Rattle.fmp_codes.specs.Numbers.{as_task}
 use Rattle.fmp_codes.specs.declared.numbers.Proc.{Proc}
 use Rattle.fmp_codes.specs.declared.numbers.Task.{Task}
@@ -14,6 +15,7 @@ use Rattle.fmp_codes.specs.declared.codes.Code.TheVariants as code
 use Rattle.fmp_codes.specs.declared.records.Event.{Event}
 use Rattle.fmp_codes.specs.declared.records.Event.TheVariants as event
 use Rattle.fmp_codes.specs.declared.records.Record.{Record}
+use Rattle.fmp_codes.proofs.Same.{tasks_same}
 use Rattle.fmp_setup.specs.Setup.{Setup}
 use Rattle.fmp_machine.specs.Effects.{Effect}
 use Rattle.fmp_machine.specs.World.{World, task}
@@ -23,14 +25,13 @@ use Rattle.fmp_machine.specs.Arguments.{task_named, task_or_caller}
 use Rattle.fmp_machine.specs.TaskCalls.{is_sleep, wup, rel_wai, task_row}
 use Rattle.fmp_machine.specs.Step.{row_of, step}
 use Rattle.fmp_safety.specs.Safe.{Safe}
-use Rattle.fmp_safety.proofs.Items.{task_same}
 use Rattle.fmp_balance.specs.Accepted.{is_accepted}
 use Rattle.fmp_balance.proofs.Called.{refuses, not_accepted, by_called}
 use Rattle.fmp_balance.proofs.Steps.{by_step}
 use Rattle.fmp_wait_laws.specs.Asked.{OpenWait}
 use Rattle.fmp_wait_laws.specs.Waits.{OpenWaits, is_number_of, is_released}
 use Rattle.fmp_wait_laws.specs.Releases.{must_end, ReleasesCalled}
-use Rattle.fmp_wait_laws.proofs.Named.{or-false, task_known}
+use Rattle.fmp_wait_laws.proofs.Named.{task_known}
 use Rattle.fmp_wait_laws.proofs.Words.{IsKept}
 use Rattle.fmp_wait_laws.proofs.Follows.{Sound}
 use Rattle.fmp_wait_laws.proofs.TaskCalls.{names_no_other}
@@ -67,7 +68,7 @@ module _ {Q : Type 0} (config : Setup) (k : Ordering Q) (w : World Q) (s : Safe 
         (λ _ accepted must. releases_it (calls.Task c) u code.Accepted None (names must).0 accepted must)
         (λ awake accepted must.
         let named = names must in
-        let same : u ≡ t = task_same u t (eqb-true u.number t.number named.0) in
+        let same : u ≡ t = tasks_same u t (eqb-true u.number t.number named.0) in
         absurd (both_ways (is_sleep (task w u).wait) awake (ap (λ (v : Task). is_sleep (task w v).wait) same ∙ ap is_sleep waits ∙ named.1)))
 
     -- its wait is broken off

@@ -13,6 +13,7 @@ use Rattle.fmp_codes.specs.declared.records.Event.{Event}
 use Rattle.fmp_codes.specs.declared.records.Event.TheVariants as event
 use Rattle.fmp_codes.specs.declared.records.Record.{Record}
 use Rattle.fmp_codes.specs.declared.records.Release.{Release}
+use Rattle.fmp_codes.specs.Records.{is_taken}
 use Rattle.fmp_setup.specs.declared.setup.TaskSetup.{TaskSetup}
 use Rattle.fmp_setup.specs.declared.setup.Timer.{Timer}
 use Rattle.fmp_setup.specs.Setup.{Setup, counts_for}
@@ -54,11 +55,6 @@ abbrev pub ends : Task → Record → Bool
 ends t r = is_released t r.releases || (is_accepted r.answer && terminates t r.event)
 
 -- What becomes of it before: a tick takes one of the ticks left, and a migration assigns the task to another processor.
-
--- the tick was taken, and not held back
-abbrev pub is_taken : Answer → Bool
-is_taken answer.Taken = true
-is_taken other = false
 
 -- a tick was taken that counts for what is assigned to q
 abbrev pub is_tick_for : Timer → Proc → Answer → Event → Bool

@@ -2,8 +2,9 @@
 use Rattle.std.proofs.Common.{◌≡◌, ℕ, ◌-◌, ◌<◌, ◌≤◌, ◌==◌, ◌||◌, Bool, true, false, not, cond, Option, Some, None, List, [], ◌∷◌, ◌++◌, length, map, set, refl, sym, ap, ◌∙◌, subst, arith, ⊎_elim}
 use Rattle.std.specs.Prelude.{nat_lt, slice_index}
 use Rattle.std.specs.List.{list_any}
-use Rattle.std.proofs.lemmas.Bool.{cases_eq, cases_lt, eq-eqb, ne_eqb, lt-ltb, le-ltb, and_parts}
+use Rattle.std.proofs.lemmas.Bool.{cases_eq, cases_lt, eq-eqb, ne_eqb, lt-ltb, le-ltb, and_parts, eqb-true}
 use Rattle.std.proofs.lemmas.List.{get_or-set_same, get_or-set_other}
+use Rattle.std.proofs.lemmas.Map.Views.{any-filter_same}
 use Rattle.fmp_codes.specs.declared.numbers.Task.{Task}
 use Rattle.fmp_codes.specs.declared.numbers.Pri.{Pri}
 use Rattle.fmp_setup.specs.declared.setup.Order.{Order}
@@ -165,3 +166,15 @@ module _ (r : List ℕ) (ts : List Task) (t : Task) (n : ℕ) (count : length r 
 
 pub flat_without : (o : Order) (r : List ℕ) (t : Task) (ts : List Task) → IsFlat o r ts → IsFlat o r (without t ts)
 flat_without o r t ts h = record { flat = λ e u g. h.flat e u (and_parts (has_task u ts) (not (u.number == t.number)) (sym (has_task-without u t ts) ∙ g)).0 }
+
+-- the tasks of waiters
+pub waits_is : (t : Task) (es : List Waiter) → has_task t (map task_of es) ≡ has_waiter t es
+waits_is t [] = refl
+waits_is t (e ∷ es) = ap (λ (b : Bool). (t.number == e.task.number) || b) (waits_is t es)
+
+-- of who waits after a task has left: he waited before, and is another
+pub waited_before : (t u : Task) (es : List Waiter) → has_waiter t (left_by u es) ≡ true → (not (t.number == u.number) ≡ true) × (has_waiter t es ≡ true)
+waited_before t u es h =
+    let same = any-filter_same (λ (e : Waiter). t.number == e.task.number) (λ (e : Waiter). not (e.task.number == u.number)) (not (t.number == u.number))
+    (λ e f. ap (λ n. not (n == u.number)) (sym (eqb-true t.number e.task.number f))) es in
+    and_parts (not (t.number == u.number)) (has_waiter t es) (sym same ∙ h)

@@ -6,22 +6,23 @@ use Rattle.std.proofs.Math.Path.{fun_ext}
 use Rattle.std.proofs.lemmas.Bool.{cases_Bool, ltb-true, ltb-false, ne_eqb}
 use Rattle.std.proofs.lemmas.List.{get_or_past, length-map}
 use Rattle.std.proofs.lemmas.List.FromFn.{get_or-map-range_with_len, length-map-range_with_len}
-use Rattle.fmp_codes.specs.Numbers.{as_proc, as_task, within}
+use Rattle.fmp_codes.specs.Numbers.{as_proc, as_task}
 use Rattle.fmp_codes.specs.declared.numbers.Proc.{Proc}
 use Rattle.fmp_codes.specs.declared.numbers.Task.{Task}
+use Rattle.fmp_codes.proofs.Same.{as_proc-number}
 use Rattle.fmp_machine.specs.Arrivals.{State}
 use Rattle.fmp_machine.specs.World.{item, no_processor, no_task, processor, task}
 use Rattle.fmp_machine.specs.declared.machine.Processor.{Processor}
 use Rattle.fmp_machine.specs.declared.machine.TaskRecord.{TaskRecord}
 use Rattle.fmp_machine.specs.declared.machine.Wait.{Wait}
+use Rattle.fmp_machine.specs.TaskStates.{active_state}
 use Rattle.fmp_safety.proofs.First.{as_task_same}
-use Rattle.fmp_safety.proofs.Items.{proc_same}
 use Rattle.fmp_plain_machine.proofs.DataQueues.{mapped_or}
 use Rattle.fmp_plain_machine.specs.Signs.{active_kind, kind_of, place_of}
 use Rattle.fmp_wave.specs.declared.snapshot.ShownProcessor.{ShownProcessor}
-use Rattle.fmp_wave.specs.declared.snapshot.TaskState.{TaskState}
-use Rattle.fmp_wave.specs.declared.snapshot.TaskState.TheVariants.{Dormant}
-use Rattle.fmp_wave.specs.Shown.{active_state, nothing_shown, shown_of, shown_processor, shown_task}
+use Rattle.fmp_machine.specs.declared.states.TaskState.{TaskState}
+use Rattle.fmp_machine.specs.declared.states.TaskState.TheVariants.{Dormant}
+use Rattle.fmp_wave.specs.Shown.{nothing_shown, shown_of, shown_processor, shown_task}
 use Rattle.fmp_wave.specs.Signs.{runs_at, state_at, states_at, told_state}
 
 -- how a task stands tells its state
@@ -33,9 +34,6 @@ told_by t running true (Some x) false = refl
 told_by t running true None true = refl
 told_by t running true None false = refl
 
-as_proc_same : (p : Proc) → as_proc p.number ≡ p
-as_proc_same p = let number : within 8 p.number ≡ p.number = omega (arith, p.least, p.most) in proc_same (as_proc p.number) p number
-
 -- what is shown of a processor's task is what runs there
 shown_runs : (w : State) (p : Proc) → runs_at (shown_of w).processors p.number ≡ (processor w p).running
 shown_runs w p =
@@ -45,7 +43,7 @@ shown_runs w p =
     elim (cases_Bool (ltb (p.number - 1) count)) [
       | inl b ↦
           ap (λ (x : ShownProcessor). x.running)
-          (get_or-map-range_with_len f 1 count (p.number - 1) p.number nothing_shown (ltb-true (p.number - 1) count b) (omega (arith, least)) ∙ ap (λ (q : Proc). shown_processor w q) (as_proc_same p))
+          (get_or-map-range_with_len f 1 count (p.number - 1) p.number nothing_shown (ltb-true (p.number - 1) count b) (omega (arith, least)) ∙ ap (λ (q : Proc). shown_processor w q) (as_proc-number p))
       | inr b ↦
           let past : count ≤ p.number - 1 = ltb-false (p.number - 1) count b in
           let long : length (map f (range_with_len 1 count)) ≡ count = length-map-range_with_len f 1 count in

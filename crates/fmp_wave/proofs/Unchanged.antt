@@ -14,8 +14,8 @@ use Rattle.fmp_wave.specs.declared.resource.Resource.{Resource}
 use Rattle.fmp_wave.specs.declared.resource.Resource.TheVariants as resources
 use Rattle.fmp_wave.specs.declared.signal.Signal.{Signal}
 use Rattle.fmp_wave.specs.declared.snapshot.ShownProcessor.{ShownProcessor}
-use Rattle.fmp_wave.specs.declared.snapshot.TaskState.{TaskState}
-use Rattle.fmp_wave.specs.declared.snapshot.TaskState.TheVariants.{Dormant}
+use Rattle.fmp_machine.specs.declared.states.TaskState.{TaskState}
+use Rattle.fmp_machine.specs.declared.states.TaskState.TheVariants.{Dormant}
 use Rattle.fmp_wave.specs.Changes.{bit_change, changes_text, flag_changes, if_other, number_changed, numbers_changes, objects_changes, processor_changed, processor_changes, state_change, task_changed, wait_change}
 use Rattle.fmp_wave.specs.Listing.{each}
 use Rattle.fmp_wave.specs.Shown.{Shown, number_at, numbers_of, on_processor, shown_of, state_of, wait_of}

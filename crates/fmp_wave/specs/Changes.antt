@@ -13,7 +13,7 @@ use Rattle.fmp_wave.specs.declared.resource.Resource.TheVariants as resources
 use Rattle.fmp_wave.specs.declared.signal.Signal.{Signal}
 use Rattle.fmp_wave.specs.declared.signal.Signal.TheVariants as signals
 use Rattle.fmp_wave.specs.declared.snapshot.ShownProcessor.{ShownProcessor}
-use Rattle.fmp_wave.specs.declared.snapshot.TaskState.{TaskState}
+use Rattle.fmp_machine.specs.declared.states.TaskState.{TaskState}
 use Rattle.fmp_wave.specs.Listing.{each}
 use Rattle.fmp_wave.specs.Resources.{signal_of}
 use Rattle.fmp_wave.specs.Shown.{Shown, number_at, numbers_of, on_processor, state_of, wait_of}

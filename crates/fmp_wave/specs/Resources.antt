@@ -1,9 +1,8 @@
 -- The kinds of objects that have a number: which it is, and how many objects there are.
-use Rattle.std.specs.Prelude.{ℕ, not, length, take, count_by}
+use Rattle.std.specs.Prelude.{ℕ, length}
 use Rattle.fmp_codes.specs.declared.numbers.Object.{Object}
 use Rattle.fmp_setup.specs.Setup.{Setup}
-use Rattle.fmp_machine.specs.declared.machine.Pool.{Pool}
-use Rattle.fmp_machine.specs.Objects.{eventflag, pool, semaphore, values}
+use Rattle.fmp_machine.specs.Objects.{eventflag, pool, semaphore, values, free_blocks}
 use Rattle.fmp_machine.specs.World.{World}
 use Rattle.fmp_wave.specs.declared.resource.Resource.{Resource}
 use Rattle.fmp_wave.specs.declared.resource.Resource.TheVariants.{Semaphore, Eventflag, DataQueue, Pool as PoolKind}
@@ -23,10 +22,6 @@ count c Semaphore = length c.semaphores
 count c Eventflag = length c.eventflags
 count c DataQueue = length c.data_queues
 count c PoolKind = length c.pools
-
--- how many blocks of a pool are free
-abbrev pub free_blocks : Pool → ℕ
-free_blocks x = count_by not (take x.setup.blocks x.handed)
 
 module _ {Q : Type 0} (w : World Q) where
   -- how many there are in a state

@@ -1,18 +1,18 @@
 -- What a waveform shows of a state: what is shown of each processor, task and object, and nothing else.
-use Rattle.std.specs.Prelude.{ℕ, Bool, true, false, ◌==◌, Option, None, Some, List, length, map, if◌then◌else◌}
+use Rattle.std.specs.Prelude.{ℕ, false, Option, None, List, length, map}
 use Rattle.std.specs.List.{range_with_len}
 use Rattle.fmp_codes.specs.Numbers.{as_object, as_proc, as_task}
 use Rattle.fmp_codes.specs.declared.numbers.Object.{Object}
 use Rattle.fmp_codes.specs.declared.numbers.Proc.{Proc}
 use Rattle.fmp_codes.specs.declared.numbers.Task.{Task}
-use Rattle.fmp_machine.specs.declared.machine.TaskRecord.{TaskRecord}
 use Rattle.fmp_machine.specs.declared.machine.Wait.{Wait}
 use Rattle.fmp_machine.specs.World.{World, handler, item, processor, task}
+use Rattle.fmp_machine.specs.TaskStates.{task_state}
 use Rattle.fmp_wave.specs.declared.resource.Resource.{Resource}
 use Rattle.fmp_wave.specs.declared.resource.Resource.TheVariants.{Semaphore, Eventflag, DataQueue, Pool}
 use Rattle.fmp_wave.specs.declared.snapshot.ShownProcessor.{ShownProcessor}
-use Rattle.fmp_wave.specs.declared.snapshot.TaskState.{TaskState}
-use Rattle.fmp_wave.specs.declared.snapshot.TaskState.TheVariants.{Dormant, Ready, Running, Waiting, Suspended, WaitingSuspended}
+use Rattle.fmp_machine.specs.declared.states.TaskState.{TaskState}
+use Rattle.fmp_machine.specs.declared.states.TaskState.TheVariants.{Dormant}
 use Rattle.fmp_wave.specs.Resources.{count_in, number_in}
 
 -- of each processor, of each task its state and what it waits for, and of each object its number, in the order of their numbers
@@ -49,27 +49,6 @@ numbers_of s Pool = s.pools
 -- that of one of them: 0 where there is none
 abbrev pub number_at : Shown → Resource → Object → ℕ
 number_at s r o = item 0 (numbers_of s r) o.number
-
--- the number of the task that runs, or 0
-abbrev pub number_of : Option Task → ℕ
-number_of None = 0
-number_of (Some t) = t.number
-
--- a task that could run does so, or is ready
-abbrev pub ready_state : Task → Option Task → TaskState
-ready_state t None = Ready
-ready_state t (Some u) = if u.number == t.number then Running else Ready
-
--- the state of an active task with this wait, if it has one, that is suspended or not
-abbrev pub active_state : Task → Option Wait → Bool → Option Task → TaskState
-active_state t (Some x) true running = WaitingSuspended
-active_state t (Some x) false running = Waiting
-active_state t None true running = Suspended
-active_state t None false running = ready_state t running
-
--- the state of a task, by what runs on its processor
-abbrev pub task_state : Task → TaskRecord → Option Task → TaskState
-task_state t x running = if x.active then active_state t x.wait x.suspended running else Dormant
 
 module _ {Q : Type 0} (w : World Q) where
   abbrev pub shown_processor : Proc → ShownProcessor

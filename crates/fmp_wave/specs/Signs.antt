@@ -4,10 +4,11 @@ use Rattle.std.specs.List.{range_with_len}
 use Rattle.fmp_codes.specs.Numbers.{as_task}
 use Rattle.fmp_codes.specs.declared.numbers.Task.{Task}
 use Rattle.fmp_machine.specs.World.{item}
+use Rattle.fmp_machine.specs.TaskStates.{ready_state}
 use Rattle.fmp_wave.specs.declared.snapshot.ShownProcessor.{ShownProcessor}
-use Rattle.fmp_wave.specs.declared.snapshot.TaskState.{TaskState}
-use Rattle.fmp_wave.specs.declared.snapshot.TaskState.TheVariants.{Dormant, Waiting, Suspended, WaitingSuspended}
-use Rattle.fmp_wave.specs.Shown.{nothing_shown, ready_state}
+use Rattle.fmp_machine.specs.declared.states.TaskState.{TaskState}
+use Rattle.fmp_machine.specs.declared.states.TaskState.TheVariants.{Dormant, Waiting, Suspended, WaitingSuspended}
+use Rattle.fmp_wave.specs.Shown.{nothing_shown}
 
 -- the state of a task that stands so, where this task runs on its processor
 abbrev pub told_state : ℕ → Task → Option Task → TaskState

@@ -1,5 +1,6 @@
 -- The waveform of what a machine does at events, as a Value Change Dump. An event is a unit of time.
 use Rattle.std.specs.Prelude.{ℕ, ◌+◌, ◌==◌, not, true, List, [], ◌∷◌, ◌++◌, filter, codes, decimal}
+use Rattle.fmp_bytes.specs.Bytes.{space}
 use Rattle.fmp_codes.specs.Records.{processor_of}
 use Rattle.fmp_codes.specs.declared.records.Event.{Event}
 use Rattle.fmp_codes.specs.declared.records.Event.TheVariants as events
@@ -28,7 +29,7 @@ mark_text (events.Ipi p) = []
 
 -- a text without its blanks, which no value may have
 abbrev pub joined : List ℕ → List ℕ
-joined text = filter (λ byte. not (byte == 32)) text
+joined text = filter (λ byte. not (byte == space)) text
 
 -- an event and its answer, as a trace prints them
 unfoldable pub call_text : NameLists → Record → List ℕ

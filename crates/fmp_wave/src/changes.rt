@@ -10,13 +10,13 @@ ghost use Rattle.fmp_wave.specs.Waves as waves;
 
 use crate::resource::{Resource, signal_of};
 use crate::signal::Signal;
-use crate::snapshot::{ShownProcessor, Snapshot, TaskState};
+use crate::snapshot::{ShownProcessor, Snapshot};
 use crate::values::{
     put_bit_value, put_due_value, put_number_value, put_running_value, put_state_value,
     put_value_end, put_wait, put_wait_value, state_word,
 };
 use fmp_codes::{Event, Object, Proc, Record, Runner, Task};
-use fmp_machine::Wait;
+use fmp_machine::{TaskState, Wait};
 use fmp_names::Names;
 use fmp_same::Same;
 use fmp_trace::{put_answer, put_event, put_number, put_runner, put_running};

@@ -4,7 +4,7 @@ ghost use Rattle.fmp_wave.specs.Resources as spec;
 
 use crate::signal::Signal;
 use fmp_codes::Object;
-use fmp_machine::{Config, Pool};
+use fmp_machine::Config;
 use fmp_plain_machine::PlainMachine;
 use fmp_primitives::Objects;
 
@@ -61,18 +61,6 @@ pub(crate) fn count_in(machine: &PlainMachine, resource: Resource) -> usize
     }
 }
 
-/// How many blocks of a pool are free.
-fn free_blocks(pool: &Pool) -> u64
-    ensures { result ≡ spec.free_blocks pool.now }
-{
-    let blocks = usize::from(pool.setup.blocks);
-    pool.handed
-        .iter()
-        .take(blocks)
-        .filter(|handed| !**handed)
-        .count() as u64
-}
-
 /// The number of an object.
 #[inline(always)]
 pub(crate) fn number_in(machine: &PlainMachine, resource: Resource, o: Object) -> u64
@@ -82,6 +70,6 @@ pub(crate) fn number_in(machine: &PlainMachine, resource: Resource, o: Object) -
         Resource::Semaphore => u64::from(machine.semaphore(o).count),
         Resource::Eventflag => u64::from(machine.eventflag(o).pattern),
         Resource::DataQueue => machine.value_count(o) as u64,
-        Resource::Pool => free_blocks(&machine.pool(o)),
+        Resource::Pool => machine.pool(o).free_blocks(),
     }
 }

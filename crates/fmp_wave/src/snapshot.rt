@@ -8,22 +8,11 @@ use crate::resource::{Resource, count_in, number_in};
 use arrayvec::ArrayVec;
 use fmp_check::is_same;
 use fmp_codes::{Object, Proc, Runner, Task};
-use fmp_machine::Wait;
+use fmp_machine::{TaskState, Wait};
 use fmp_plain_machine::PlainMachine;
 use fmp_primitives::Words;
 use fmp_same::{Same, are_equal};
 use std::marker::Model;
-
-/// The state of a task, as a waveform tells it.
-#[derive(Clone, Copy, Debug, PartialEq, Eq)]
-pub enum TaskState {
-    Dormant,
-    Ready,
-    Running,
-    Waiting,
-    Suspended,
-    WaitingSuspended,
-}
 
 /// What is shown of a processor.
 #[derive(Clone, Copy, Debug, PartialEq, Eq)]
@@ -35,18 +24,6 @@ pub struct ShownProcessor {
     pub latch: bool,
     /// The handler that is due, and runs there.
     pub due: Option<Runner>,
-}
-
-impl Default for TaskState {
-    ghost use Rattle.std.specs.Prelude.{◌≡◌};
-    ghost use Rattle.fmp_wave.specs.declared.snapshot.TaskState.TheVariants.{Dormant};
-
-    /// Where there is no task it is dormant.
-    fn default() -> Self
-        ensures { result ≡ Dormant }
-    {
-        TaskState::Dormant
-    }
 }
 
 impl Default for ShownProcessor {
@@ -102,29 +79,6 @@ impl Model for Snapshot {
     } };
 }
 
-/// The number of the task that runs, or 0.
-#[inline(always)]
-fn number_of(running: Option<Task>) -> u8
-    ensures { result ≡ spec.number_of running }
-{
-    match running {
-        None => 0,
-        Some(task) => task.number,
-    }
-}
-
-/// The state of a task that could run: it does, or it is ready.
-#[inline(always)]
-fn ready_state(t: Task, running: Option<Task>) -> TaskState
-    ensures { result ≡ spec.ready_state t running }
-{
-    if number_of(running) == t.number {
-        TaskState::Running
-    } else {
-        TaskState::Ready
-    }
-}
-
 /// The state of a task that stands so, where this task runs on its processor.
 #[inline(always)]
 fn told_state(kind: u8, t: Task, running: Option<Task>) -> TaskState
@@ -132,7 +86,7 @@ fn told_state(kind: u8, t: Task, running: Option<Task>) -> TaskState
 {
     match kind {
         0 => TaskState::Dormant,
-        1 => ready_state(t, running),
+        1 => TaskState::of_ready(t, running),
         2 => TaskState::Waiting,
         3 => TaskState::Suspended,
         _ => TaskState::WaitingSuspended,
@@ -230,7 +184,7 @@ fn shown_numbers(machine: &PlainMachine, resource: Resource) -> ArrayVec<u64, 32
 fn is_same_running(a: Option<Task>, b: Option<Task>) -> bool
     ensures { IsTrue result → a ≡ b }
 {
-    number_of(a) == number_of(b)
+    Task::number_of(a) == Task::number_of(b)
 }
 
 /// Whether each processor runs what it runs among the others.

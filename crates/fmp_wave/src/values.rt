@@ -5,10 +5,10 @@ ghost use Rattle.fmp_wave.specs.Values as spec;
 
 use crate::resource::{Resource, signal_of};
 use crate::signal::{Signal, put_identifier};
-use crate::snapshot::{ShownProcessor, Snapshot, TaskState};
+use crate::snapshot::{ShownProcessor, Snapshot};
 use fmp_calls::ObjectKind;
 use fmp_codes::{Object, Proc, Runner, Task};
-use fmp_machine::Wait;
+use fmp_machine::{TaskState, Wait};
 use fmp_names::Names;
 use fmp_trace::{put_named, put_runner, put_running};
 use std::alloc::AllocError;

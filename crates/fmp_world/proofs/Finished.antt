@@ -3,7 +3,6 @@ use Rattle.std.proofs.Common.{◌≡◌, ℕ, ◌<◌, ◌≤◌, ◌↔◌, Lis
 use Rattle.std.proofs.Math.Seq.{get_or-append_seam}
 use Rattle.std.proofs.Math.ListN.{get_or-append}
 use Rattle.std.proofs.lemmas.List.{get_or-map, length-map}
-use Rattle.fmp_codes.specs.Numbers.{as_proc}
 use Rattle.fmp_codes.specs.declared.records.Record.{Record}
 use Rattle.fmp_scripts.specs.Scripts.{Steps}
 use Rattle.fmp_setup.specs.Setup.{Setup}
@@ -21,9 +20,7 @@ use Rattle.fmp_histories.specs.Histories.{events_of, IsRunOf}
 use Rattle.fmp_histories.specs.Scripted.{Scripted}
 use Rattle.fmp_world.proofs.Bits.{events_fit}
 use Rattle.fmp_world.specs.Views.{ClockSeat, History, Seat}
-
-no_seat : Seat
-no_seat = record { processor = as_proc 1; room = 0; receipts = [] }
+use Rattle.fmp_world.proofs.Found.{no_seat}
 
 abbrev told_in : Seat → List Receipt
 told_in s = s.receipts

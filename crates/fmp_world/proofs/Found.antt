@@ -1,24 +1,24 @@
 -- What the judge finds, with one record more, and what it says of the seats.
 use Rattle.std.proofs.Common.{◌≡◌, ℕ, ◌+◌, ◌-◌, ◌<◌, ◌≤◌, ◌==◌, ◌≢◌, ◌↔◌, inl, inr, ◌∙◌, Bool, true, false, ◌&&◌, cond, List, [], ◌∷◌, ◌++◌, length, take, Some, IsTrue, slice_get, slice_index, slice_set, slice_index_or, refl, ap, sym, subst, arith, length-append}
 use Rattle.std.proofs.lemmas.Bool.{cases_Bool, eqb-true, eqb-false, eq-eqb, ne_eqb, cases_lt}
-use Rattle.std.proofs.lemmas.List.{get_or-set_same, get_or-set_other, length-set}
+use Rattle.std.proofs.lemmas.List.{length-set}
 use Rattle.std.proofs.lemmas.List.Elements.{All-tail}
 use Rattle.std.proofs.lemmas.Option.{slice_get_past, slice_get-get_or}
 use Rattle.std.proofs.Math.Seq.{take-length}
 use Rattle.fmp_codes.specs.Numbers.{as_proc}
-use Rattle.fmp_codes.specs.Records.{processor_of, AreOn}
+use Rattle.fmp_codes.specs.Records.{processor_of, AreOn, is_taken, is_tick}
 use Rattle.fmp_codes.specs.declared.numbers.Proc.{Proc}
 use Rattle.fmp_codes.specs.declared.records.Event.{Event}
 use Rattle.fmp_codes.specs.declared.records.Event.TheVariants as event
 use Rattle.fmp_codes.specs.declared.records.Record.{Record}
+use Rattle.fmp_codes.proofs.Counters.{set_here, set_there}
 use Rattle.fmp_world.specs.declared.findings.Findings.{Findings}
 use Rattle.fmp_world.specs.declared.seats.Receipt.{Receipt}
 use Rattle.fmp_world.specs.Ends as ends
 use Rattle.fmp_histories.specs.Counted as history
-use Rattle.fmp_world.specs.Ends.{is_of_cpu, is_of_clock, receipts_from, AreSeats}
+use Rattle.fmp_world.specs.Ends.{is_of_cpu, receipts_from, AreSeats}
 use Rattle.fmp_world.specs.Findings.{seat_of, is_of_seat, told_of, receipts_at, told_at, receipt, is_taken_tick, counted, Begin, ArePassed, AreTaken, Finds, Takes, AllPassed}
 use Rattle.fmp_histories.specs.Histories.{events_of}
-use Rattle.fmp_histories.specs.Positions.{is_taken}
 use Rattle.fmp_world.specs.Views.{Seat, ClockSeat}
 use Rattle.fmp_world.proofs.Receipts.{told_too, untold, receipts_same, taken_more}
 
@@ -53,7 +53,7 @@ of_cpu k small (event.Call p c) = cpu_number p k
 of_cpu k small (event.Tick p) = sym (ne_eqb 8 k (λ q. omega (arith, q, small)))
 of_cpu k small (event.Ipi p) = cpu_number p k
 
-of_clock : (e : Event) → is_of_clock e ≡ is_of_seat 8 e
+of_clock : (e : Event) → is_tick e ≡ is_of_seat 8 e
 of_clock (event.Call p c) = let most = p.most in sym (ne_eqb (p.number - 1) 8 (λ q. omega (arith, q, most)))
 of_clock (event.Tick p) = refl
 of_clock (event.Ipi p) = let most = p.most in sym (ne_eqb (p.number - 1) 8 (λ q. omega (arith, q, most)))
@@ -62,7 +62,7 @@ cpu_told : (k : ℕ) → k < 8 → (h : List Record) → ends.receipts_of_cpu (k
 cpu_told k small h = receipts_same (is_of_cpu (k + 1)) (is_of_seat k) (of_cpu k small) 1 h
 
 clock_told : (h : List Record) → ends.receipts_of_clock h ≡ told_at 8 h
-clock_told h = receipts_same is_of_clock (is_of_seat 8) of_clock 1 h
+clock_told h = receipts_same is_tick (is_of_seat 8) of_clock 1 h
 
 -- a processor that the machine has not is told nothing
 off : (n k : ℕ) (e : Event) → (processor_of e).number ≤ n → n ≤ k → k < 8 → is_of_seat k e ≡ false
@@ -79,12 +79,6 @@ none_told n k m (r ∷ h) on past small =
     ∙ none_told n k (m + 1) h (All-tail P r.event (events_of h) on) past small
 
 -- ---- one record more
-
-set_here : (xs : List ℕ) (at k n : ℕ) → k ≡ at → k < length xs → slice_index (slice_set xs at n) k ≡ n
-set_here xs at k n is small = rw is (get_or-set_same xs at n 0 (omega (arith, is, small)))
-
-set_there : (xs : List ℕ) (at k n : ℕ) → k ≢ at → slice_index (slice_set xs at n) k ≡ slice_index xs k
-set_there xs at k n other = get_or-set_other xs at k n 0 other
 
 module _ (h : List Record) (r : Record) where
   passed_more : (counts : List ℕ) → ArePassed counts h → length counts ≡ 9
@@ -175,7 +169,7 @@ module _ (h : List Record) (r : Record) where
 
 -- ---- what it says of the seats
 
-no_seat : Seat
+pub no_seat : Seat
 no_seat = record { processor = as_proc 1; room = 0; receipts = [] }
 
 module _ (f : Findings) (n : ℕ) (cpus : List Seat) (clock : ClockSeat) (h : List Record) (finds : Finds f cpus clock h) (on : AreOn n (events_of h)) (few : length cpus ≤ 8) where

@@ -8,6 +8,7 @@ use Rattle.fmp_setup.specs.declared.setup.Timer.{Timer}
 use Rattle.fmp_setup.specs.Setup.{Setup, has_time}
 use Rattle.fmp_codes.specs.declared.records.Record.{Record}
 use Rattle.std.proofs.lemmas.Bool.Decides.{nat_tests}
+use Rattle.std.proofs.lemmas.Bool.{and_parts}
 use Rattle.fmp_world.specs.Turns.{is_full}
 use Rattle.fmp_world.specs.Views.{Seat, ClockSeat, History}
 use Rattle.fmp_world.specs.Ends.{TicksWithin, TicksAre, EndsQuiet, AreSeats, IsWhole}
@@ -30,14 +31,10 @@ all_more all timer n ticks h owes within same =
     let here : has_time timer (as_proc (n + 1)) ≡ true → taken (n + 1) h ≡ ticks = λ counts. let less = rw counts at owes in grind (arith, nat_tests) in
     (λ t. are_more timer n ticks h (same.0 t) here, λ e. same.1 (are_less timer n ticks h e))
 
-both : (a b : Bool) → (a && b) ≡ true → (a ≡ true) × (b ≡ true)
-both true b e = (refl, e)
-both false b e = cc
-
 pub none_more : (timer : Timer) (n ticks : ℕ) (h : List Record) → (has_time timer (as_proc (n + 1)) && nat_lt (taken (n + 1) h) ticks) ≡ true
     → IsTrue false ↔ TicksAre timer (n + 1) ticks h
 none_more timer n ticks h owes =
-    let parts = both _ _ owes in
+    let parts = and_parts _ _ owes in
     (λ t. cc, λ e. let at = e n (omega arith) parts.0 in let less = parts.1 in absurd (grind (arith, nat_tests)))
 
 pub fullness : (w : History) → Decides (is_full w) (w.turns ≤ length w.records)

@@ -1,5 +1,5 @@
 -- What a history keeps, with one event more.
-use Rattle.std.proofs.Common.{◌≡◌, ℕ, zero, suc, ◌<◌, ◌≤◌, ◌∙◌, List, [], ◌∷◌, ◌++◌, length, take, Option, Some, None, slice_get, slice_index, cond, Bool, true, false, ◌⊎◌, inl, inr, refl, ap, arith, replicate}
+use Rattle.std.proofs.Common.{◌≡◌, ℕ, zero, suc, ◌<◌, ◌≤◌, ◌∙◌, List, [], ◌∷◌, ◌++◌, length, take, Option, Some, None, slice_get, cond, Bool, true, false, ◌⊎◌, inl, inr, refl, ap, arith, replicate}
 use Rattle.std.proofs.lemmas.List.Elements.{All-nil}
 use Rattle.fmp_codes.specs.Records.{processor_of}
 use Rattle.fmp_codes.specs.declared.numbers.Proc.{Proc}
@@ -7,6 +7,7 @@ use Rattle.fmp_codes.specs.declared.records.Event.{Event}
 use Rattle.fmp_codes.specs.declared.records.Event.TheVariants as event
 use Rattle.fmp_codes.specs.declared.records.Record.{Record}
 use Rattle.fmp_codes.specs.declared.records.Runner.{Runner}
+use Rattle.fmp_codes.proofs.Counters.{zeros}
 use Rattle.fmp_scripts.specs.Scripts.{Steps}
 use Rattle.fmp_setup.specs.Setup.{Setup}
 use Rattle.fmp_setup.specs.Valid.{IsValid}
@@ -14,6 +15,7 @@ use Rattle.fmp_machine.specs.Arrivals.{State, numbered}
 use Rattle.fmp_machine.specs.Step.{step}
 use Rattle.fmp_machine.specs.Boot.{booted}
 use Rattle.fmp_machine.specs.World.{World}
+use Rattle.fmp_machine.proofs.Replays.{step_event}
 use Rattle.fmp_listed.specs.Queues.{Queues}
 use Rattle.fmp_refinement.specs.Stands.{Stands}
 use Rattle.fmp_histories.specs.Histories.{state_after}
@@ -21,13 +23,8 @@ use Rattle.fmp_histories.specs.Positions.{task_position, handler_position}
 use Rattle.fmp_histories.specs.Places.{moved_tasks, moved_handlers}
 use Rattle.fmp_histories.specs.Scripted.{choice, next_call, asked_at, position_of, Scripted, IsScripted}
 use Rattle.fmp_world.specs.Kept.{KeepsHistory}
-use Rattle.fmp_histories.proofs.Histories.{step_event, after_more, run_more}
+use Rattle.fmp_histories.proofs.Histories.{after_more, run_more}
 use Rattle.fmp_histories.proofs.Advancing.{tasks_moved, handlers_moved}
-
-zeros : (n i : ℕ) → slice_index (replicate n 0) i ≡ 0
-zeros zero i = refl
-zeros (suc n) zero = refl
-zeros (suc n) (suc i) = zeros n i
 
 -- the empty history
 pub opening_keeps : (c : Setup) (scripts : List Steps) (k : World Queues) → IsValid c → Stands k (booted c) → KeepsHistory c scripts k (replicate 64 0) (replicate 8 0) []

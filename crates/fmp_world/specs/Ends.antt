@@ -4,6 +4,7 @@ use Rattle.fmp_codes.specs.Numbers.{as_proc}
 use Rattle.fmp_codes.specs.declared.records.Event.{Event}
 use Rattle.fmp_codes.specs.declared.records.Event.TheVariants as event
 use Rattle.fmp_codes.specs.declared.records.Record.{Record}
+use Rattle.fmp_codes.specs.Records.{is_tick}
 use Rattle.fmp_scripts.specs.Scripts.{Steps, AreInBits}
 use Rattle.fmp_calls.specs.Arguments.{EventInBits}
 use Rattle.fmp_setup.specs.declared.setup.Timer.{Timer}
@@ -25,10 +26,6 @@ is_of_cpu n (event.Call p c) = p.number == n
 is_of_cpu n (event.Tick p) = false
 is_of_cpu n (event.Ipi p) = p.number == n
 
-abbrev pub is_of_clock : Event → Bool
-is_of_clock (event.Tick p) = true
-is_of_clock other = false
-
 -- the receipts of the records whose events pass the test, where the first record has this number
 abbrev pub receipts_from : (Event → Bool) → ℕ → List Record → List Receipt
 receipts_from test n [] = []
@@ -40,7 +37,7 @@ abbrev pub receipts_of_cpu : ℕ → List Record → List Receipt
 receipts_of_cpu n h = receipts_from (is_of_cpu n) 1 h
 
 abbrev pub receipts_of_clock : List Record → List Receipt
-receipts_of_clock h = receipts_from is_of_clock 1 h
+receipts_of_clock h = receipts_from is_tick 1 h
 
 -- a seat is that of the processor of its place, and has the receipts of its events
 abbrev pub SeatFits : ℕ → List Record → Seat → Type 0

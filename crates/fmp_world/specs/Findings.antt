@@ -1,6 +1,6 @@
 -- What the judge finds in the records of a history.
-use Rattle.std.specs.Prelude.{◌≡◌, ℕ, ◌+◌, ◌-◌, ◌<◌, ◌==◌, ◌↔◌, Bool, true, false, ◌&&◌, List, length, take, Option, Some, None, slice_get, slice_set, slice_index, slice_index_or, if◌then◌else◌, IsTrue}
-use Rattle.fmp_codes.specs.Records.{processor_of}
+use Rattle.std.specs.Prelude.{◌≡◌, ℕ, ◌+◌, ◌-◌, ◌<◌, ◌==◌, ◌↔◌, Bool, ◌&&◌, List, length, take, Option, Some, None, slice_get, slice_set, slice_index, slice_index_or, if◌then◌else◌, IsTrue}
+use Rattle.fmp_codes.specs.Records.{processor_of, is_taken, is_tick}
 use Rattle.fmp_codes.specs.declared.records.Event.{Event}
 use Rattle.fmp_codes.specs.declared.records.Event.TheVariants as event
 use Rattle.fmp_codes.specs.declared.records.Record.{Record}
@@ -8,7 +8,6 @@ use Rattle.fmp_world.specs.declared.findings.Findings.{Findings}
 use Rattle.fmp_world.specs.declared.seats.Receipt.{Receipt}
 use Rattle.fmp_world.specs.Ends as ends
 use Rattle.fmp_histories.specs.Counted as history
-use Rattle.fmp_histories.specs.Positions.{is_taken}
 use Rattle.fmp_world.specs.Views.{Seat, ClockSeat}
 
 -- the place of the seat that is told an event: its processor's, or behind the eight of those the clock's
@@ -35,10 +34,6 @@ told_at k h = ends.receipts_from (is_of_seat k) 1 h
 -- the receipt of a record that has this number
 abbrev pub receipt : ℕ → Record → Receipt
 receipt n r = record { number = n; event = r.event; answer = r.answer }
-
-abbrev pub is_tick : Event → Bool
-is_tick (event.Tick p) = true
-is_tick other = false
 
 abbrev pub is_taken_tick : Record → Bool
 is_taken_tick r = is_tick r.event && is_taken r.answer

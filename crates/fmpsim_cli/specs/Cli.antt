@@ -2,7 +2,6 @@
 use Rattle.std.specs.Prelude.{◌≡◌, ℕ, Bool, false, true, List, [], ◌∷◌, IsSomeAnd, Option, None, Some, codes, if◌then◌else◌, option_map, unwrap_or}
 use Rattle.std.specs.Bool.{then_some}
 use Rattle.std.specs.Borrow.{Bor}
-use Rattle.std.specs.Str.{bytes_eq}
 use Rattle.clap.specs.Words.{App, Row, Text, first_of, one_of}
 use Rattle.fmp_context.specs.declared.text.TextForm.{TextForm}
 use Rattle.fmp_context.specs.declared.text.TextForm.TheVariants as form
@@ -20,7 +19,7 @@ use Rattle.fmpsim_cli.specs.declared.Request.TheVariants as request
 use Rattle.fmpsim_cli.specs.declared.Subcommand.{Subcommand}
 use Rattle.fmpsim_cli.specs.declared.Subcommand.TheVariants as subcommand
 use Rattle.fmpsim_cli.specs.declared.Told.{Told}
-use Rattle.fmpsim_cli.specs.Flags.{told_by, asked_by, form_by, is_path, page_by}
+use Rattle.fmpsim_cli.specs.Flags.{told_by, asked_by, form_by, is_path, page_by, subcommand_by}
 
 -- each command line, as a parse reads it
 abbrev pub calls_line : App
@@ -118,20 +117,6 @@ IsWave rows _ = ⊥
 abbrev pub IsView : List Row → Request → Type 0
 IsView rows (request.Trace p a) = AsksView rows p a
 IsView rows _ = ⊥
-
--- the subcommand that a word names, if it names one
-abbrev pub subcommand_by : Option Text → Option Subcommand
-subcommand_by None = None
-subcommand_by (Some word) =
-    if bytes_eq word (codes "calls") then Some subcommand.Calls
-    else if bytes_eq word (codes "check") then Some subcommand.Check
-    else if bytes_eq word (codes "wave") then Some subcommand.Wave
-    else if bytes_eq word (codes "view") then Some subcommand.View
-    else if bytes_eq word (codes "smp") then Some subcommand.Smp
-    else if bytes_eq word (codes "explore") then Some subcommand.Explore
-    else if bytes_eq word (codes "shrink") then Some subcommand.Shrink
-    else if bytes_eq word (codes "list") then Some subcommand.List
-    else None
 
 -- what is asked for by the words of each, its name among them
 abbrev pub IsAsked : Subcommand → List Text → Request → Type 0

@@ -5,9 +5,9 @@
 
 ghost use Rattle.std.specs.Prelude.{◌≡◌, ◌≤◌, IfOk, IsErr, codes, drop, false, length, map, option_map, slice_get, true};
 ghost use Rattle.fmp_smp_command.specs.Found.{found_by, rows_in};
-ghost use Rattle.fmpsim_cli.specs.Cli.{AsksFor, AsksList, IsAsked, IsCalls, IsCheck, IsListedBy, IsView, IsWave, NamesPaths, subcommand_by};
+ghost use Rattle.fmpsim_cli.specs.Cli.{AsksFor, AsksList, IsAsked, IsCalls, IsCheck, IsListedBy, IsView, IsWave, NamesPaths};
 ghost use Rattle.fmpsim_cli.specs.Cli.{calls_line, check_line, list_line, view_line, wave_line};
-ghost use Rattle.fmpsim_cli.specs.Flags.{asked_by, form_by, is_path, page_by, told_by};
+ghost use Rattle.fmpsim_cli.specs.Flags.{asked_by, form_by, is_path, page_by, told_by, subcommand_by};
 
 use clap::error::ErrorKind;
 use clap::{Arg, ArgAction, ArgMatches, Command, Error};

@@ -1,5 +1,6 @@
 //! What `fmpsim check`, `fmpsim wave` and `fmpsim view` do.
 ghost use Rattle.std.specs.Prelude.{◌≡◌, ◌≢◌, ℕ, List, [], ◌++◌, ◌+◌, ◌-◌, ◌^◌, ◌<◌, OnOk, IfOk, IfErr, Some, Err, if◌then◌else◌};
+ghost use Rattle.fmp_judging.specs.Verdicts.{verdict_text};
 ghost use Rattle.fmp_devices.specs.Devices.{IsKnown, bytes_of};
 ghost use Rattle.fmp_judging.specs.Faults.{failed_write};
 ghost use Rattle.fmp_judging.specs.Texts.{CountsReads};
@@ -8,8 +9,8 @@ ghost use Rattle.fmp_view.specs.Runs.{LeavesShown, Shown};
 ghost use Rattle.fmp_view.specs.declared.run.PageKind.{PageKind as AnyKind};
 ghost use Rattle.fmpsim_commands.specs.Asked.{FirstFaultOf, page_asked};
 ghost use Rattle.fmp_wave.specs.Runs.{Drawn, LeavesDrawn};
-ghost use Rattle.fmpsim_run.specs.Checks.{IsCheckBegun, verdict_text};
-ghost use Rattle.fmpsim_partial.specs.Partials.{CheckedPartly, IsPartialBegun, IsPartlyOwn, verdict_text as partial_text};
+ghost use Rattle.fmpsim_run.specs.Checks.{IsCheckBegun};
+ghost use Rattle.fmpsim_partial.specs.Partials.{CheckedPartly, IsPartialBegun, IsPartlyOwn};
 ghost use Rattle.fmpsim_run.specs.Reports.{IsReported, IsReportBegun};
 ghost use Rattle.fmpsim_smp.specs.Scripted.{Played};
 ghost use Rattle.fmp_check.specs.declared.comparing.Shown.{Shown as AnyShown};
@@ -48,7 +49,7 @@ pub fn judge<R: Source, S: Source, W: Sink>(
     ensures partial { asked ≡ Asked.Partial → IsKnown (R.left config.old) → IsKnown (S.left trace.old)
         → IfOk result (CheckedPartly (bytes_of (R.left config.old)) (bytes_of (S.left trace.old))) }
     ensures partial_written { asked ≡ Asked.Partial → IsKnown (W.written output.old)
-        → IfOk result (λ verdict. bytes_of (W.written output.new) ≡ bytes_of (W.written output.old) ++ partial_text verdict) }
+        → IfOk result (λ verdict. bytes_of (W.written output.new) ≡ bytes_of (W.written output.old) ++ verdict_text verdict) }
     ensures partly_own { asked ≡ Asked.Partial → IsKnown (R.left config.old) → IsKnown (S.left trace.old) → IsPartlyOwn (bytes_of (R.left config.old)) (bytes_of (S.left trace.old)) → IsYes result }
     ensures partial_begun { asked ≡ Asked.Partial → IsKnown (R.left config.old) → IsKnown (S.left trace.old) → IsKnown (W.written output.old) → (result ≡ Err RunFault.Write)
         → IsPartialBegun (bytes_of (R.left config.old)) (bytes_of (S.left trace.old)) (bytes_of (W.written output.old)) (bytes_of (W.written output.new)) }

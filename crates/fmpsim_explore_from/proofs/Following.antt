@@ -10,12 +10,13 @@ use Rattle.fmp_machine.specs.Step.{step}
 use Rattle.fmp_listed.specs.Queues.{listed}
 use Rattle.fmp_trace.specs.Lines.{line_text, lines_from}
 use Rattle.fmp_histories.specs.Histories.{events_of}
+use Rattle.fmp_histories.proofs.Histories.{events_more}
 use Rattle.fmp_search.specs.declared.guided.Choice.{Choice}
 use Rattle.fmp_orders.specs.declared.rules.Rules.{Rules}
 use Rattle.fmp_orders.specs.Places.{Place, origin}
 use Rattle.fmp_orders.specs.Laws.{LeadsTo}
 use Rattle.fmp_orders.specs.Begun.{choice_of, choices_of}
-use Rattle.fmp_orders.proofs.Begun.{events_more, on_start, on_event, on_more}
+use Rattle.fmp_orders.proofs.Begun.{on_start, on_event, on_more}
 use Rattle.fmpsim_explore_from.specs.Lines.{GoesOnBy, GoesNoFurther}
 use Rattle.fmpsim_explore_from.specs.Strays.{FirstStray, IsBegunBy}
 use Rattle.fmpsim_explore_from.proofs.Printed.{lines-append}
@@ -29,11 +30,6 @@ pub record IsSoFar (c : Setup) (scripts : List Steps) (rules : Rules) (text : Li
   pub count : n ≡ length records + 1
   pub parts : text ≡ lines_from c.names 1 records ++ rest
   pub chosen : choices ≡ choices_of records
-
--- nothing is left where no byte is
-pub none_left : (xs : List ℕ) → length xs ≡ 0 → xs ≡ []
-none_left [] e = refl
-none_left (x ∷ xs) e = absurd (omega (arith, e))
 
 module _ (c : Setup) (scripts : List Steps) (rules : Rules) (valid : IsValid c) (text : List ℕ) where
   pub so_begun : (w : Place) → w ≡ origin c scripts rules [] → IsSoFar c scripts rules text w 1 [] text

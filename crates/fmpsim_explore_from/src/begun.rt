@@ -1,18 +1,16 @@
 //! The trace with which orders begin: whether it is that of one, and the steps of its events.
 ghost use Rattle.std.specs.Prelude.{◌≡◌, ◌≤◌, ◌<◌, ◌+◌, length, Some, IfOk, IfErr, IfSome, IfNone};
-ghost use Rattle.std.specs.Str.{bytes_eq};
 ghost use Rattle.fmp_codes.specs.declared.records.Event.{Event as AnyEvent};
 ghost use Rattle.fmp_scripts.specs.Scripts.{AreInBits};
 ghost use Rattle.fmp_text.specs.Limits.{most_bytes};
 ghost use Rattle.fmp_trace.specs.Heads.{event_of as event_told};
-ghost use Rattle.fmp_trace.specs.Lines.{core_text};
 ghost use Rattle.fmp_orders.specs.Begun.{choice_of as choice_for};
 ghost use Rattle.fmp_orders.specs.Places as places;
 ghost use Rattle.fmpsim_explore_from.specs.Lines.{HasHappened, GoesOnBy, GoesNoFurther};
 ghost use Rattle.fmpsim_explore_from.specs.Strays.{IsBegunBy, IsBegunFault};
 ghost use Rattle.fmpsim_explore_from.specs.declared.begun.BegunFault.TheVariants.{Memory};
 
-use fmp_codes::{Event, Record};
+use fmp_codes::Event;
 use fmp_explore::{Walker, choice_of};
 use fmp_machine::Config;
 use fmp_names::Names;
@@ -20,7 +18,7 @@ use fmp_orders::Rules;
 use fmp_question::Question;
 use fmp_scripts::Scripts;
 use fmp_search::{Choice, Space};
-use fmp_trace::{event_of, next_line, put_core};
+use fmp_trace::{event_of, is_line, next_line};
 use std::alloc::{AllocError, AllocFailed, Global};
 
 /// Why a text did not give the steps of an order.
@@ -46,21 +44,6 @@ impl<T: Drop> From<AllocFailed<T>> for BegunFault {
     fn from(_error: AllocFailed<T>) -> BegunFault {
         BegunFault::Memory
     }
-}
-
-/// Whether line n, without its line feed, is what is printed of the record. The scratch is written over, and the error is want of memory.
-fn is_line(
-    scratch: &mut Vec<u8>,
-    names: &Names,
-    n: u32,
-    entry: &Record,
-    line: &[u8],
-) -> Result<bool, AllocError>
-    ensures { IfOk result (λ same. same ≡ bytes_eq (core_text names.now n entry.now) line.now) }
-{
-    scratch.clear();
-    put_core(scratch, names, n, entry)?;
-    Ok(scratch.as_slice() == line)
 }
 
 /// Makes the event happen that a line tells, whatever its answer is, and gives it. None where the line tells none, or it cannot happen here.

@@ -1,22 +1,17 @@
 -- What a run that judges a partial trace reads and writes.
-use Rattle.std.specs.Prelude.{◌⊎◌, ℕ, List, ◌++◌, codes, decimal}
+use Rattle.std.specs.Prelude.{◌⊎◌, ℕ, List}
 use Rattle.fmp_check.specs.declared.checking.Verdict.{Verdict}
-use Rattle.fmp_check.specs.declared.checking.Verdict.TheVariants.{Yes, No}
 use Rattle.fmp_codes.specs.declared.records.Event.{Event}
 use Rattle.fmp_devices.specs.Devices.{BeginsWith}
 use Rattle.fmp_judging.specs.Texts.{SaysConfig}
 use Rattle.fmp_judging.specs.declared.fault.RunFault.{RunFault}
 use Rattle.fmp_judging.specs.declared.fault.RunFault.TheVariants as run
+use Rattle.fmp_judging.specs.Verdicts.{verdict_text}
 use Rattle.fmp_names.specs.Names.{NameLists}
 use Rattle.fmp_setup.specs.Setup.{Setup}
 use Rattle.fmp_text.specs.Events.{IsMemory}
 use Rattle.fmp_partial_check.specs.Verdicts.{JudgesPartly, PartlyPrintsAnswers}
 use Rattle.fmp_partial_trace.specs.Partly.{FirstFault}
-
--- a verdict as it is written
-abbrev pub verdict_text : Verdict → List ℕ
-verdict_text Yes = codes "yes\n"
-verdict_text (No n) = codes "no " ++ decimal n ++ codes "\n"
 
 -- the verdict on a partial trace, by the answers of the one text's machine to the events of the other
 pub record CheckedPartly (config_text trace_text : List ℕ) (verdict : Verdict) : Type 0 where

@@ -1,5 +1,6 @@
 //! The run that checks a partial trace.
 ghost use Rattle.std.specs.Prelude.{◌≡◌, ◌≢◌, List, ◌+◌, ◌-◌, ◌^◌, ◌<◌, ◌++◌, [], OnOk, IfOk, IfErr, Err, false, if◌then◌else◌};
+ghost use Rattle.fmp_judging.specs.Verdicts.{verdict_text};
 ghost use Rattle.fmp_check.specs.Checking.{PrintsAnswers};
 ghost use Rattle.fmp_codes.specs.declared.records.Event.{Event as AnyEvent};
 ghost use Rattle.fmp_devices.specs.Devices.{IsKnown, bytes_of};
@@ -7,35 +8,14 @@ ghost use Rattle.fmp_judging.specs.Faults.{failed_read, failed_write, is_config,
 ghost use Rattle.fmp_judging.specs.Texts.{CountsReads};
 ghost use Rattle.fmp_judging.specs.Traces.{IsYes, JudgesTexts};
 ghost use Rattle.fmp_partial_check.specs.Verdicts.{JudgesPartly, PartlyPrintsAnswers};
-ghost use Rattle.fmpsim_partial.specs.Partials.{CheckedPartly, FirstPartialFault, IsFirstOfPartial, IsPartialBegun, IsPartlyOwn, verdict_text};
+ghost use Rattle.fmpsim_partial.specs.Partials.{CheckedPartly, FirstPartialFault, IsFirstOfPartial, IsPartialBegun, IsPartlyOwn};
 
-use arrayvec::ArrayString;
 use fmp_check::Verdict;
 use fmp_devices::{Sink, Source, read_up_to, write_out};
-use fmp_judging::{RunFault, config_from};
+use fmp_judging::{RunFault, config_from, verdict_text};
 use fmp_machine::Config;
 use fmp_partial_check::check_partial;
-use itoa::Buffer;
 use std::alloc::Global;
-
-/// How many bytes the longest verdict has, `no 4294967295` and a line feed.
-const MOST_TEXT: usize = 14;
-
-/// A verdict as it is written: `yes`, or `no` and the number of the line.
-fn text_of(verdict: Verdict) -> ArrayString<MOST_TEXT>
-    ensures { result.bytes ≡ verdict_text verdict }
-{
-    let mut text = ArrayString::new();
-    match verdict {
-        Verdict::Yes => text.push_str("yes\n"),
-        Verdict::No(line) => {
-            text.push_str("no ");
-            text.push_str(Buffer::new().format(line));
-            text.push_str("\n");
-        }
-    }
-    text
-}
 
 /// Reads a partial trace to its end, and judges it.
 fn judged_by<S: Source>(alloc: Global, config: &Config, trace: &mut S) -> Result<Verdict, RunFault>
@@ -110,7 +90,7 @@ pub fn run_partial<R: Source, S: Source, W: Sink>(
     ensures writes { W.failures answer.new ≡ W.failures answer.old + (if failed_write result then 1 else 0) }
 {
     let verdict = judged_texts(alloc, config, trace)?;
-    let text = text_of(verdict);
+    let text = verdict_text(verdict);
     write_out(answer, text.as_str().as_bytes())?;
     Ok(verdict)
 }

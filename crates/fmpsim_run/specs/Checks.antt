@@ -1,14 +1,9 @@
 -- What a run that checks a trace writes.
-use Rattle.std.specs.Prelude.{ℕ, List, ◌++◌, codes, decimal}
+use Rattle.std.specs.Prelude.{ℕ, List}
 use Rattle.fmp_check.specs.declared.checking.Verdict.{Verdict}
-use Rattle.fmp_check.specs.declared.checking.Verdict.TheVariants.{Yes, No}
 use Rattle.fmp_devices.specs.Devices.{BeginsWith}
 use Rattle.fmp_judging.specs.Traces.{Checked}
-
--- a verdict as it is written
-abbrev pub verdict_text : Verdict → List ℕ
-verdict_text Yes = codes "yes\n"
-verdict_text (No n) = codes "no " ++ decimal n ++ codes "\n"
+use Rattle.fmp_judging.specs.Verdicts.{verdict_text}
 
 -- a prefix of the verdict was written after old
 abbrev pub IsCheckBegun : List ℕ → List ℕ → List ℕ → List ℕ → Type 0

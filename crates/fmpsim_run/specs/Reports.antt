@@ -11,10 +11,10 @@ use Rattle.fmp_check.specs.Differences.{Contrasts}
 use Rattle.fmp_codes.specs.declared.records.Record.{Record}
 use Rattle.fmp_judging.specs.declared.fault.RunFault.{RunFault}
 use Rattle.fmpsim_run.specs.Before.{state_before}
-use Rattle.fmpsim_run.specs.Checks.{verdict_text}
 use Rattle.fmp_devices.specs.Devices.{BeginsWith}
 use Rattle.fmp_judging.specs.Texts.{SaysConfig}
 use Rattle.fmp_judging.specs.Traces.{verdict_by}
+use Rattle.fmp_judging.specs.Verdicts.{verdict_text}
 
 -- what stands before the lines that differ: the verdict, or the header of a unified diff, which an empty one has not
 abbrev pub head_text : Shown → Verdict → List ℕ

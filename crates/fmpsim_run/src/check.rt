@@ -1,36 +1,16 @@
 //! The run that checks a trace.
 ghost use Rattle.std.specs.Prelude.{◌≡◌, ◌≢◌, ◌+◌, ◌-◌, ◌^◌, ◌<◌, ◌++◌, [], OnOk, IfOk, IfErr, Err, if◌then◌else◌};
+ghost use Rattle.fmp_judging.specs.Verdicts.{verdict_text};
 ghost use Rattle.fmp_devices.specs.Devices.{IsKnown, bytes_of};
 ghost use Rattle.fmp_judging.specs.Faults.{failed_write};
 ghost use Rattle.fmp_judging.specs.Texts.{CountsReads};
 ghost use Rattle.fmp_judging.specs.Traces.{Checked, FirstTraceFault, JudgesTexts};
-ghost use Rattle.fmpsim_run.specs.Checks.{IsCheckBegun, verdict_text};
+ghost use Rattle.fmpsim_run.specs.Checks.{IsCheckBegun};
 
-use arrayvec::ArrayString;
 use fmp_check::Verdict;
 use fmp_devices::{Sink, Source, write_out};
-use fmp_judging::{RunFault, judged_texts};
-use itoa::Buffer;
+use fmp_judging::{RunFault, judged_texts, verdict_text};
 use std::alloc::Global;
-
-/// How many bytes the longest verdict has, `no 4294967295` and a line feed.
-const MOST_TEXT: usize = 14;
-
-/// A verdict as it is written: `yes`, or `no` and the number of the line.
-pub(crate) fn text_of(verdict: Verdict) -> ArrayString<MOST_TEXT>
-    ensures { result.bytes ≡ verdict_text verdict }
-{
-    let mut text = ArrayString::new();
-    match verdict {
-        Verdict::Yes => text.push_str("yes\n"),
-        Verdict::No(line) => {
-            text.push_str("no ");
-            text.push_str(Buffer::new().format(line));
-            text.push_str("\n");
-        }
-    }
-    text
-}
 
 /// Reads a configuration and a trace, and writes whether the trace is what the machine answers to its events: `yes`, or
 /// `no` and the first line that is not.
@@ -64,7 +44,7 @@ pub fn run_check<R: Source, S: Source, W: Sink>(
     ensures writes { W.failures answer.new ≡ W.failures answer.old + (if failed_write result then 1 else 0) }
 {
     let judged = judged_texts(alloc, config, trace)?;
-    let text = text_of(judged.verdict);
+    let text = verdict_text(judged.verdict);
     write_out(answer, text.as_str().as_bytes())?;
     Ok(judged.verdict)
 }

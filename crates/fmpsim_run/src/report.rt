@@ -10,10 +10,9 @@ ghost use Rattle.fmpsim_run.specs.Reports.{Compared, IsReported, IsReportBegun, 
 ghost use Rattle.fmp_judging.specs.Texts.{CountsReads};
 
 use crate::before::put_state_before;
-use crate::check::text_of;
 use fmp_check::{Comparison, Shown, Verdict, compare_lines};
 use fmp_devices::{Failed, Sink, Source, read_up_to, write_all, write_out};
-use fmp_judging::{RunFault, config_from};
+use fmp_judging::{RunFault, config_from, verdict_text};
 use fmp_machine::Config;
 use std::alloc::{AllocError, Global};
 
@@ -100,7 +99,7 @@ fn write_head<W: Sink>(sink: &mut W, shown: Shown, verdict: Verdict) -> Result<(
     ensures err { IsKnown (W.written sink.old) → OnErr result (BeginsWith (bytes_of (W.written sink.old)) (head_text shown verdict) (bytes_of (W.written sink.new))) }
 {
     match (shown, verdict) {
-        (Shown::First, verdict) => write_all(sink, text_of(verdict).as_str().as_bytes()),
+        (Shown::First, verdict) => write_all(sink, verdict_text(verdict).as_str().as_bytes()),
         (Shown::Each, Verdict::Yes) => write_all(sink, b""),
         (Shown::Each, Verdict::No(_)) => write_all(sink, HEADER),
     }

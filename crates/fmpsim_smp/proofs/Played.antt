@@ -17,8 +17,8 @@ use Rattle.fmp_histories.specs.Histories.{events_of, state_after}
 use Rattle.fmp_devices.specs.Devices.{BeginsWith}
 use Rattle.fmp_judging.specs.declared.fault.RunFault.{RunFault}
 use Rattle.fmp_judging.specs.declared.fault.RunFault.TheVariants as kind
-use Rattle.fmp_judging.specs.Faults.{is_config, is_read, is_text}
-use Rattle.fmp_judging.specs.Texts.{CountsReads, FirstConfigFault, FirstScriptFault, SaysConfig}
+use Rattle.fmp_judging.specs.Faults.{is_read, is_text}
+use Rattle.fmp_judging.specs.Texts.{CountsReads, FirstScriptFault, SaysConfig}
 use Rattle.fmp_judging.specs.Traces.{IsOwn}
 use Rattle.fmp_judging.proofs.Yes.{own_trace}
 use Rattle.fmp_states.specs.Waits.{waiting_lines}
@@ -67,16 +67,6 @@ module _ (config_text script_text : List ℕ) (ticks turns : ℕ) (c : Setup) (h
 pub reads_kept : {T U : Type 0} (value : T) (fault : RunFault) (first_old first_new second_old second_new : ℕ) → CountsReads {T = T} (Ok value) first_old first_new second_old second_new → is_read fault ≡ false
     → CountsReads {T = U} (Err fault) first_old first_new second_old second_new
 reads_kept value fault first_old first_new second_old second_new reads other = record { sum = rw other reads.sum; first = reads.first; second = reads.second }
-
--- a fault that is none of a text is no first one
-pub no_config_fault : (config_text : List ℕ) (fault : RunFault) → is_config fault ≡ false → FirstConfigFault config_text fault
-no_config_fault config_text (kind.Config wrong) differs = cc
-no_config_fault config_text (kind.Text wrong) differs = tt
-no_config_fault config_text kind.Read differs = tt
-no_config_fault config_text kind.Write differs = tt
-no_config_fault config_text kind.Memory differs = tt
-no_config_fault config_text kind.Start differs = tt
-no_config_fault config_text kind.Disagree differs = tt
 
 pub no_script_fault : (config_text script_text : List ℕ) (fault : RunFault) → is_text fault ≡ false → FirstScriptFault config_text script_text fault
 no_script_fault config_text script_text (kind.Config wrong) differs = tt

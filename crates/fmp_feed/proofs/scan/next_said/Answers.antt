@@ -1,5 +1,6 @@
 use Rattle.std.proofs.Common.{◌+◌, None, refl, sym, ◌∙◌}
-use Rattle.fmp_text.proofs.Scanned.{said_as, take-to_end}
+use Rattle.fmp_bytes.proofs.Cutting.{take-to_end}
+use Rattle.fmp_text.proofs.Scanned.{said_as}
 use Rattle.fmp_feed.proofs.Searched.{IsFeedAt, first_feed, line_said, line_skipped, no_feed, none_left}
 use Rattle.fmp_feed.proofs.scan.next_said.Goals as goal
 use Rattle.fmp_feed.proofs.scan.next_said.Goals.{In-Some}

@@ -1,7 +1,7 @@
 use Rattle.std.proofs.Common.{sym, subst}
 use Rattle.fmp_machine.specs.World.{item}
+use Rattle.fmp_machine.proofs.Patterns.{unmet_with_fewer}
 use Rattle.fmp_flag.specs.Eventflags.{no_bits, WaitsUnmet}
-use Rattle.fmp_flag.proofs.Unmet.{unmet_with_fewer}
 use Rattle.fmp_flag.proofs.Flag.clear.Goals as goal
 
 pub returns-clause-unmet : goal.returns-clause-unmet

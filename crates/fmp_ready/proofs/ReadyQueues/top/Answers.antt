@@ -1,5 +1,6 @@
 use Rattle.std.proofs.Common.{ℕ, ◌≤◌, ap, sym, subst, ◌∙◌}
-use Rattle.fmp_ready.specs.Queues.{PriorityLists, top_of, top_at, number_of}
+use Rattle.fmp_codes.specs.Numbers.{task_number}
+use Rattle.fmp_ready.specs.Queues.{PriorityLists, top_of, top_at}
 use Rattle.fmp_ready.specs.Kept.{tasks_of}
 use Rattle.fmp_ready.proofs.Tops.{number_small}
 use Rattle.fmp_ready.proofs.ReadyQueues.top.Goals as goal
@@ -11,5 +12,5 @@ numbered-requires c =
 pub returns : goal.returns
 returns c =
     c.numbered.ensures (top_of c.args.self.now.lists c.args.processor)
-    (c.self.invariant.1.each c.index.result c.index.ensures.in_range ∙ ap (λ (k : ℕ). number_of (top_at (tasks_of c.self.inside.links) k)) c.index.ensures.value
-    ∙ ap (λ (v : PriorityLists). number_of (top_of v.lists c.args.processor)) c.self.view_is)
+    (c.self.invariant.1.each c.index.result c.index.ensures.in_range ∙ ap (λ (k : ℕ). task_number (top_at (tasks_of c.self.inside.links) k)) c.index.ensures.value
+    ∙ ap (λ (v : PriorityLists). task_number (top_of v.lists c.args.processor)) c.self.view_is)

@@ -1,7 +1,7 @@
 use Rattle.std.proofs.Common.{◌∙◌, inl, arith, sym, refl}
 use Rattle.std.proofs.lemmas.Grind.{common_steps}
 use Rattle.std.proofs.lemmas.Bool.{lt-ltb}
-use Rattle.fmp_text.proofs.Scanned.{take-to_end}
+use Rattle.fmp_bytes.proofs.Cutting.{take-to_end}
 use Rattle.fmp_scripts.specs.Texts.{scripts_in}
 use Rattle.fmp_scripts.proofs.Read.{judged, line_found, fault_found, text_ends, text_cut, reads_same}
 use Rattle.fmp_scripts.proofs.Kept.{result_fits}

@@ -7,12 +7,13 @@ use Rattle.fmp_machine.specs.Step.{answers, replay}
 use Rattle.fmp_refinement.specs.Stands.{Stands}
 use Rattle.fmp_orders.specs.Laws.{TakenAre}
 use Rattle.fmp_orders.specs.Sights.{sight}
+use Rattle.fmp_orders.proofs.Longer.{taken_long}
 use Rattle.fmp_listed.specs.Queues.{Queues, listed}
 use Rattle.fmp_machine.specs.World.{World}
+use Rattle.fmp_machine.proofs.Replays.{length-answers}
 use Rattle.fmp_explore.specs.Walked.{count_in}
-use Rattle.fmp_explore.proofs.Bounds.{taken_long}
 use Rattle.fmp_showing.specs.Seen.{AreNext, AreSeen}
-use Rattle.fmp_showing.proofs.Answering.{answers_long, seen_next, stands_next, taken_at_boot, taken_next, taken_within}
+use Rattle.fmp_showing.proofs.Answering.{seen_next, stands_next, taken_at_boot, taken_next, taken_within}
 use Rattle.fmp_showing.proofs.Seeing.{seen_at_boot}
 use Rattle.fmp_showing.proofs.showing.shows.Goals as goal
 
@@ -34,7 +35,7 @@ answer-requires-clause-room c =
     let given = take c.loop-event.event-index c.args.events.now in
     let so_far = c.loop-event.invariant in
     let here = c.loop-event-test.true in
-    let long = answers_long (booted config) given ∙ length-take-le c.loop-event.event-index c.args.events.now (omega (arith, here)) in
+    let long = length-answers (booted config) given ∙ length-take-le c.loop-event.event-index c.args.events.now (omega (arith, here)) in
     taken_within c.args.rules c.loop-event.watch.taken (answers numbered (booted config) given) so_far.taken_are
     (λ counted. let few = c.requires.few counted in omega (arith, long, few, here))
 

@@ -2,12 +2,13 @@ use Rattle.std.proofs.Common.{◌≡◌, ◌∙◌, ◌+◌, ◌-◌, ℕ, ◌<�
 use Rattle.std.proofs.lemmas.Grind.{common_steps}
 use Rattle.std.proofs.lemmas.Bool.{le-ltb, lt-ltb}
 use Rattle.std.proofs.lemmas.List.{append-nil}
+use Rattle.fmp_bytes.proofs.Cutting.{take-to_end}
 use Rattle.fmp_text.specs.Limits.{most_bytes, most_events}
 use Rattle.fmp_names.specs.Names.{NameLists}
 use Rattle.fmp_text.specs.Lines.{is_skipped}
 use Rattle.fmp_text.specs.Events.{Reading, at_end, reading_of, reading_from, with_events}
 use Rattle.fmp_text.proofs.Limited.{reading_on, reading_in_bits}
-use Rattle.fmp_text.proofs.Scanned.{IsScanned, said_as, scan_event, scan_past, scan_fault, scan_last, take-to_end}
+use Rattle.fmp_text.proofs.Scanned.{IsScanned, said_as, scan_event, scan_past, scan_fault, scan_last}
 use Rattle.fmp_text.proofs.events.read_events.Goals as goal
 use Rattle.fmp_text.proofs.events.read_events.Goals.{After-first_said-next, After-is_skipped}
 

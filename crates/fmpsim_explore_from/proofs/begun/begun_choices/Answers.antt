@@ -1,5 +1,6 @@
 use Rattle.std.proofs.Common.{◌≡◌, ◌≢◌, ◌∙◌, ◌+◌, ◌<◌, ◌^◌, List, [], length, arith, ap, subst, sym}
 use Rattle.std.proofs.lemmas.Bool.{eqb-true, eqb-false}
+use Rattle.std.proofs.lemmas.List.{nil_from_length}
 use Rattle.fmp_names.specs.Names.{AreValid, NameLists}
 use Rattle.fmp_machine.specs.Step.{step}
 use Rattle.fmp_listed.specs.Queues.{listed}
@@ -9,7 +10,7 @@ use Rattle.fmp_orders.specs.Places.{origin}
 use Rattle.fmp_explore.specs.Walked.{origin_of}
 use Rattle.fmpsim_explore_from.specs.Lines.{GoesOnBy, GoesNoFurther}
 use Rattle.fmpsim_explore_from.proofs.Printed.{line_shorter}
-use Rattle.fmpsim_explore_from.proofs.Following.{IsSoFar, so_begun, so_more, so_whole, so_stray, none_left}
+use Rattle.fmpsim_explore_from.proofs.Following.{IsSoFar, so_begun, so_more, so_whole, so_stray}
 use Rattle.fmpsim_explore_from.proofs.begun.begun_choices.Goals as goal
 
 pub loop-choices-init : goal.loop-choices-init
@@ -62,7 +63,7 @@ pub returns-then-is_empty-clause-begun : goal.returns-then-is_empty-clause-begun
 returns-then-is_empty-clause-begun c =
     let rest = c.loop-choices.rest.now in
     so_whole c.args.config.now c.args.scripts.now c.args.rules c.names-names.ensures.valid c.args.text.now c.loop-choices.walker.place c.loop-choices.number c.loop-choices.choices.items rest
-    c.loop-choices.invariant.so_far (none_left rest (eqb-true (length rest) 0 (sym c.if-is_empty.ensures)))
+    c.loop-choices.invariant.so_far (nil_from_length rest (eqb-true (length rest) 0 (sym c.if-is_empty.ensures)))
 
 pub returns-clause-fault : goal.returns-clause-fault
 returns-clause-fault c =

@@ -3,8 +3,9 @@ use Rattle.std.proofs.lemmas.Result.{err_from_is_err_and}
 use Rattle.fmp_judging.specs.declared.fault.RunFault.TheVariants.{Write}
 use Rattle.fmp_devices.specs.Devices.{bytes_of}
 use Rattle.fmp_judging.specs.Faults.{is_thread_fault}
+use Rattle.fmp_judging.proofs.Owed.{no_config_fault}
 use Rattle.fmp_names.specs.Names.{AreValid}
-use Rattle.fmpsim_smp.proofs.Played.{any_seed, begun_played, no_config_fault, no_script_fault, played, played_to_end, reads_kept, same_fault, tells_waiting}
+use Rattle.fmpsim_smp.proofs.Played.{any_seed, begun_played, no_script_fault, played, played_to_end, reads_kept, same_fault, tells_waiting}
 use Rattle.fmpsim_smp.proofs.threads.run_scripts.Goals as goal
 
 pub returns-in_err-waiting-clause-write : goal.returns-in_err-waiting-clause-write

@@ -3,7 +3,7 @@ use Rattle.fmp_codes.specs.declared.records.Event.{Event}
 use Rattle.fmp_codes.specs.declared.records.Record.{Record}
 use Rattle.fmp_machine.specs.Arrivals.{State, numbered}
 use Rattle.fmp_machine.specs.Step.{step}
-use Rattle.fmp_check.proofs.FittingAnswers.{step_event}
+use Rattle.fmp_machine.proofs.Replays.{step_event}
 use Rattle.fmp_check.proofs.walking.Player.play.Goals as goal
 
 pub returns-in_ok-put_core-in-Some-clause-told : goal.returns-in_ok-put_core-in-Some-clause-told

@@ -1,9 +1,9 @@
 use Rattle.std.proofs.Common.{◌∙◌, ◌≤◌, ap, drop}
 use Rattle.std.proofs.lemmas.List.{drop-drop}
+use Rattle.fmp_bytes.proofs.Cutting.{take-to_end}
 use Rattle.fmp_codes.specs.Records.{processor_of}
 use Rattle.fmp_calls.specs.Arguments.{EventInBits}
 use Rattle.fmp_text.proofs.Limited.{line_in_bits, line_on}
-use Rattle.fmp_text.proofs.Scanned.{take-to_end}
 use Rattle.fmp_feed.specs.Feed.{Feed}
 use Rattle.fmp_feed.proofs.Ahead.{taken_off}
 use Rattle.fmp_feed.proofs.Fitting.{scan_fits}

@@ -1,6 +1,7 @@
 use Rattle.std.proofs.Common.{length, ap, ◌∙◌}
+use Rattle.fmp_codes.specs.Numbers.{task_number}
 use Rattle.fmp_machine.specs.World.{World}
-use Rattle.fmp_ready.specs.Queues.{top_at, number_of}
+use Rattle.fmp_ready.specs.Queues.{top_at}
 use Rattle.fmp_listed.specs.Queues.{Queues}
 use Rattle.fmp_kernel_machine.proofs.Topping.{small_each, tops_told}
 use Rattle.fmp_kernel_machine.proofs.words.KernelMachineOverview.tops.Goals as goal
@@ -15,4 +16,4 @@ pub returns : goal.returns
 returns c =
     c.new.ensures ∙ tops_told c.args.self.now c.tops.result c.count.result (c.count.ensures.value ∙ ap (λ (w : World Queues). length w.processors) c.self.view_is)
     c.count.ensures.few c.tops.ensures.count
-    (λ k h. c.tops.ensures.each k h ∙ ap (λ (w : World Queues). number_of (top_at w.order.ready k)) c.self.view_is)
+    (λ k h. c.tops.ensures.each k h ∙ ap (λ (w : World Queues). task_number (top_at w.order.ready k)) c.self.view_is)

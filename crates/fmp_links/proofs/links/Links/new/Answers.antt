@@ -1,13 +1,10 @@
-use Rattle.std.proofs.Common.{◌≡◌, ℕ, ◌-◌, ◌<◌, ◌≤◌, List, [], length, replicate, arith, ⊎_elim}
+use Rattle.std.proofs.Common.{◌≡◌, ℕ, ◌-◌, ◌<◌, ◌≤◌, List, [], length, replicate, arith}
 use Rattle.std.specs.Prelude.{slice_index}
-use Rattle.std.proofs.lemmas.List.{length-replicate, get_or-replicate, get_or_past}
-use Rattle.std.proofs.lemmas.Bool.{cases_lt}
+use Rattle.std.proofs.lemmas.List.{length-replicate}
+use Rattle.fmp_codes.proofs.Counters.{zeros}
 use Rattle.fmp_links.specs.Rings.{IsSound}
 use Rattle.fmp_links.proofs.Soundness.{sound_new, lists_are, settled}
 use Rattle.fmp_links.proofs.links.Links.new.Goals as goal
-
-zeros : (n k : ℕ) → slice_index (replicate n 0) k ≡ 0
-zeros n k = ⊎_elim (λ (h : k < n). get_or-replicate n k 0 0 h) (λ (h : n ≤ k). get_or_past (replicate n 0) k 0 (omega (arith, h, length-replicate {A = ℕ} n 0))) (cases_lt k n)
 
 rings : (items nodes i : ℕ) (n p : List ℕ) → items ≤ nodes → nodes ≤ i → length n ≡ nodes → length p ≡ nodes →
     ((k : ℕ) → k < i → slice_index n k ≡ k) → ((k : ℕ) → k < i → slice_index p k ≡ k) → IsSound items n p (replicate items 0) (replicate (nodes - items) [])

@@ -1,8 +1,8 @@
 use Rattle.std.proofs.Common.{◌≡◌, ◌∙◌, Some, ap, sym}
+use Rattle.fmp_machine.proofs.Replays.{step_event}
 use Rattle.fmp_codes.specs.declared.records.Record.{Record}
 use Rattle.fmp_histories.specs.Histories.{state_after}
 use Rattle.fmp_world.specs.Turns.{told_after}
-use Rattle.fmp_histories.proofs.Histories.{step_event}
 use Rattle.fmp_world.proofs.history.History.play.Goals as goal
 
 pub returns-in-Some-clause-told : goal.returns-in-Some-clause-told

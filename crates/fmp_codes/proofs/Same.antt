@@ -1,12 +1,13 @@
--- Equal numbers make equal tasks, processors, objects and priorities.
-use Rattle.std.proofs.Common.{◌≡◌, ℕ, ◌≤◌, ap, ◌∙◌, subst}
+-- Of one number there is one processor, task, object and priority.
+use Rattle.std.proofs.Common.{◌≡◌, ℕ, ◌≤◌, ap, ◌∙◌, subst, arith}
 use Rattle.std.specs.Coded.{le_prop}
+use Rattle.fmp_codes.specs.Numbers.{as_proc, as_task, as_object, within}
 use Rattle.fmp_codes.specs.declared.numbers.Proc.{Proc}
 use Rattle.fmp_codes.specs.declared.numbers.Task.{Task}
 use Rattle.fmp_codes.specs.declared.numbers.Object.{Object}
 use Rattle.fmp_codes.specs.declared.numbers.Pri.{Pri}
 
-made_same : {X : Type 0} (most : ℕ) (make : (n : ℕ) → 1 ≤ n → n ≤ most → X) (n k : ℕ) → n ≡ k
+pub made_same : {X : Type 0} (most : ℕ) (make : (n : ℕ) → 1 ≤ n → n ≤ most → X) (n k : ℕ) → n ≡ k
     → (l : 1 ≤ n) (m : n ≤ most) (l' : 1 ≤ k) (m' : k ≤ most) → make n l m ≡ make k l' m'
 made_same most make n k e l m =
     let P : ℕ → Type 0 = λ k. (l' : 1 ≤ k) (m' : k ≤ most) → make n l m ≡ make k l' m' in
@@ -23,3 +24,16 @@ objects_same p q e = made_same 32 (λ n l m. record { number = n; least = l; mos
 
 pub priorities_same : (p q : Pri) → p.number ≡ q.number → p ≡ q
 priorities_same p q e = made_same 32 (λ n l m. record { number = n; least = l; most = m }) p.number q.number e p.least p.most q.least q.most
+
+-- and each is the one of its number
+within-same : (most n : ℕ) → 1 ≤ n → n ≤ most → within most n ≡ n
+within-same most n least few = omega (arith, least, few)
+
+pub as_proc-number : (p : Proc) → as_proc p.number ≡ p
+as_proc-number p = processors_same (as_proc p.number) p (within-same 8 p.number p.least p.most)
+
+pub as_task-number : (t : Task) → as_task t.number ≡ t
+as_task-number t = tasks_same (as_task t.number) t (within-same 64 t.number t.least t.most)
+
+pub as_object-number : (o : Object) → as_object o.number ≡ o
+as_object-number o = objects_same (as_object o.number) o (within-same 32 o.number o.least o.most)

@@ -1,0 +1,56 @@
+//! What the state of a task is called.
+ghost use Rattle.std.specs.Prelude.{◌≡◌};
+ghost use Rattle.fmp_machine.specs.TaskStates as spec;
+
+use crate::machine::TaskRecord;
+use fmp_codes::Task;
+
+/// The state of a task, as the standard calls it.
+#[derive(Clone, Copy, Debug, PartialEq, Eq)]
+pub enum TaskState {
+    Dormant,
+    Ready,
+    Running,
+    Waiting,
+    Suspended,
+    WaitingSuspended,
+}
+
+impl Default for TaskState {
+    ghost use Rattle.std.specs.Prelude.{◌≡◌};
+    ghost use Rattle.fmp_machine.specs.declared.states.TaskState.TheVariants.{Dormant};
+
+    /// Where there is no task it is dormant.
+    fn default() -> Self
+        ensures { result ≡ Dormant }
+    {
+        TaskState::Dormant
+    }
+}
+
+impl TaskState {
+    /// The state of a task that could run: it does, or it is ready.
+    #[inline(always)]
+    pub fn of_ready(task: Task, running: Option<Task>) -> TaskState
+        ensures { result ≡ spec.ready_state task running }
+    {
+        match running {
+            Some(other) if other.number == task.number => TaskState::Running,
+            _ => TaskState::Ready,
+        }
+    }
+
+    /// The state of a task with this record, where `running` runs on its processor.
+    #[inline(always)]
+    pub fn of(task: Task, record: &TaskRecord, running: Option<Task>) -> TaskState
+        ensures { result ≡ spec.task_state task record.now running }
+    {
+        match (record.active, record.wait.is_some(), record.suspended) {
+            (false, _, _) => TaskState::Dormant,
+            (true, true, true) => TaskState::WaitingSuspended,
+            (true, true, false) => TaskState::Waiting,
+            (true, false, true) => TaskState::Suspended,
+            (true, false, false) => TaskState::of_ready(task, running),
+        }
+    }
+}

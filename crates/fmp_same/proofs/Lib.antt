@@ -1,1 +1,0 @@
-pub mod Equal  -- Equal numbers make equal tasks, processors, objects and priorities.
