@@ -1,6 +1,9 @@
-//! Laws of what is told: no fault is forgotten or told twice, nothing that is read is left out, and each answer and attribute is told.
-ghost use Rattle.std.specs.Prelude.{◌≡◌, ℕ, ◌+◌, true, false, List, ◌++◌, Some, Contains, is_some, map, slice_get, codes, decimal};
+//! Laws of what is told: no fault and no call is forgotten or told twice, nothing that is read is left out, and each answer and
+//! attribute is told.
+ghost use Rattle.std.specs.Prelude.{◌≡◌, ℕ, ◌+◌, true, false, List, ◌++◌, Some, Contains, is_some, map, count_by, slice_get, codes, decimal};
+ghost use Rattle.std.specs.List.{list_all};
 ghost use Rattle.std.specs.Option.{option_map_or};
+ghost use Rattle.std.specs.Str.{bytes_eq};
 ghost use Rattle.fmp_codes.specs.Codes.{name_of};
 ghost use Rattle.fmp_codes.specs.Records.{word_of};
 ghost use Rattle.fmp_codes.specs.declared.codes.Code.{Code};
@@ -15,6 +18,7 @@ ghost use Rattle.fmp_statements.specs.Faults as configs;
 ghost use Rattle.fmp_statements.specs.Table as statements;
 ghost use Rattle.fmp_text.specs.declared.fault.TextKind.{TextKind};
 ghost use Rattle.fmp_text.specs.Faults as texts;
+ghost use Rattle.fmp_help.specs.declared.deeds.TheConstants.{DEEDS};
 ghost use Rattle.fmp_help.specs.declared.faults.TheConstants.{CONFIG_KINDS, TEXT_KINDS};
 ghost use Rattle.fmp_help.specs.declared.left_out.TheConstants.{BEGINNINGS, ENDINGS, NAMES};
 ghost use Rattle.fmp_help.specs.Faults.{config_kinds, text_kinds, about_config, about_text};
@@ -43,6 +47,12 @@ pub fn text_faults_are_listed()
     ensures order { (i : ℕ) (kind : TextKind) → slice_get text_kinds i ≡ Some kind
         → texts.code_of kind ≡ codes "E" ++ decimal (i + 1) }
     ensures told { (kind : TextKind) → about (texts.code_of kind) ≡ Some (about_text kind) }
+{}
+
+/// The table of what the calls do has exactly one row with the name of each call, and no other row.
+pub fn deeds_are_listed()
+    ensures once { (call : Call) → count_by (λ row. bytes_eq row.0.now (calls.text_of call)) DEEDS ≡ 1 }
+    ensures no_other { list_all (λ row. is_some (calls.named row.0.now)) DEEDS ≡ true }
 {}
 
 /// The words that are compared are those of the definition.
