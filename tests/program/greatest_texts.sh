@@ -13,6 +13,10 @@ greatest_texts() {
     fi
     yes 'P1 tick' | head -n 1000001 > long.txt
     run 1 whole.txt "$(as_file echo fmpsim: long.txt: line 1000001: E7 too many)" calls "$late/machine.cfg" long.txt
+    # taken whole, it has the same fault, and a million events before another one have none
+    run 1 /dev/null "$(as_file echo fmpsim: long.txt: line 1000001: E7 too many)" shrink "$late/machine.cfg" long.txt --find tick
+    { head -n 1000000 long.txt && echo 'P1 jump()'; } > front.txt
+    run 1 /dev/null "$(as_file echo fmpsim: front.txt: line 1000001: E2 bad word)" shrink "$late/machine.cfg" front.txt --find tick
     # 5 MiB
     head -n 210000 whole.txt > front.txt
     run 0 "$(as_file echo yes)" /dev/null check "$late/machine.cfg" front.txt

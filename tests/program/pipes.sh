@@ -24,6 +24,18 @@ pipes() {
     ended=no
     [ "$pieces" -ge 1 ] && [ "$pieces" -le 60 ] && ended=yes
     count "$ended" calls "$late/machine.cfg" events.txt "# in $pieces writes"
+    events_in_pieces
+}
+
+# Events in pieces of each length are answered as in one piece.
+events_in_pieces() {
+    local well=no
+    if [ "$kind" = unproved ]; then
+        left_out 'it takes minutes there' calls machine.cfg - '# events in pieces'
+        return
+    fi
+    python3 "$top/tests/program/pieces.py" "$program" > output 2> errors && [ "$(cat output)" -gt 600 ] && well=yes || cat output errors
+    count "$well" calls machine.cfg - '# pieces.py'
 }
 
 # in_pieces COMMAND..: in how many pieces the command's output comes through a pipe that keeps its writes apart.

@@ -1,14 +1,8 @@
-//! Tests of functions that read texts: what neither a contract says nor a case of `tests/cases` shows.
+//! Tests of functions that read texts: what no case under `tests` shows.
 #![tactic(auto)]
 
 #[cfg(test)]
-mod bytes;
-#[cfg(test)]
 mod calls;
-#[cfg(test)]
-mod codes;
-#[cfg(test)]
-mod config;
 #[cfg(test)]
 mod feed;
 #[cfg(test)]

@@ -1,10 +1,9 @@
-//! What script texts say.
-use crate::text::{add, between, with_machine};
+//! Whether script texts say the same. What they say shows in runs.
+use crate::text::{add, with_machine};
 use fmp_calls::NameKind;
-use fmp_codes::{Call, SystemCall, TaskCall};
 use fmp_scripts::{Scripts, read_scripts};
 use fmp_text::Names;
-use std::alloc::Global;
+use std::alloc::{AllocError, Global};
 use std::process::Abort;
 use std::test::Fail;
 
@@ -16,6 +15,14 @@ fn with_functions<F: FnOnce(&Names) -> Result<(), Fail>>(alloc: Global, test: F)
         add(names, NameKind::Function, b"handler")?;
         test(names)
     })
+}
+
+/// A text between two others.
+fn between(alloc: Global, prefix: &[u8], text: &[u8], end: &[u8]) -> Result<Vec<u8>, AllocError> {
+    let mut whole = Vec::from_slice(alloc, prefix)?;
+    whole.extend_from_slice(text)?;
+    whole.extend_from_slice(end)?;
+    Ok(whole)
 }
 
 /// A text with a script.
@@ -30,35 +37,6 @@ fn read(alloc: Global, names: &Names, text: &[u8]) -> Result<Scripts, Fail> {
         Ok(scripts) => Ok(scripts),
         Err(fault) => Err(format!(in alloc; "{fault}")?)?,
     }
-}
-
-/// A function and a position in its script, and the step there.
-type Step = (u8, u32, Option<Call>);
-
-const STEPS: [Step; 6] = [
-    (1, 0, Some(Call::Task(TaskCall::ActTsk(2)))),
-    (1, 1, Some(Call::Task(TaskCall::SlpTsk))),
-    (1, 2, None),
-    (2, 0, Some(Call::System(SystemCall::IgetTid))),
-    (2, 1, None),
-    (3, 0, None),
-];
-
-/// Asserts the step at each position.
-fn have_steps(rt: &impl Abort, scripts: &Scripts, rows: &[Step]) {
-    for (function, position, step) in rows {
-        assert!(rt; scripts.step(Some(*function), *position) == *step);
-    }
-}
-
-#[test]
-fn scripts_are_what_the_text_says(rt: HostRuntime) -> Result<(), Fail> {
-    with_functions(rt.alloc(), |names| {
-        let text = between(rt.alloc(), ONE, SECOND, b"")?;
-        let scripts = read(rt.alloc(), names, text.as_slice())?;
-        have_steps(&rt, &scripts, &STEPS);
-        Ok(())
-    })
 }
 
 /// Whether two texts say the same scripts, asked either way.
