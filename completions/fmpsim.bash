@@ -13,7 +13,7 @@ _fmpsim() {
         *,shrink,-*) words='--find --context --help --diagnostics=gcc' ;;
         *,list,-*) words='--context --help --diagnostics=gcc' ;;
         2,help,*) words='calls check wave view smp explore shrink list help' ;;
-        2,list,*) words=$("${COMP_WORDS[0]}" list 2> /dev/null | grep -oE "^[A-Za-z][A-Za-z0-9_]*") ;;
+        2,list,*) words=$("${COMP_WORDS[0]}" list 2> /dev/null | grep -owE "^([a-z][a-z0-9_]*|[A-Z][A-Z0-9_]*)") ;;
     esac
     mapfile -t COMPREPLY < <(compgen -W "$words" -- "$word")
 }

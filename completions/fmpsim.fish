@@ -12,7 +12,7 @@ complete -c fmpsim -n '__fish_seen_subcommand_from check' -l partial -d 'Judges 
 complete -c fmpsim -n '__fish_seen_subcommand_from check' -l context -d 'Shows below a fault its line, its place and what is wanted there'
 complete -c fmpsim -n '__fish_seen_subcommand_from check' -l help -d 'Print help'
 complete -c fmpsim -n __fish_use_subcommand -f -a wave -d 'Writes the waveform of a trace, for GTKWave and other viewers'
-complete -c fmpsim -n '__fish_seen_subcommand_from wave' -l gtkw -d 'Writes GTKWave's save file for CFG, without TRACE'
+complete -c fmpsim -n '__fish_seen_subcommand_from wave' -l gtkw -d 'Writes GTKWave'\''s save file for CFG, without TRACE'
 complete -c fmpsim -n '__fish_seen_subcommand_from wave' -l context -d 'Shows below a fault its line, its place and what is wanted there'
 complete -c fmpsim -n '__fish_seen_subcommand_from wave' -l help -d 'Print help'
 complete -c fmpsim -n __fish_use_subcommand -f -a view -d 'Writes a page that shows a trace in a browser'
@@ -49,4 +49,4 @@ complete -c fmpsim -n '__fish_seen_subcommand_from list' -l context -d 'Shows be
 complete -c fmpsim -n '__fish_seen_subcommand_from list' -l help -d 'Print help'
 complete -c fmpsim -n __fish_use_subcommand -f -a help -d 'Print this message or the help of the given subcommand(s)'
 complete -c fmpsim -l diagnostics -x -a 'plain gcc' -d 'How each command tells faults, plain or gcc, by which editors jump to the place'
-complete -c fmpsim -n '__fish_seen_subcommand_from list' -a "(fmpsim list | string match -r '^[A-Za-z][A-Za-z0-9_]*')"
+complete -c fmpsim -n '__fish_seen_subcommand_from list' -a "(fmpsim list | string match -r '^(?:[a-z][a-z0-9_]*|[A-Z][A-Z0-9_]*)\b')"

@@ -20,6 +20,11 @@ about_diagnostics() {
     "$program" --help | sed -nE 's/^ +--diagnostics <FORM> +(.*)$/\1/p'
 }
 
+# as it stands between single quotes, in each of these shells
+quoted() {
+    sed "s/'/'\\\\''/g"
+}
+
 names() {
     cut -f 1 | paste -s -d ' '
 }
@@ -36,7 +41,7 @@ for_bash() {
         [ "$command" = help ] || echo "        *,$command,-*) words='$(options "$command" | sed 's/^/--/' | names) --diagnostics=gcc' ;;"
     done
     echo "        2,help,*) words='$(commands | names)' ;;"
-    echo '        2,list,*) words=$("${COMP_WORDS[0]}" list 2> /dev/null | grep -oE "^[A-Za-z][A-Za-z0-9_]*") ;;'
+    echo '        2,list,*) words=$("${COMP_WORDS[0]}" list 2> /dev/null | grep -owE "^([a-z][a-z0-9_]*|[A-Z][A-Z0-9_]*)") ;;'
     echo '    esac'
     echo '    mapfile -t COMPREPLY < <(compgen -W "$words" -- "$word")'
     echo '}'
@@ -55,10 +60,10 @@ for_fish() {
                 *) value=' -x' ;;
             esac
             echo "complete -c fmpsim -n '__fish_seen_subcommand_from $command' -l $option$value -d '$about'"
-        done < <(options "$command")
-    done < <(commands)
-    echo "complete -c fmpsim -l diagnostics -x -a 'plain gcc' -d '$(about_diagnostics)'"
-    echo "complete -c fmpsim -n '__fish_seen_subcommand_from list' -a \"(fmpsim list | string match -r '^[A-Za-z][A-Za-z0-9_]*')\""
+        done < <(options "$command" | quoted)
+    done < <(commands | quoted)
+    echo "complete -c fmpsim -l diagnostics -x -a 'plain gcc' -d '$(about_diagnostics | quoted)'"
+    echo "complete -c fmpsim -n '__fish_seen_subcommand_from list' -a \"(fmpsim list | string match -r '^(?:[a-z][a-z0-9_]*|[A-Z][A-Z0-9_]*)\b')\""
 }
 
 for_zsh() {
@@ -71,17 +76,17 @@ for_zsh() {
     echo '    case $state,$line[1] in'
     echo '        command,*)'
     echo '            local -a commands=('
-    commands | sed -E "s/^([a-z]+)\t(.*)$/                '\1:\2'/"
+    commands | quoted | sed -E "s/^([a-z]+)\t(.*)$/                '\1:\2'/"
     echo '            )'
     echo '            _describe command commands ;;'
     for command in $(commands | names); do
         [ "$command" = help ] && continue
         echo "        words,$command)"
         echo '            _arguments \'
-        options "$command" | sed -E "s/^([a-z]+)\t-\t(.*)$/                '--\1[\2]' \\\\/; s/^([a-z]+)\tTRACE\t(.*)$/                '--\1=[\2]:TRACE:_files' \\\\/; s/^([a-z]+)\tDIR\t(.*)$/                '--\1=[\2]:DIR:_files -\\/' \\\\/; s/^([a-z]+)\t([A-Z]+)\t(.*)$/                '--\1=[\3]:\2:' \\\\/"
-        echo "                '--diagnostics=[$(about_diagnostics)]:FORM:(plain gcc)' \\"
+        options "$command" | quoted | sed -E "s/^([a-z]+)\t-\t(.*)$/                '--\1[\2]' \\\\/; s/^([a-z]+)\tTRACE\t(.*)$/                '--\1=[\2]:TRACE:_files' \\\\/; s/^([a-z]+)\tDIR\t(.*)$/                '--\1=[\2]:DIR:_files -\\/' \\\\/; s/^([a-z]+)\t([A-Z]+)\t(.*)$/                '--\1=[\3]:\2:' \\\\/"
+        echo "                '--diagnostics=[$(about_diagnostics | quoted)]:FORM:(plain gcc)' \\"
         if [ "$command" = list ]; then
-            echo "                '1:name:{ compadd -- \${(f)\"\$(fmpsim list 2> /dev/null | grep -oE \"^[A-Za-z][A-Za-z0-9_]*\")\"}; _files }' ;;"
+            echo "                '1:name:{ compadd -- \${(f)\"\$(fmpsim list 2> /dev/null | grep -owE \"^([a-z][a-z0-9_]*|[A-Z][A-Z0-9_]*)\")\"}; _files }' ;;"
         else
             echo "                '*:file:_files' ;;"
         fi

@@ -6,9 +6,11 @@ completions() {
     for command in fmpsim.bash _fmpsim fmpsim.fish; do
         diff "$top/completions/$command" "made/$command" || same=no
     done
+    # each quote is closed, as zsh and fish close them, too
+    bash -n "$top/completions/_fmpsim" && bash -n "$top/completions/fmpsim.fish" || same=no
     count "$same" --help
     [ "$(completed calls --)" = "$(long_options calls && echo --diagnostics=gcc)" ] && [ "$(completed smp --t)" = $'--ticks\n--turns' ] \
-        && [ "$(completed list twai_s)" = twai_sem ] && [ "$(completed l)" = list ] && [ -z "$(completed calls x)" ] && right=yes
+        && [ "$(completed list twai_s)" = twai_sem ] && [ "$(completed l)" = list ] && [ -z "$(completed calls x)" ] && [ -z "$(completed list Ser)" ] && right=yes
     count "$right" '<Tab>'
     for command in $(sed -nE "s/.* words='(.*) help --help --version'.*/\1/p" "$top/completions/fmpsim.bash"); do
         same=no
