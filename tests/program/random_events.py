@@ -1,6 +1,6 @@
 """random_events.py PROGRAM SEED PROCESSORS MASTER: random events on a machine with so many processors, whose time is that of the processor
-MASTER, or of each where this is 0. `calls` plays them on the kernel and `check` on the plain machine: these answer alike, and what
-the one shows of its state after every fifth event is what the other does. Prints how many calls were accepted."""
+MASTER, or of each where this is 0. `calls` plays them on the kernel and `check` on the plain machine: these answer alike. After every
+fifth event `check --show` tells the state that `calls --state` tells: both tell the kernel's. Prints how many calls were accepted."""
 import subprocess
 import sys
 
@@ -135,5 +135,5 @@ for count in range(0, EVENTS, BETWEEN_STATES):
     report = checked("--show", trace[:count] + [f"{count + 1} P1 - get_pid() E_OK:9\n"])
     shown = f"no {count + 1}\n" + "".join(states[count])
     if not report.startswith(shown):
-        sys.exit(f"the plain machine is in another state:\n{report}in place of\n{shown}")
+        sys.exit(f"check --show tells another state:\n{report}in place of\n{shown}")
 print(sum(" E_OK" in line for line in trace))
