@@ -151,18 +151,19 @@ refused_configurations() {
     run 2 /dev/null "$(as_file echo fmpsim: nothing is called -: see fmpsim list)" list -
 }
 
-# Of each call it is told what it does and what it answers, in two lines, and each answer there is one of the call's errors in
-# docs/PROFILE.md.
+# Of each call it is told what it does and what it answers, word for word as deeds.txt has it, which was written by hand; and each of the
+# call's errors in docs/PROFILE.md is there.
 listed_deeds() {
     local call each=yes code
     play list
     for call in $(grep -oE '^[a-z]+_[a-z]+' output); do
         play list "$call"
-        [ "$(tail -n 2 output | grep -cE '^  (does|answers): [A-Za-z].*\.$')" = 2 ] || { each=no && echo "list $call"; }
+        { echo "$call" && tail -n 2 output; } >> deeds
         for code in $(grep -E "^\|.*\`$call[(\`]" "$top/docs/PROFILE.md" | cut -d '|' -f 3 | grep -oE 'E_[A-Z]+'); do
             tail -n 1 output | grep -q "$code" || { each=no && echo "list $call: $code"; }
         done
     done
+    diff "$top/tests/program/deeds.txt" deeds || each=no
     count "$each" list '# each call'
 }
 
