@@ -2,7 +2,7 @@
 use fmp_codes::Mode;
 
 /// The kinds of objects.
-#[derive(Clone, Copy, Debug, PartialEq, Eq)]
+#[derive(Clone, Copy, PartialEq, Eq)]
 pub enum ObjectKind {
     Task,
     Semaphore,
@@ -49,14 +49,14 @@ impl ObjectKind {
 }
 
 /// What a name is a name of. Functions have a name space of their own.
-#[derive(Clone, Copy, Debug, PartialEq, Eq)]
+#[derive(Clone, Copy, PartialEq, Eq)]
 pub enum NameKind {
     Object(ObjectKind),
     Function,
 }
 
 /// What an argument of a call stands for.
-#[derive(Clone, Copy, Debug, PartialEq, Eq)]
+#[derive(Clone, Copy, PartialEq, Eq)]
 pub enum ArgumentKind {
     /// The number of an object.
     Object(ObjectKind),
@@ -77,7 +77,7 @@ pub enum ArgumentKind {
 }
 
 /// An argument's value.
-#[derive(Clone, Copy, Debug, PartialEq, Eq)]
+#[derive(Clone, Copy, PartialEq, Eq)]
 pub enum Value {
     Number(i32),
     Pattern(u32),

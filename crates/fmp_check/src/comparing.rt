@@ -21,7 +21,7 @@ use fmp_trace::{next_line, put_number};
 use std::alloc::{AllocError, Global};
 
 /// Which of the lines that differ are shown, and how.
-#[derive(Clone, Copy, Debug, PartialEq, Eq)]
+#[derive(Clone, Copy, PartialEq, Eq)]
 pub enum Shown {
     /// The first one: what stands there behind `- `, and the machine's own line behind `+ `.
     First,
@@ -30,7 +30,7 @@ pub enum Shown {
 }
 
 /// A trace held against what the machine answers to its events.
-#[derive(Debug, Drop)]
+#[derive(Drop)]
 pub struct Comparison {
     /// Whether all lines are the machine's.
     pub verdict: Verdict,

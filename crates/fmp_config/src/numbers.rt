@@ -10,7 +10,7 @@ use fmp_setup::{Class, Parts, is_class_of};
 use fmp_statements::{ConfigKind, Fault, Pieces, Range, StatementName, Word, numeral};
 
 /// The numbers of a statement, 0 where it has none.
-#[derive(Clone, Copy, Debug, PartialEq, Eq)]
+#[derive(Clone, Copy, PartialEq, Eq)]
 pub struct Numbers {
     pub first: u64,
     pub second: u64,

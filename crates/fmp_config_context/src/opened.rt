@@ -10,7 +10,7 @@ use fmp_tokens::{Lexer, Token, TokenKind};
 use std::marker::Model;
 
 /// A statement that is open: what has to follow of the part that is being read, and the parts behind it.
-#[derive(Debug, Drop)]
+#[derive(Drop)]
 pub(crate) struct Opened {
     name: StatementName,
     scan: Scan,

@@ -18,7 +18,7 @@ use fmp_text::{Names, TextFault, TextKind, without_return};
 use std::alloc::{AllocError, Global};
 
 /// The texts that are read beside a configuration.
-#[derive(Clone, Copy, Debug, PartialEq, Eq)]
+#[derive(Clone, Copy, PartialEq, Eq)]
 pub enum TextForm {
     Events,
     Scripts,

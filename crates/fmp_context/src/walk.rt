@@ -10,7 +10,7 @@ use fmp_text::{Names, is_argument, value_at};
 use std::marker::Model;
 
 /// Where reading stands: the rest of the line, and what is wanted at its beginning where it does not go on so.
-#[derive(Debug, Drop)]
+#[derive(Drop)]
 pub struct Walk<'a> {
     rest: &'a [u8],
     wanted: Option<Wanted>,

@@ -8,7 +8,7 @@ use crate::source::{Failed, Source};
 use std::alloc::{AllocError, Global};
 
 /// Bytes in memory, to be read.
-#[derive(Debug, Drop)]
+#[derive(Drop)]
 pub struct MemSource<'a> {
     rest: &'a [u8],
     /// How many reads go well before one fails.
@@ -90,7 +90,7 @@ impl Source for MemSource<'_> {
 }
 
 /// Memory that is written to, of a room that it takes when it is made. A write takes what fits.
-#[derive(Debug, Drop)]
+#[derive(Drop)]
 pub struct MemSink {
     bytes: Vec<u8>,
     room: usize,

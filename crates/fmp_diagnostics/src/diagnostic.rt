@@ -2,7 +2,7 @@
 use std::fmt;
 
 /// Where a fault is in its text, as far as that is known. Lines and columns count from 1, and a column counts bytes.
-#[derive(Clone, Copy, Debug, PartialEq, Eq)]
+#[derive(Clone, Copy, PartialEq, Eq)]
 pub enum Spot {
     /// The fault is in no line.
     Nowhere,
@@ -45,7 +45,7 @@ impl fmt::Display for Spot {
 }
 
 /// The first fault of a text, told as compilers tell theirs: `events.txt:2:13: error: E3 unknown name`.
-#[derive(Clone, Copy, Debug)]
+#[derive(Clone, Copy)]
 pub struct Diagnostic<'a> {
     /// The path of the text.
     pub path: &'a str,

@@ -127,7 +127,7 @@ const PARTS: &[Part<'static>] = &[
 ];
 
 /// What the command line of `fmpsim explore` asks for.
-#[derive(Clone, Copy, Debug)]
+#[derive(Clone, Copy)]
 pub struct ExploreRequest<'a> {
     /// The path of the configuration.
     pub config: &'a str,

@@ -84,7 +84,7 @@ impl Error for RunFault {}
 
 /// The line that tells a fault to a user: `fmpsim: machine.cfg: line 4: F3 unsupported API CRE_MTX`, with the path of the
 /// text that has it, or `fmpsim: read failed`.
-#[derive(Clone, Copy, Debug)]
+#[derive(Clone, Copy)]
 pub struct FaultLine<'a> {
     /// The path of the configuration.
     pub config: &'a str,

@@ -5,7 +5,7 @@ ghost use Rattle.fmp_judging.specs.Statuses as spec;
 use fmp_check::Verdict;
 
 /// How the program ends. The number of each is its exit status.
-#[derive(Clone, Copy, Debug, PartialEq, Eq)]
+#[derive(Clone, Copy, PartialEq, Eq)]
 pub enum Status {
     /// All is done, the verdict is yes, no processor had anything left to do, or help was asked for.
     Done = 0,

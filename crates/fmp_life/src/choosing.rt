@@ -9,7 +9,7 @@ use fmp_names::Names;
 use std::alloc::Global;
 
 /// Why a list of names names no things.
-#[derive(Clone, Copy, Debug, PartialEq, Eq)]
+#[derive(Clone, Copy, PartialEq, Eq)]
 pub enum NameFault {
     /// Memory ran out.
     Memory,

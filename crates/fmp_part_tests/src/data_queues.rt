@@ -21,7 +21,7 @@ enum Command {
     StopReceiving(u8),
 }
 
-#[derive(Clone, Copy, Debug, PartialEq, Eq)]
+#[derive(Clone, Copy, PartialEq, Eq)]
 enum Answer {
     Kept,
     /// The oldest value is lost.
@@ -220,10 +220,7 @@ fn carry_out(queue: &mut Dtq, command: Command) -> Answer {
 fn are_answered(rt: &impl Abort, mut queue: Dtq, rows: &[Row]) -> Result<(), Fail> {
     for (number, (command, expected, values, senders, receivers)) in rows.iter().enumerate() {
         let found = carry_out(&mut queue, *command);
-        assert!(rt;
-            found == *expected,
-            "{found:?} in place of {expected:?} in row {number}"
-        );
+        assert!(rt; found == *expected, "another answer in row {number}");
         assert!(rt; queue.len() == *values, "{number}");
         assert!(rt;
             are(queue.senders(), *senders),

@@ -173,7 +173,7 @@ fn are_answered(rt: &impl Abort, rows: &[Row]) -> Result<(), Fail> {
     let mut dispatch = Dispatch::new(3);
     for (number, (command, expected, running, pending, held, due)) in rows.iter().enumerate() {
         let found = carry_out(&mut dispatch, *command).map(number_of);
-        assert!(rt; found == *expected, "{found:?} in row {number}");
+        assert!(rt; found == *expected, "another answer in row {number}");
         assert!(rt;
             number_of(dispatch.running(P2)) == *running,
             "running after row {number}"

@@ -41,7 +41,7 @@ enum Command {
     Stop(u8),
 }
 
-#[derive(Clone, Copy, Debug, PartialEq, Eq)]
+#[derive(Clone, Copy, PartialEq, Eq)]
 enum Answer {
     Released(usize),
     Cleared,
@@ -225,10 +225,7 @@ fn are_answered(rt: &impl Abort, setup: EventflagSetup, rows: &[Row]) -> Result<
     let mut flag = Flag::new(setup);
     for (number, (command, expected, releases, pattern, waiting)) in rows.iter().enumerate() {
         let (found, released) = carry_out(&mut flag, *command);
-        assert!(rt;
-            found == *expected,
-            "{found:?} in place of {expected:?} in row {number}"
-        );
+        assert!(rt; found == *expected, "another answer in row {number}");
         assert!(rt;
             are_released(released, *releases),
             "releases in row {number}"

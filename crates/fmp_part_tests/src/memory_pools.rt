@@ -15,7 +15,7 @@ enum Command {
     Stop(u8),
 }
 
-#[derive(Clone, Copy, Debug, PartialEq, Eq)]
+#[derive(Clone, Copy, PartialEq, Eq)]
 enum Answer {
     Got(u8),
     Nothing,
@@ -132,10 +132,7 @@ fn carry_out(pool: &mut Mpf, command: Command) -> Answer {
 fn are_answered(rt: &impl Abort, pool: &mut Mpf, rows: &[Row]) -> Result<(), Fail> {
     for (number, (command, expected, waiting)) in rows.iter().enumerate() {
         let found = carry_out(pool, *command);
-        assert!(rt;
-            found == *expected,
-            "{found:?} in place of {expected:?} in row {number}"
-        );
+        assert!(rt; found == *expected, "another answer in row {number}");
         assert!(rt; are(pool.list(), *waiting), "tasks after row {number}");
     }
     Ok(())

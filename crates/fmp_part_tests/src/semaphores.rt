@@ -15,7 +15,7 @@ enum Command {
     Stop(u8),
 }
 
-#[derive(Clone, Copy, Debug, PartialEq, Eq)]
+#[derive(Clone, Copy, PartialEq, Eq)]
 enum Answer {
     Released(u8),
     Counted,
@@ -103,10 +103,7 @@ fn are_answered(rt: &impl Abort, setup: SemaphoreSetup, rows: &[Row]) -> Result<
     let mut semaphore = Sem::new(setup);
     for (number, (command, expected, count, waiting)) in rows.iter().enumerate() {
         let found = carry_out(&mut semaphore, *command);
-        assert!(rt;
-            found == *expected,
-            "{found:?} in place of {expected:?} in row {number}"
-        );
+        assert!(rt; found == *expected, "another answer in row {number}");
         assert!(rt;
             semaphore.semaphore().count == *count,
             "count after row {number}"

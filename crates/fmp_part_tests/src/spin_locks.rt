@@ -67,15 +67,15 @@ fn are_answered(rt: &impl Abort, rows: &[Row]) -> Result<(), Fail> {
     let mut spins = Spins::new(3);
     for (number, (command, expected, holders, held)) in rows.iter().enumerate() {
         let found = carry_out(&mut spins, *command);
-        assert!(rt; found == Some(*expected), "{found:?} in row {number}");
+        assert!(rt; found == Some(*expected), "another answer in row {number}");
         let holding = [holder(&spins, L1), holder(&spins, L2), holder(&spins, L3)];
-        assert!(rt; holding == *holders, "{holding:?} hold after row {number}");
+        assert!(rt; holding == *holders, "others hold after row {number}");
         let least = [
             held_by(&spins, P1),
             held_by(&spins, P2),
             held_by(&spins, P3),
         ];
-        assert!(rt; least == *held, "{least:?} held after row {number}");
+        assert!(rt; least == *held, "another least is held after row {number}");
     }
     Ok(())
 }

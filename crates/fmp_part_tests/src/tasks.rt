@@ -242,9 +242,9 @@ fn are_answered(rt: &impl Abort, rows: &[Row]) -> Result<(), Fail> {
         let mut tasks = Tasks::new(&[setup, setup, setup]);
         tasks.set(T2, *before);
         let told = carry_out(&mut tasks, *command);
-        assert!(rt; told == Some(*count), "{told:?} in row {number}");
+        assert!(rt; told == Some(*count), "another count in row {number}");
         let found = tasks.get(T2);
-        assert!(rt; found == *after, "{found:?} after row {number}");
+        assert!(rt; found == *after, "another answer after row {number}");
         assert!(rt;
             tasks.get(T1) == dormant && tasks.get(T3) == dormant,
             "others after row {number}"

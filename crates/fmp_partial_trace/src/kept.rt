@@ -12,7 +12,7 @@ use fmp_trace::{
 use std::alloc::AllocError;
 
 /// Which parts of a line are written. The processor, the event and the answer always are.
-#[derive(Clone, Copy, Debug, PartialEq, Eq)]
+#[derive(Clone, Copy, PartialEq, Eq)]
 pub struct Kept {
     /// The line's number.
     pub number: bool,

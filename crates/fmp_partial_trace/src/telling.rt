@@ -14,7 +14,7 @@ use fmp_trace::{guess_event, guess_runner};
 use std::alloc::AllocError;
 
 /// What a line of a partial trace says.
-#[derive(Debug, Drop)]
+#[derive(Drop)]
 pub struct Said {
     /// Which parts it writes.
     pub kept: Kept,

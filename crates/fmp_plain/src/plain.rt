@@ -15,7 +15,7 @@ use std::alloc::AllocError;
 use std::marker::Model;
 
 /// The plain machine. Contracts see its state, which is that of the model, and the number of its steps.
-#[derive(Debug, Drop)]
+#[derive(Drop)]
 pub struct Plain {
     machine: PlainMachine,
     steps: u32,

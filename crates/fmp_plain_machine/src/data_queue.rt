@@ -8,7 +8,7 @@ use std::alloc::{AllocError, Global};
 use std::marker::Model;
 
 /// A data queue, with room for as many values as the configuration says.
-#[derive(Debug, Drop)]
+#[derive(Drop)]
 pub(crate) struct DataQueue {
     setup: DataQueueSetup,
     values: HeapCircularBuffer<i64>,

@@ -11,7 +11,7 @@ use std::alloc::{AllocError, Global};
 use std::marker::Model;
 
 /// All data queues, in the order of their numbers.
-#[derive(Debug, Drop)]
+#[derive(Drop)]
 pub(crate) struct DataQueues {
     queues: Vec<DataQueue>,
 }

@@ -7,7 +7,7 @@ use fmp_codes::Runner;
 use std::marker::Model;
 
 /// The handlers that are due on a processor. The first one runs.
-#[derive(Debug, Drop)]
+#[derive(Drop)]
 pub(crate) struct Due {
     runners: ArrayVec<Runner, 64>,
 }

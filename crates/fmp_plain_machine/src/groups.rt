@@ -11,7 +11,7 @@ use fmp_codes::{Object, Pri, Proc, Task};
 use fmp_machine::{Order, QueueKind, TaskRecord};
 
 /// A group of tasks that have an order.
-#[derive(Clone, Copy, Debug)]
+#[derive(Clone, Copy)]
 pub(crate) enum Group {
     /// The ready tasks of a processor and a priority.
     ReadyAt(Proc, Pri),
@@ -20,7 +20,7 @@ pub(crate) enum Group {
 }
 
 /// What decides which of two tasks comes first.
-#[derive(Clone, Copy, Debug)]
+#[derive(Clone, Copy)]
 pub(crate) enum Rule {
     /// Their priorities, and where these are equal when they became ready.
     Ready,

@@ -6,7 +6,7 @@ use fmp_codes::Proc;
 use fmp_machine::{Alarm, Config, Cyclic, Timer};
 
 /// The timer, and the cyclic handlers and alarms in the order of their numbers, with the ticks left of those that are started.
-#[derive(Debug, Drop)]
+#[derive(Drop)]
 pub(crate) struct Handlers {
     pub(crate) timer: Timer,
     pub(crate) cyclics: ArrayVec<Cyclic, 32>,

@@ -9,7 +9,7 @@ use fmp_machine::Processor;
 use std::marker::Model;
 
 /// The state of the plain machine. Contracts see it as the state of the model.
-#[derive(Debug, Drop)]
+#[derive(Drop)]
 pub struct PlainMachine {
     pub(crate) tasks: Tasks,
     pub(crate) waits_left: ArrayVec<Option<u64>, 64>,

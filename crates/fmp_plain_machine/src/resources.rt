@@ -7,7 +7,7 @@ use fmp_machine::{Config, Eventflag, Pool, Semaphore};
 use std::alloc::AllocError;
 
 /// The objects for which tasks wait, and who holds the spin locks, each kind in the order of its numbers.
-#[derive(Debug, Drop)]
+#[derive(Drop)]
 pub(crate) struct Resources {
     pub(crate) semaphores: ArrayVec<Semaphore, 32>,
     pub(crate) eventflags: ArrayVec<Eventflag, 32>,

@@ -49,7 +49,7 @@ fn places_of(records: &[TaskRecord]) -> ArrayVec<u8, 64>
 }
 
 /// How each task stands, and where.
-#[derive(Debug, Drop)]
+#[derive(Drop)]
 pub(crate) struct Signs {
     pub(crate) kinds: ArrayVec<u8, 64>,
     pub(crate) places: ArrayVec<u8, 64>,

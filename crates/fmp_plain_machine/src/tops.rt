@@ -16,7 +16,7 @@ use std::marker::Model;
 
 /// The records of the tasks, and for each when it last became ready or was put last. What comes first on each processor is looked
 /// for once when a task changes.
-#[derive(Debug, Drop)]
+#[derive(Drop)]
 pub(crate) struct Tasks {
     records: ArrayVec<TaskRecord, 64>,
     ready: ArrayVec<u64, 64>,

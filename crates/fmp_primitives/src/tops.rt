@@ -9,7 +9,7 @@ use fmp_codes::{Proc, Task};
 use std::marker::Model;
 
 /// The task that comes first on each of so many processors, in the order of their numbers.
-#[derive(Debug, Drop)]
+#[derive(Drop)]
 pub struct Tops {
     /// The number of each task, or 0 where there is none: all eight are one word, so that they are compared at once.
     numbers: [u8; 8],

@@ -9,7 +9,7 @@ use fmp_codes::Call;
 use fmp_text::{Names, TextKind, is_skipped, read_call, without_return};
 
 /// A line that is not skipped.
-#[derive(Clone, Copy, Debug)]
+#[derive(Clone, Copy)]
 pub enum Said {
     /// The script of the function of this number begins.
     Opens(usize),

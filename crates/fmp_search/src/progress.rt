@@ -10,7 +10,7 @@ pub trait Progress {
 }
 
 /// One who does nothing of it.
-#[derive(Clone, Copy, Debug)]
+#[derive(Clone, Copy)]
 pub struct Quiet;
 
 impl Progress for Quiet {

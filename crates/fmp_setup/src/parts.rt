@@ -19,21 +19,21 @@ use fmp_names::{Names, is_reserved};
 use std::alloc::{AllocError, Global};
 
 /// A class and its name.
-#[derive(Debug, Drop)]
+#[derive(Drop)]
 pub struct NamedClass {
     pub name: Vec<u8>,
     pub class: Class,
 }
 
 /// What the fields of a task say: its priority, and whether it is started at boot.
-#[derive(Clone, Copy, Debug, PartialEq, Eq)]
+#[derive(Clone, Copy, PartialEq, Eq)]
 pub struct TaskFields {
     pub starts: bool,
     pub priority: Pri,
 }
 
 /// What the fields of a cyclic handler say: its times in ticks, and whether it is started at boot.
-#[derive(Clone, Copy, Debug, PartialEq, Eq)]
+#[derive(Clone, Copy, PartialEq, Eq)]
 pub struct CyclicFields {
     pub period: u32,
     pub phase: u32,
@@ -41,7 +41,7 @@ pub struct CyclicFields {
 }
 
 /// What the fields of a statement say of the object that it creates.
-#[derive(Clone, Copy, Debug, PartialEq, Eq)]
+#[derive(Clone, Copy, PartialEq, Eq)]
 pub enum Fields {
     Task(TaskFields),
     Semaphore(SemaphoreSetup),

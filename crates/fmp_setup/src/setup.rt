@@ -5,7 +5,7 @@ ghost use Rattle.fmp_setup.specs.Setup.{has_member};
 use fmp_codes::{Pri, Proc};
 
 /// Where the tasks and objects of a class may be, and where they begin.
-#[derive(Clone, Copy, Debug, PartialEq, Eq)]
+#[derive(Clone, Copy, PartialEq, Eq)]
 pub struct Class {
     pub initial: Proc,
     /// For each processor, whether it is one of the class.
@@ -22,28 +22,28 @@ impl Class {
 }
 
 /// How tasks wait on an object: first come first (`TA_TFIFO`), or by priority (`TA_TPRI`).
-#[derive(Clone, Copy, Debug, PartialEq, Eq)]
+#[derive(Clone, Copy, PartialEq, Eq)]
 pub enum Order {
     First,
     Priority,
 }
 
 /// The processors whose ticks count: each for what is assigned to it, or one for all.
-#[derive(Clone, Copy, Debug, PartialEq, Eq)]
+#[derive(Clone, Copy, PartialEq, Eq)]
 pub enum Timer {
     Local,
     Global(Proc),
 }
 
 /// The greatest number of queued wakeups, and the greatest priority.
-#[derive(Clone, Copy, Debug, PartialEq, Eq)]
+#[derive(Clone, Copy, PartialEq, Eq)]
 pub struct Limits {
     pub wakeups: u16,
     pub priorities: u8,
 }
 
 /// A task: the number of its function, and whether it is started at boot (`TA_ACT`).
-#[derive(Clone, Copy, Debug, PartialEq, Eq)]
+#[derive(Clone, Copy, PartialEq, Eq)]
 pub struct TaskSetup {
     pub class: Class,
     pub main: u8,
@@ -52,7 +52,7 @@ pub struct TaskSetup {
 }
 
 /// A semaphore, with its count at boot and its greatest count.
-#[derive(Clone, Copy, Debug, PartialEq, Eq)]
+#[derive(Clone, Copy, PartialEq, Eq)]
 pub struct SemaphoreSetup {
     pub order: Order,
     pub initial: u16,
@@ -60,7 +60,7 @@ pub struct SemaphoreSetup {
 }
 
 /// An eventflag: whether several tasks may wait (`TA_WMUL`), whether a release clears it (`TA_CLR`), and its pattern at boot.
-#[derive(Clone, Copy, Debug, PartialEq, Eq)]
+#[derive(Clone, Copy, PartialEq, Eq)]
 pub struct EventflagSetup {
     pub order: Order,
     pub many: bool,
@@ -69,21 +69,21 @@ pub struct EventflagSetup {
 }
 
 /// A data queue. The order is that of its senders; receivers wait first come first.
-#[derive(Clone, Copy, Debug, PartialEq, Eq)]
+#[derive(Clone, Copy, PartialEq, Eq)]
 pub struct DataQueueSetup {
     pub order: Order,
     pub capacity: u16,
 }
 
 /// A fixed-sized memory pool, with its number of blocks.
-#[derive(Clone, Copy, Debug, PartialEq, Eq)]
+#[derive(Clone, Copy, PartialEq, Eq)]
 pub struct PoolSetup {
     pub order: Order,
     pub blocks: u8,
 }
 
 /// A cyclic handler: the number of its function, its times in ticks, and whether it is started at boot (`TA_STA`).
-#[derive(Clone, Copy, Debug, PartialEq, Eq)]
+#[derive(Clone, Copy, PartialEq, Eq)]
 pub struct CyclicSetup {
     pub class: Class,
     pub handler: u8,
@@ -93,7 +93,7 @@ pub struct CyclicSetup {
 }
 
 /// An alarm handler, with the number of its function.
-#[derive(Clone, Copy, Debug, PartialEq, Eq)]
+#[derive(Clone, Copy, PartialEq, Eq)]
 pub struct AlarmSetup {
     pub class: Class,
     pub handler: u8,

@@ -57,7 +57,7 @@ const PARTS: &[Part<'static>] = &[
 ];
 
 /// What the command line of `fmpsim shrink` asks for.
-#[derive(Clone, Copy, Debug)]
+#[derive(Clone, Copy)]
 pub struct ShrinkRequest<'a> {
     /// The path of the configuration.
     pub config: &'a str,

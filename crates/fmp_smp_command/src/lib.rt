@@ -116,7 +116,7 @@ const PARTS: &[Part<'static>] = &[
 ];
 
 /// What the command line of `fmpsim smp` asks for.
-#[derive(Clone, Copy, Debug)]
+#[derive(Clone, Copy)]
 pub struct SmpRequest<'a> {
     /// The path of the configuration.
     pub config: &'a str,

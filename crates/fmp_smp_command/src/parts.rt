@@ -9,7 +9,7 @@ use clap::{Arg, ArgAction, Command};
 use std::alloc::{AllocError, Global};
 
 /// How a part of a command line is given. A text in it is what the help calls its value.
-#[derive(Clone, Copy, Debug)]
+#[derive(Clone, Copy)]
 pub enum Form<'a> {
     /// By its place, and it has to be given.
     Path,
@@ -30,7 +30,7 @@ pub enum Form<'a> {
 }
 
 /// A part of a command line.
-#[derive(Clone, Copy, Debug)]
+#[derive(Clone, Copy)]
 pub struct Part<'a> {
     /// By it clap finds what is given, and an option is called so.
     pub id: &'a str,
@@ -75,7 +75,7 @@ pub const COLOUR_PART: Part<'static> = Part {
 };
 
 /// What a subcommand is called, and what the help says of it.
-#[derive(Clone, Copy, Debug)]
+#[derive(Clone, Copy)]
 pub struct Title<'a> {
     pub name: &'a str,
     /// With the program's name before it.

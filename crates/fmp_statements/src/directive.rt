@@ -12,7 +12,7 @@ use fmp_tokens::{Token, TokenKind};
 pub const MOST_DEFINED: u64 = 4_294_967_295;
 
 /// What was read of a directive.
-#[derive(Debug, Drop)]
+#[derive(Drop)]
 pub enum Directive<'a> {
     /// No directive is being read.
     Outside,

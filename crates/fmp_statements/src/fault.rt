@@ -8,7 +8,7 @@ use std::alloc::{AllocError, AllocFailed};
 use std::marker::Model;
 
 /// The kinds of faults.
-#[derive(Clone, Copy, Debug, PartialEq, Eq)]
+#[derive(Clone, Copy, PartialEq, Eq, Debug)]
 pub enum ConfigKind {
     /// A byte or a token that may not stand where it stands.
     Syntax,
@@ -86,7 +86,7 @@ impl ConfigKind {
 }
 
 /// A fault: its kind, its line, and the bytes of the token at fault, none where no token is.
-#[derive(Debug, Drop)]
+#[derive(Drop)]
 pub struct Fault<'a> {
     kind: ConfigKind,
     line: u32,
@@ -200,7 +200,7 @@ impl<'a> Fault<'a> {
 }
 
 /// Want of memory, or a fault of the text.
-#[derive(Debug, Drop)]
+#[derive(Drop)]
 pub enum ReadError<'a> {
     Memory,
     Fault(Fault<'a>),

@@ -14,7 +14,7 @@ use std::alloc::Global;
 use std::marker::Model;
 
 /// A statement whose tokens are being read: its name, the line of its first word, and what was read and has to follow.
-#[derive(Debug, Drop)]
+#[derive(Drop)]
 pub struct Form<'a> {
     name: StatementName,
     line: u32,

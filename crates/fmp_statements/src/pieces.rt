@@ -8,7 +8,7 @@ use std::alloc::{AllocFailed, Global};
 use std::marker::Model;
 
 /// The words of a statement that say something, and its attributes or listed numbers in their order.
-#[derive(Debug, Drop)]
+#[derive(Drop)]
 pub struct Pieces<'a> {
     name: Word<'a>,
     function: Word<'a>,

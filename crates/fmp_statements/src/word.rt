@@ -6,7 +6,7 @@ use fmp_tokens::{Token, TokenKind};
 use std::marker::Model;
 
 /// The bytes of a token, and its line from 1. No bytes and line 0 where a statement has no such word.
-#[derive(Debug, Drop)]
+#[derive(Drop)]
 pub struct Word<'a> {
     text: &'a [u8],
     line: u32,

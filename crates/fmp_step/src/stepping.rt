@@ -14,7 +14,7 @@ use fmp_machine::{Effect, Timer};
 use fmp_primitives::{Overview, Tops, Words, is_held, runner};
 
 /// What is remembered of the state before an event, besides what its record tells.
-#[derive(Debug, Drop)]
+#[derive(Drop)]
 struct Before {
     running: Option<Task>,
     tops: Tops,

@@ -6,7 +6,7 @@ use std::alloc::{AllocError, AllocFailed};
 use std::fmt;
 
 /// The kinds of faults.
-#[derive(Clone, Copy, Debug, PartialEq, Eq)]
+#[derive(Clone, Copy, PartialEq, Eq, Debug)]
 pub enum TextKind {
     /// A byte that may not stand in an event's line.
     BadByte,
@@ -64,7 +64,7 @@ impl TextKind {
 }
 
 /// The first fault of a text, with its line from 1. Want of memory and a text that is too long have line 0.
-#[derive(Clone, Copy, Debug, PartialEq, Eq)]
+#[derive(Clone, Copy, PartialEq, Eq, Debug)]
 pub struct TextFault {
     pub kind: TextKind,
     pub line: u32,

@@ -5,7 +5,7 @@ ghost use Rattle.fmp_time.specs.Times.{place_of, item_at};
 use fmp_codes::{Object, Task};
 
 /// What counts ticks: the wait of a task, an alarm or a cyclic handler.
-#[derive(Clone, Copy, Debug, PartialEq, Eq)]
+#[derive(Clone, Copy, PartialEq, Eq)]
 pub enum Item {
     Wait(Task),
     Alarm(Object),

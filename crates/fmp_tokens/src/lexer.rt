@@ -9,7 +9,7 @@ use fmp_bytes::{Class, split_prefix};
 use std::marker::Model;
 
 /// The tokens of a text that are still to be read.
-#[derive(Debug, Drop)]
+#[derive(Drop)]
 pub struct Lexer<'a> {
     /// The bytes that are left.
     rest: &'a [u8],

@@ -6,7 +6,7 @@ use crate::tokens::{End, TokenKind};
 use fmp_bytes::Class;
 
 /// What blanks and comments leave as it is.
-#[derive(Clone, Copy, Debug, PartialEq, Eq)]
+#[derive(Clone, Copy, PartialEq, Eq)]
 pub enum Place {
     /// Nothing but blanks and comments stands before in the line.
     LineStart,
@@ -17,7 +17,7 @@ pub enum Place {
 }
 
 /// What stands before a byte. The numbers are the lines in which a string or a comment began.
-#[derive(Clone, Copy, Debug, PartialEq, Eq)]
+#[derive(Clone, Copy, PartialEq, Eq)]
 pub enum Mode {
     /// A whole token, a blank or a comment.
     Gap(Place),
@@ -40,7 +40,7 @@ pub enum Mode {
 }
 
 /// What a byte does.
-#[derive(Clone, Copy, Debug, PartialEq, Eq)]
+#[derive(Clone, Copy, PartialEq, Eq)]
 pub enum Step {
     /// It gives no token.
     Pass(Mode),

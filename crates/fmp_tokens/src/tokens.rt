@@ -4,7 +4,7 @@ ghost use Rattle.std.specs.Prelude.{◌≡◌};
 use std::marker::Model;
 
 /// The kinds of tokens.
-#[derive(Clone, Copy, Debug, PartialEq, Eq)]
+#[derive(Clone, Copy, PartialEq, Eq)]
 pub enum TokenKind {
     /// A letter or `_`, then letters, digits and `_`.
     Identifier,
@@ -21,7 +21,7 @@ pub enum TokenKind {
 }
 
 /// How the tokens of a text end.
-#[derive(Clone, Copy, Debug, PartialEq, Eq)]
+#[derive(Clone, Copy, PartialEq, Eq)]
 pub enum End {
     /// With the text.
     Done,
@@ -32,7 +32,7 @@ pub enum End {
 }
 
 /// A token: its kind, its bytes, and its line.
-#[derive(Debug, Drop)]
+#[derive(Drop)]
 pub struct Token<'a> {
     kind: TokenKind,
     text: &'a [u8],

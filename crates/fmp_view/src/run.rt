@@ -22,7 +22,7 @@ use fmp_trace::{event_of, next_line};
 use std::alloc::Global;
 
 /// Which page of a trace is wanted.
-#[derive(Clone, Copy, Debug, PartialEq, Eq)]
+#[derive(Clone, Copy, PartialEq, Eq)]
 pub enum PageKind {
     /// That of a trace that is the machine's own.
     Own,

@@ -9,7 +9,7 @@ use fmp_trace::put_number;
 use std::alloc::AllocError;
 
 /// A value of one of the signals, but for the handlers that are due, which are a list.
-#[derive(Clone, Copy, Debug)]
+#[derive(Clone, Copy)]
 pub enum Value {
     Number(u64),
     /// Locked, dispatching disabled, a request pending.

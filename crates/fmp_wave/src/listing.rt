@@ -10,7 +10,7 @@ use fmp_names::Names;
 use std::alloc::AllocError;
 
 /// What the signals are listed for.
-#[derive(Clone, Copy, Debug, PartialEq, Eq)]
+#[derive(Clone, Copy, PartialEq, Eq)]
 pub enum Form {
     /// The declarations of a waveform.
     Declarations,

@@ -9,7 +9,7 @@ use fmp_plain_machine::PlainMachine;
 use fmp_primitives::Objects;
 
 /// A kind of objects that have a number.
-#[derive(Clone, Copy, Debug, PartialEq, Eq)]
+#[derive(Clone, Copy, PartialEq, Eq)]
 pub enum Resource {
     /// Whose number is its count.
     Semaphore,

@@ -15,7 +15,7 @@ use fmp_same::{Same, are_equal};
 use std::marker::Model;
 
 /// What is shown of a processor.
-#[derive(Clone, Copy, Debug, PartialEq, Eq)]
+#[derive(Clone, Copy, PartialEq, Eq)]
 pub struct ShownProcessor {
     pub running: Option<Task>,
     pub locked: bool,
@@ -46,7 +46,7 @@ impl Default for ShownProcessor {
 
 /// What is shown of a state. It is compared with what was shown before, and only what changed is written. The states of the tasks
 /// are found where they are asked for: behind most events no task stands in another way.
-#[derive(Debug, Drop)]
+#[derive(Drop)]
 pub(crate) struct Snapshot {
     processors: ArrayVec<ShownProcessor, 8>,
     /// How each task stands, as the machine tells it.

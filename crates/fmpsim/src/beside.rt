@@ -19,7 +19,7 @@ use std::rt::Files;
 use std::{fs, io};
 
 /// How a fault is told.
-#[derive(Clone, Copy, Debug)]
+#[derive(Clone, Copy)]
 pub struct Telling {
     /// The form of its line.
     pub line: LineForm,

@@ -10,7 +10,7 @@ use std::rt::Env;
 use std::{env, io};
 
 /// Why a run ended before its time.
-#[derive(Debug, Drop)]
+#[derive(Drop)]
 pub enum Ending {
     /// This is told.
     Fault(RunFault),

@@ -68,7 +68,7 @@ impl Outcome {
 }
 
 /// What is wrong with a request for the runs of seeds.
-#[derive(Clone, Copy, Debug)]
+#[derive(Clone, Copy)]
 pub enum Misfit {
     /// The word behind `--seeds` is none of those for it, or it stands beside `--seed`.
     Seeds,

@@ -337,7 +337,7 @@ const TRACE_PART: Part<'static> = Part {
 };
 
 /// The subcommands.
-#[derive(Clone, Copy, Debug)]
+#[derive(Clone, Copy)]
 pub enum Subcommand {
     Calls,
     Check,
@@ -361,7 +361,7 @@ const SUBCOMMANDS: &[Subcommand] = &[
 ];
 
 /// The paths of a configuration and of the other text.
-#[derive(Clone, Copy, Debug)]
+#[derive(Clone, Copy)]
 pub struct Paths<'a> {
     pub config: &'a str,
     pub text: &'a str,
@@ -370,7 +370,7 @@ pub struct Paths<'a> {
 }
 
 /// What is written of each event.
-#[derive(Clone, Copy, Debug, PartialEq, Eq)]
+#[derive(Clone, Copy, PartialEq, Eq)]
 pub enum Told {
     /// Its line of the trace.
     Line,
@@ -379,7 +379,7 @@ pub enum Told {
 }
 
 /// What is asked of a trace.
-#[derive(Clone, Copy, Debug, PartialEq, Eq)]
+#[derive(Clone, Copy, PartialEq, Eq)]
 pub enum Asked {
     /// Whether it is the machine's.
     Verdict,
@@ -396,7 +396,7 @@ pub enum Asked {
 }
 
 /// A configuration of which is listed what was read.
-#[derive(Clone, Copy, Debug)]
+#[derive(Clone, Copy)]
 pub struct Described<'a> {
     /// Its path.
     pub config: &'a str,
@@ -405,7 +405,7 @@ pub struct Described<'a> {
 }
 
 /// What the command line asks for.
-#[derive(Clone, Copy, Debug)]
+#[derive(Clone, Copy)]
 pub enum Request<'a> {
     /// What a configuration answers to a list of events.
     Calls(Paths<'a>, Told, Colour),

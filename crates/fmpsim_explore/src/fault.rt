@@ -10,7 +10,7 @@ use std::alloc::AllocError;
 use std::fmt;
 
 /// Why a run did not go to its end.
-#[derive(Debug, Drop)]
+#[derive(Drop)]
 pub enum ExploreFault {
     /// A text has a fault, a device failed, or memory ran out.
     Run(RunFault),
@@ -47,7 +47,7 @@ fn words_of(fault: QuestionFault) -> &'static str
 }
 
 /// The line that tells a fault of a question to a user: `fmpsim: --find: byte 5: E3 unknown name`, where bytes count from 1.
-#[derive(Clone, Copy, Debug)]
+#[derive(Clone, Copy)]
 pub struct QuestionLine {
     pub fault: QuestionFault,
     /// The number of the byte from 1.

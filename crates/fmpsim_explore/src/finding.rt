@@ -5,7 +5,7 @@ ghost use Rattle.fmpsim_explore.specs.Explored as spec;
 use fmp_judging::Status;
 
 /// What is known of all orders, by a search through them.
-#[derive(Clone, Copy, Debug, PartialEq, Eq)]
+#[derive(Clone, Copy, PartialEq, Eq)]
 pub enum Finding {
     /// Some order shows the question: the trace of a shortest one was written.
     Shown,

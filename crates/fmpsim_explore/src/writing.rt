@@ -15,7 +15,7 @@ use fmp_search::Progress;
 use std::alloc::Global;
 
 /// Why what was found was not written, or nothing was found.
-#[derive(Clone, Copy, Debug)]
+#[derive(Clone, Copy)]
 pub(crate) enum WriteFault {
     /// Memory ran out, and nothing is out.
     Memory,

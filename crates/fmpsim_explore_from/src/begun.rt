@@ -22,7 +22,7 @@ use fmp_trace::{event_of, is_line, next_line};
 use std::alloc::{AllocError, AllocFailed, Global};
 
 /// Why a text did not give the steps of an order.
-#[derive(Clone, Copy, Debug)]
+#[derive(Clone, Copy)]
 pub(crate) enum BegunFault {
     /// Memory ran out.
     Memory,

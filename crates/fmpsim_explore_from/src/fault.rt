@@ -4,7 +4,7 @@ use fmp_judging::Status;
 use fmpsim_explore::ExploreFault;
 
 /// Why a run did not go to its end.
-#[derive(Debug, Drop)]
+#[derive(Drop)]
 pub enum FromFault {
     /// A text or the question has a fault, a device failed, or memory ran out, as in a run from boot.
     Explore(ExploreFault),

@@ -22,7 +22,7 @@ use fmp_names::Names;
 use std::alloc::Global;
 
 /// Why a run that tells what of some things changed did not go to its end.
-#[derive(Debug, Drop)]
+#[derive(Drop)]
 pub enum LifeFault {
     /// A text has a fault, a device failed, or memory ran out.
     Run(RunFault),

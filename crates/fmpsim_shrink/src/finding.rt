@@ -5,7 +5,7 @@ ghost use Rattle.fmpsim_shrink.specs.Shrunk as spec;
 use fmp_judging::Status;
 
 /// Whether the answers to the events show what is asked.
-#[derive(Clone, Copy, Debug, PartialEq, Eq)]
+#[derive(Clone, Copy, PartialEq, Eq)]
 pub enum Shrinking {
     /// They do: what is left of the events was written.
     Shrunk,
