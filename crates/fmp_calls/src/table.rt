@@ -87,24 +87,6 @@ macro_rules! names {
     };
 }
 
-/// How a call of a family is written.
-macro_rules! form {
-    ($family:ident, $call:expr; $($variant:ident $(($($kind:ident),+))? = $text:literal,)+) => {
-        match $call {
-            $($family::$variant { .. } => CallForm::new($text, &[$($(kind!($kind)),+)?]),)+
-        }
-    };
-}
-
-/// The values of a call's arguments.
-macro_rules! values {
-    ($family:ident, $call:expr; $($variant:ident $(($($kind:ident),+))? = $text:literal,)+) => {
-        match $call {
-            $($family::$variant $(($($kind),+))? => listed(&[$($(value!($kind, $kind)),+)?]),)+
-        }
-    };
-}
-
 /// How a call of a family is written, and the values of its arguments.
 macro_rules! parts {
     ($family:ident, $call:expr; $($variant:ident $(($($kind:ident),+))? = $text:literal,)+) => {

@@ -43,20 +43,99 @@ pub fn run_smp<'a, T: Threads + Wait + Sync, G: Gate + Sync>(
     ensures ticked { IfOk result (λ r. TicksInTurn config.entry.now ticks r.history.records) }
     ensures configured { IfOk result (λ r. r.history.config ≡ config.entry.now) }
 {
+    let crew = Crew::new(alloc, config.processors())?;
     let (world, seats) = World::boot(alloc, config, scripts, turns)?;
-    let (parkers, unparkers) = make_parkers(alloc, config.processors())?;
-    let threads = Vec::with_capacity(alloc, 8)?;
+    run_world(
+        rt,
+        crew,
+        Clocked::new(world, config, ticks),
+        seats,
+        config,
+        scripts,
+        ticks,
+        turns,
+        gate,
+    )
+}
+
+/// The run of a world that was booted for it.
+fn run_world<'a, T: Threads + Wait + Sync, G: Gate + Sync>(
+    rt: &T,
+    crew: Crew,
+    clocked: Clocked<'a>,
+    seats: Seats,
+    config: &'a Config,
+    scripts: &'a Scripts,
+    ticks: u32,
+    turns: u32,
+    gate: &G,
+) -> Result<SmpRun<'a>, SmpFault>
+    ensures run { IfOk result (λ r. IsSmpRun config.entry.now scripts.entry.now ticks turns r.history.records (map (λ v. v.items) r.receipts.items) r.ended) }
+    ensures ticked { IfOk result (λ r. TicksInTurn config.entry.now ticks r.history.records) }
+    ensures configured { IfOk result (λ r. r.history.config ≡ config.entry.now) }
+{
+    let Crew {
+        parkers,
+        unparkers,
+        threads,
+    } = crew;
     let shared = Shared {
-        world: Mutex::new(Clocked::new(world, config, ticks)),
+        world: Mutex::new(clocked),
         unparkers,
         over: AtomicBool::new(false),
         gate,
     };
-    let seats = run_seats(rt, &shared, seats, parkers, threads).ok_or(SmpFault::Start)?;
-    let clocked = shared.world.into_inner();
-    clocked
-        .finish(seats, config, scripts, ticks, turns)
-        .ok_or(SmpFault::Disagree)
+    let seats = run_seats(rt, &shared, seats, parkers, threads);
+    finish(
+        shared.world.into_inner(),
+        seats,
+        config,
+        scripts,
+        ticks,
+        turns,
+    )
+}
+
+/// The run that the world and its seats are, where each thread could be started.
+fn finish<'a>(
+    clocked: Clocked<'a>,
+    seats: Option<Seats>,
+    config: &Config,
+    scripts: &Scripts,
+    ticks: u32,
+    turns: u32,
+) -> Result<SmpRun<'a>, SmpFault>
+    ensures run { IfOk result (λ r. IsSmpRun config.now scripts.now ticks turns r.history.records (map (λ v. v.items) r.receipts.items) r.ended) }
+    ensures ticked { IfOk result (λ r. TicksInTurn config.now ticks r.history.records) }
+    ensures configured { IfOk result (λ r. r.history.config ≡ config.now) }
+{
+    match seats {
+        Some(seats) => clocked
+            .finish(seats, config, scripts, ticks, turns)
+            .ok_or(SmpFault::Disagree),
+        None => Err(SmpFault::Start),
+    }
+}
+
+/// What the threads of the processors begin with: a parker for each, what wakes it, and room for their handles.
+#[derive(Drop)]
+struct Crew {
+    parkers: Vec<Parker>,
+    unparkers: Vec<Unparker>,
+    threads: Vec<JoinHandle<Cpu>>,
+}
+
+impl Crew {
+    /// A crew for so many processors. The error is want of memory.
+    fn new(alloc: Global, processors: u8) -> Result<Crew, AllocError> {
+        let (parkers, unparkers) = make_parkers(alloc, processors)?;
+        let threads = Vec::with_capacity(alloc, 8)?;
+        Ok(Crew {
+            parkers,
+            unparkers,
+            threads,
+        })
+    }
 }
 
 /// A parker for each processor, and what wakes it.

@@ -39,6 +39,24 @@ impl<'a> Model for World<'a> {
 }
 
 impl<'a> World<'a> {
+    /// A world without records, with room for so many moves.
+    fn new(
+        alloc: Global,
+        config: &'a Config,
+        scripts: &'a Scripts,
+        turns: u32,
+    ) -> Result<World<'a>, AllocError>
+        ensures { IfOk result (λ w. w ≡ opening config.entry.now scripts.entry.now turns) }
+    {
+        let history = History::new(alloc, config, scripts, turns)?;
+        let spare = History::new(alloc, config, scripts, turns)?;
+        Ok(World {
+            history,
+            spare,
+            last: Record::answer(Event::Tick(Proc::new(1)), None, Answer::Nothing),
+        })
+    }
+
     /// A world without records, and the seats of a run, with room for so many moves and receipts. It takes all memory of the
     /// run and of its judge, and is refused where there is not so much.
     pub fn boot(
@@ -51,15 +69,9 @@ impl<'a> World<'a> {
         ensures cpus { IfOk result (λ r. IsOpening turns r.1.cpus.items config.entry.now.processors) }
         ensures clock { IfOk result (λ r. r.1.clock ≡ record { room = turns; receipts = [] }) }
     {
-        let processors = config.processors();
-        let world = World {
-            history: History::new(alloc, config, scripts, turns)?,
-            spare: History::new(alloc, config, scripts, turns)?,
-            last: Record::answer(Event::Tick(Proc::new(1)), None, Answer::Nothing),
-        };
-        let cpus = boot_cpus(alloc, processors, turns)?;
-        let clock = Clock::new(alloc, turns)?;
-        Ok((world, Seats { cpus, clock }))
+        let world = World::new(alloc, config, scripts, turns)?;
+        let seats = boot_seats(alloc, config.processors(), turns)?;
+        Ok((world, seats))
     }
 
     /// The number of processors.
@@ -137,6 +149,17 @@ impl<'a> World<'a> {
             Some(last)
         }
     }
+}
+
+/// The seats of so many processors, in order, and the clock's.
+fn boot_seats(alloc: Global, processors: u8, turns: u32) -> Result<Seats, AllocError>
+    requires { processors ≤ 8 }
+    ensures cpus { IfOk result (λ s. IsOpening turns s.cpus.items processors) }
+    ensures clock { IfOk result (λ s. s.clock ≡ record { room = turns; receipts = [] }) }
+{
+    let cpus = boot_cpus(alloc, processors, turns)?;
+    let clock = Clock::new(alloc, turns)?;
+    Ok(Seats { cpus, clock })
 }
 
 /// The seats of so many processors, in order.

@@ -44,7 +44,10 @@ pub fn run_check<R: Source, S: Source, W: Sink>(
     ensures writes { W.failures answer.new ≡ W.failures answer.old + (if failed_write result then 1 else 0) }
 {
     let judged = judged_texts(alloc, config, trace)?;
-    let text = verdict_text(judged.verdict);
+    let verdict = judged.verdict;
+    // (gone before the write may fail)
+    drop(judged);
+    let text = verdict_text(verdict);
     write_out(answer, text.as_str().as_bytes())?;
-    Ok(judged.verdict)
+    Ok(verdict)
 }

@@ -33,21 +33,23 @@ pub fn form(call: TimeCall) -> CallForm
     ensures kinds { result.kinds.now ≡ (line_of call).kinds }
     ensures few { length result.kinds.now ≤ MOST_ARGUMENTS }
 {
-    time_calls!(form, call)
+    parts(call).0
 }
 
 /// The arguments of the call.
 pub fn values(call: TimeCall) -> Values
     ensures { result.items ≡ (line_of call).values }
 {
-    time_calls!(values, call)
+    parts(call).1
 }
 
 /// How the call is written, and its arguments.
+#[inline(always)]
 pub fn parts(call: TimeCall) -> (CallForm, Values)
     ensures text { result.0.text.now ≡ (line_of call).text }
     ensures bare { result.0.bare ≡ (line_of call).bare }
     ensures kinds { result.0.kinds.now ≡ (line_of call).kinds }
+    ensures few { length result.0.kinds.now ≤ MOST_ARGUMENTS }
     ensures values { result.1.items ≡ (line_of call).values }
 {
     time_calls!(parts, call)
