@@ -1,5 +1,5 @@
 //! The operations on a data queue alone, which the kernel does not call: a call's rule stands in `fmp_machine/specs`. They are
-//! this part's own surface, tested by `fmp_part_tests`.
+//! this part's own surface.
 ghost use Rattle.std.specs.Prelude.{◌≡◌, ◌++◌, ◌∷◌, pos, [], true, false, unwrap_or};
 ghost use Rattle.fmp_machine.specs.World.{first, rest};
 ghost use Rattle.fmp_waitq.specs.Queue.{has_waiter, joined_by, put_ranked, waiter_of};

@@ -99,10 +99,6 @@ bounded_less n ns ms left some bounded near i small =
     let c = near i in
     omega (arith, some, b, c)
 
--- the numbers of an array have room for one more while steps are left
-pub bounded_more : (n : ℕ) (ns : List ℕ) (left : ℕ) → 0 < left → AreBounded n ns left → (i : ℕ) → i < n → slice_index ns i + 1 < 2 ^ 32
-bounded_more n ns left some bounded i small = let b = bounded i small in omega (arith, some, b)
-
 -- after one step there is room for one less
 module _ (rules : Rules) (tasks handlers taken : List ℕ) (seen left : ℕ) (o : Option Runner) (e : Event) (a : Answer) where
   pub roomy_less : 0 < left → IsRoomy tasks handlers taken seen left → (next : ℕ) → next ≤ seen + 1 →

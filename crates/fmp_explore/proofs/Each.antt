@@ -1,15 +1,10 @@
 -- A test of the processors one after the other.
-use Rattle.std.proofs.Common.{◌≡◌, ℕ, zero, suc, ◌+◌, ◌<◌, Bool, true, false, ◌&&◌, sym, ap, ◌∙◌, arith, ⊎_elim}
-use Rattle.std.proofs.lemmas.Bool.{cases_eq, and_from, and_right}
+use Rattle.std.proofs.Common.{◌≡◌, ℕ, zero, suc, ◌+◌, ◌<◌, Bool, false, ◌&&◌, sym, ap, ◌∙◌, arith, ⊎_elim}
+use Rattle.std.proofs.lemmas.Bool.{cases_eq, and_right}
 use Rattle.std.proofs.Math.Numerals.{suc-eq-add-one}
 use Rattle.fmp_codes.specs.Numbers.{as_proc}
 use Rattle.fmp_codes.specs.declared.numbers.Proc.{Proc}
 use Rattle.fmp_orders.specs.Orders.{each}
-
--- one processor more passes
-pub each_more : (t : Proc → Bool) (n : ℕ) (p : Proc) → p ≡ as_proc (n + 1) → each t n ≡ true → t p ≡ true → each t (n + 1) ≡ true
-each_more t n p e all one =
-    ap (each t) (sym (suc-eq-add-one n)) ∙ and_from (each t n) (t (as_proc (suc n))) all (ap t (ap as_proc (suc-eq-add-one n) ∙ sym e) ∙ one)
 
 -- one that does not pass is among them
 pub each_not : (t : Proc → Bool) (n : ℕ) (p : Proc) → p ≡ as_proc (n + 1) → t p ≡ false → (m : ℕ) → n < m → each t m ≡ false

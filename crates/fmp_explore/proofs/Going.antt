@@ -1,5 +1,5 @@
 -- What an event leads to.
-use Rattle.std.proofs.Common.{◌≡◌, ◌≤◌, ℕ, ◌+◌, Bool, true, false, cond, Option, Some, None, Result, Ok, Err, [], ◌∷◌, ap, sym, subst, ◌∙◌, refl, arith}
+use Rattle.std.proofs.Common.{◌≡◌, ◌≤◌, ℕ, ◌+◌, Bool, true, false, cond, Some, None, Result, Ok, Err, [], ◌∷◌, ap, sym, subst, ◌∙◌, refl, arith}
 use Rattle.std.specs.Prelude.{is_some, IfOk}
 use Rattle.fmp_codes.specs.declared.records.Event.{Event}
 use Rattle.fmp_codes.specs.declared.records.Record.{Record}
@@ -9,7 +9,7 @@ use Rattle.fmp_listed.specs.Queues.{Queues, listed}
 use Rattle.fmp_search.specs.Runs.{Goes}
 use Rattle.fmp_question.specs.Questions.{allows}
 use Rattle.fmp_explore.specs.Walked.{Walked}
-use Rattle.fmp_orders.specs.Places.{Place, event_of, is_marked, went, sight_at, next_place, after, told_of, told}
+use Rattle.fmp_orders.specs.Places.{Place, event_of, is_marked, went, sight_at, after, told_of, told}
 
 -- what the kernel did of an event leads where the definitions say
 pub went_is : (w w' : Place) (mark : Bool) (e : Event) (k : World Queues) (r : Record) → (k, r) ≡ step listed w.machine e → w' ≡ went w mark (k, r) →
@@ -37,18 +37,6 @@ module _ (w w' : Place) (s : ℕ) (e : Event) (is : event_of w s ≡ Some e) (th
   pub goes_to : (made : Bool) → made ≡ may w' → Goes (after w s) made w'
   unfolding after
   goes_to made may_is = rw is (chosen (may (went w (is_marked s) (step listed w.machine e))) made _ w' (may_is ∙ ap may there) there)
-
-  -- and where it can be made, it goes there
-  pub again_to : is_some (after w s) ≡ true → after w s ≡ Some w'
-  unfolding after
-  again_to some =
-      ap (next_place w (is_marked s)) is
-      ∙ kept (may (went w (is_marked s) (step listed w.machine e))) _ w' (subst (λ (o : Option Event). is_some (next_place w (is_marked s) o) ≡ true) is some) there
-
--- a step without an event cannot be made
-pub not_made : (w : Place) (s : ℕ) → event_of w s ≡ None → is_some (after w s) ≡ true → ⊥
-unfolding after
-not_made w s is some = let bad : false ≡ true = subst (λ (o : Option Event). is_some (next_place w (is_marked s) o) ≡ true) is some in cc
 
 pub not_gone : (w w' : Place) (s : ℕ) → event_of w s ≡ None → Goes (after w s) false w'
 unfolding after

@@ -1,5 +1,5 @@
 //! The operations on an eventflag alone, which the kernel does not call: a call's rule stands in `fmp_machine/specs`. They are
-//! this part's own surface, tested by `fmp_part_tests`.
+//! this part's own surface.
 ghost use Rattle.std.specs.Prelude.{◌≡◌, true, false, bit_and, List};
 ghost use Rattle.fmp_machine.specs.Objects.{holds};
 ghost use Rattle.fmp_waitq.specs.Queue.{has_waiter, put_ranked, joined_by, waiter_of};

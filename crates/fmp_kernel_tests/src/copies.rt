@@ -4,7 +4,7 @@ use crate::played::{after, boot};
 use crate::random_calls::RandomEvents;
 use fmp_codes::{Event, Record};
 use fmp_kernel::Kernel;
-use fmp_part_tests::random::{Random, SEEDS};
+use crate::random::{Random, SEEDS};
 use std::alloc::{AllocError, Global};
 use std::process::Abort;
 use std::test::Fail;

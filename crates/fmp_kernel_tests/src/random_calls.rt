@@ -4,7 +4,7 @@ ghost use Rattle.std.specs.Prelude.{◌≤◌};
 use fmp_calls::{ArgumentKind, ObjectKind, Value, find_call, form, with_values};
 use fmp_codes::{Call, Event, Mode, Proc};
 use fmp_kernel::Kernel;
-use fmp_part_tests::random::Random;
+use crate::random::Random;
 use std::alloc::{AllocError, Global};
 
 /// How many objects there are of each kind, but for tasks and processors.

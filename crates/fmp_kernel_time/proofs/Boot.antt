@@ -1,8 +1,8 @@
 -- What counts at boot.
-use Rattle.std.proofs.Common.{◌≡◌, ℕ, zero, suc, ◌+◌, ◌-◌, ◌<◌, ◌≤◌, Bool, true, false, cond, Option, Some, None, List, [], ◌∷◌, length, map, set, get_or, refl, sym, ap, ◌∙◌, subst, arith, ⊎_elim}
+use Rattle.std.proofs.Common.{◌≡◌, ℕ, zero, suc, ◌+◌, ◌-◌, ◌<◌, ◌≤◌, Bool, true, false, cond, Option, Some, None, List, [], ◌∷◌, length, map, get_or, refl, sym, ap, ◌∙◌, subst, arith}
 use Rattle.std.specs.Prelude.{option_map, nat_lt}
-use Rattle.std.proofs.lemmas.Bool.{cases_lt, cases_eq, lt-ltb, le-ltb}
-use Rattle.std.proofs.lemmas.List.{get_or-map, get_or-set_same, get_or-set_other, length-map, ext_get_or}
+use Rattle.std.proofs.lemmas.Bool.{lt-ltb, le-ltb}
+use Rattle.std.proofs.lemmas.List.{get_or-map, length-map, ext_get_or}
 use Rattle.fmp_setup.specs.declared.setup.CyclicSetup.{CyclicSetup}
 use Rattle.fmp_machine.specs.declared.machine.TaskRecord.{TaskRecord}
 use Rattle.fmp_machine.specs.declared.machine.Cyclic.{Cyclic}
@@ -21,41 +21,6 @@ use Rattle.fmp_kernel_time.proofs.Lefts.{length-lefts, lefts-at}
 pub none_started : (cyclics : List Cyclic) (k : ℕ) → started_at cyclics 0 k ≡ None
 none_started cyclics k = elim (nat_lt k 96) as (λ (b : Bool). cond b None (cond (nat_lt (k - 96) 0) (start_left (get_or cyclics (k - 96) blank_cyclic)) None) ≡ None)
     [ true ↦ refl | false ↦ ap (λ (b : Bool). cond b (start_left (get_or cyclics (k - 96) blank_cyclic)) None) (le-ltb (k - 96) 0 (omega arith)) ]
-
--- the item of the next one
-pub started_next : (cyclics : List Cyclic) (i k : ℕ) → k ≡ 96 + i → started_at cyclics (i + 1) k ≡ start_left (get_or cyclics i blank_cyclic)
-started_next cyclics i k e =
-    let at : k - 96 ≡ i = omega (arith, e) in
-    ap (λ (b : Bool). cond b None (cond (nat_lt (k - 96) (i + 1)) (start_left (get_or cyclics (k - 96) blank_cyclic)) None)) (le-ltb k 96 (omega (arith, e)))
-    ∙ ap (λ (b : Bool). cond b (start_left (get_or cyclics (k - 96) blank_cyclic)) None) (lt-ltb (k - 96) (i + 1) (omega (arith, at)))
-    ∙ ap (λ (j : ℕ). start_left (get_or cyclics j blank_cyclic)) at
-
-pub started_before : (cyclics : List Cyclic) (i k : ℕ) → k ≡ 96 + i → started_at cyclics i k ≡ None
-started_before cyclics i k e =
-    ap (λ (b : Bool). cond b None (cond (nat_lt (k - 96) i) (start_left (get_or cyclics (k - 96) blank_cyclic)) None)) (le-ltb k 96 (omega (arith, e)))
-    ∙ ap (λ (b : Bool). cond b (start_left (get_or cyclics (k - 96) blank_cyclic)) None) (le-ltb (k - 96) i (omega (arith, e)))
-
--- another item
-pub started_other : (cyclics : List Cyclic) (i k : ℕ) → (k ≡ 96 + i → ⊥) → started_at cyclics (i + 1) k ≡ started_at cyclics i k
-started_other cyclics i k apart =
-    ⊎_elim (λ (h : k < 96). rw (lt-ltb k 96 h) refl)
-    (λ (h : 96 ≤ k). rw (le-ltb k 96 h) (ap (λ (b : Bool). cond b (start_left (get_or cyclics (k - 96) blank_cyclic)) None)
-    (⊎_elim (λ (g : k - 96 < i). lt-ltb (k - 96) (i + 1) (omega (arith, g)) ∙ sym (lt-ltb (k - 96) i g))
-    (λ (g : i ≤ k - 96). le-ltb (k - 96) (i + 1) (omega (arith, g, h, apart)) ∙ sym (le-ltb (k - 96) i g)) (cases_lt (k - 96) i))))
-    (cases_lt k 96)
-
--- the next one is not started, or it is
-pub start_none : (cyclics : List Cyclic) (left : List (Option Left)) (i : ℕ) → start_left (get_or cyclics i blank_cyclic) ≡ None → ((k : ℕ) → k < 128 → get_or left k None ≡ started_at cyclics i k) →
-    (k : ℕ) → k < 128 → get_or left k None ≡ started_at cyclics (i + 1) k
-start_none cyclics left i none h k low =
-    h k low ∙ ⊎_elim (λ (e : k ≡ 96 + i). started_before cyclics i k e ∙ sym (started_next cyclics i k e ∙ none)) (λ (e : k ≡ 96 + i → ⊥). sym (started_other cyclics i k e)) (cases_eq k (96 + i))
-
-pub start_some : (cyclics : List Cyclic) (left : List (Option Left)) (i at : ℕ) (l : Option Left) → at ≡ 96 + i → at < length left → l ≡ start_left (get_or cyclics i blank_cyclic) →
-    ((k : ℕ) → k < 128 → get_or left k None ≡ started_at cyclics i k) → (k : ℕ) → k < 128 → get_or (set left at l) k None ≡ started_at cyclics (i + 1) k
-start_some cyclics left i at l e within some h k low =
-    ⊎_elim (λ (f : k ≡ at). ap (λ (j : ℕ). get_or (set left at l) j None) f ∙ get_or-set_same left at l None within ∙ some ∙ sym (started_next cyclics i k (f ∙ e)))
-    (λ (f : k ≡ at → ⊥). get_or-set_other left at k l None f ∙ h k low ∙ sym (started_other cyclics i k (λ (g : k ≡ 96 + i). f (g ∙ sym e))))
-    (cases_eq k at)
 
 -- All.
 

@@ -40,12 +40,12 @@ impl TaskState {
         }
     }
 
-    /// The state of a task with this record, where `running` runs on its processor.
+    /// The state of a task with this entry, where `running` runs on its processor.
     #[inline(always)]
-    pub fn of(task: Task, record: &TaskRecord, running: Option<Task>) -> TaskState
-        ensures { result ≡ spec.task_state task record.now running }
+    pub fn of(task: Task, entry: &TaskRecord, running: Option<Task>) -> TaskState
+        ensures { result ≡ spec.task_state task entry.now running }
     {
-        match (record.active, record.wait.is_some(), record.suspended) {
+        match (entry.active, entry.wait.is_some(), entry.suspended) {
             (false, _, _) => TaskState::Dormant,
             (true, true, true) => TaskState::WaitingSuspended,
             (true, true, false) => TaskState::Waiting,

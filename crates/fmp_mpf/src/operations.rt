@@ -1,5 +1,5 @@
 //! The operations on a memory pool alone, which the kernel does not call: a call's rule stands in `fmp_machine/specs`. They are
-//! this part's own surface, tested by `fmp_part_tests`.
+//! this part's own surface.
 ghost use Rattle.std.specs.Prelude.{◌≡◌, None, true, false};
 ghost use Rattle.std.specs.Option.{option_map};
 ghost use Rattle.fmp_waitq.specs.Queue.{has_waiter, joined_by, put_ranked, waiter_of};

@@ -15,10 +15,6 @@ pub found : (name : List ℕ) (entries : List (Vec ℕ × ℕ)) → lookup (byte
 found name [] = refl
 found name (e ∷ es) = ap (λ (o : Option ℕ). cond (bytes_eq name e.0.items) (Some e.1) o) (found name es)
 
-pub keys_shown : (entries : List (Vec ℕ × ℕ)) → keys_of (map shown entries) ≡ map (λ v. v.items) (keys_of entries)
-keys_shown [] = refl
-keys_shown (e ∷ es) = ap (λ (names : List (List ℕ)). e.0.items ∷ names) (keys_shown es)
-
 -- a name that is not there goes last
 pub inserted : (name : Vec ℕ) (number : ℕ) (entries : List (Vec ℕ × ℕ)) → list_any (bytes_eq name.items) (keys_of (map shown entries)) ≡ false
     → map shown (insert_entry (λ v w. bytes_eq v.items w.items) entries name number) ≡ map shown entries ++ (name.items, number) ∷ []

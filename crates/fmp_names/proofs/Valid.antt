@@ -140,9 +140,6 @@ module _ (lists : NameLists) (name : List ℕ) (valid : AreValid lists) where
       let absent = or_parts (list_any (λ list. has_name list name) lists.objects) (is_defined lists name) (rw at_object at new) in
       rw (copied, placed) (list_any-nowhere (λ list. has_name list name) lists.objects (place_of k) [] within absent.0)
 
-  pub absent_function : (kind : NameKind) (copy : List ℕ) → kind ≡ Function → copy ≡ name → is_taken lists kind name ≡ false → has_name lists.functions copy ≡ false
-  absent_function kind copy at_function copied new = rw copied (rw at_function at new)
-
   module _ (kind : NameKind) (copy : List ℕ) (copied : copy ≡ name) (is : is_name name ≡ true) (free : is_free kind name ≡ true) (new : is_taken lists kind name ≡ false) (room : has_room lists kind ≡ true) where
     pub object_kept : {A E : Type 0} (r : Result A E) (k : ObjectKind) (place : ℕ) (objects : List (List (List ℕ))) → kind ≡ Object k → place ≡ place_of k
         → OnOk r (objects ≡ set lists.objects place (get_or lists.objects place [] ++ copy ∷ [])) → OnErr r (objects ≡ lists.objects) → AreValid (record lists { objects = objects })

@@ -19,9 +19,6 @@ get_or-replicate zero i = refl
 get_or-replicate (suc k) zero = refl
 get_or-replicate (suc k) (suc i) = get_or-replicate k i
 
-pub none_yet : (records : List TaskRecord) (ready : List ℕ) → AreTopsAmong records ready 0 (replicate 8 None)
-none_yet records ready = record { places = refl; each = λ p. get_or-replicate 8 (p.number - 1) }
-
 module _ (records : List TaskRecord) (ready : List ℕ) (n : ℕ) (tops : List (Option Task)) (so_far : AreTopsAmong records ready n tops) where
   -- the better of the next task and another
   best : Option Task → Option Task

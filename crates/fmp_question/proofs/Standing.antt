@@ -20,11 +20,6 @@ pub stand_later : (ps : List (List ℕ)) (c : ℕ) (text : List ℕ) → stand p
 stand_later [] c text h = refl
 stand_later (p ∷ ps) c text h = or_right _ _ h
 
-pub stand_drop : (ps : List (List ℕ)) (n : ℕ) (text : List ℕ) → stand ps (drop n text) ≡ true → stand ps text ≡ true
-stand_drop ps zero text h = h
-stand_drop ps (suc n) [] h = h
-stand_drop ps (suc n) (c ∷ text) h = stand_later ps c text (stand_drop ps n text h)
-
 -- ---- a text that begins with a piece
 
 zero_later : (j : ℕ) → suc (0 + j) ≡ 0 + suc j

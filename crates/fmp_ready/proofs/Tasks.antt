@@ -56,13 +56,6 @@ take_out-lacking (x ∷ q) t h = rw (without_lacking t x (h 0)) (ap (λ (r : Lis
 pub take_out-twice : (q : List (List Task)) (t : Task) → take_out (take_out q t) t ≡ take_out q t
 take_out-twice q t = take_out-lacking (take_out q t) t (gone q t)
 
--- a task that stands in no other list leaves this one alone
-pub take_out-alone : (q : List (List Task)) (t : Task) (i : ℕ) → ((j : ℕ) → (j ≡ i → ⊥) → has_task t (queue_at q j) ≡ false) → take_out q t ≡ set q i (without t (queue_at q i))
-take_out-alone [] t i h = refl
-take_out-alone (x ∷ q) t zero h = ap (λ (r : List (List Task)). without t x ∷ r) (take_out-lacking q t (λ j. h (suc j) (λ f. omega (arith, f))))
-take_out-alone (x ∷ q) t (suc i) h =
-    rw (without_lacking t x (h 0 (λ f. omega (arith, f)))) (ap (λ (r : List (List Task)). x ∷ r) (take_out-alone q t i (λ j n. h (suc j) (λ f. n (omega (arith, f))))))
-
 -- lists of items are disjoint as lists of tasks
 pub disjoint-tasks_of : (q : List (List ℕ)) → links.AreDisjoint 64 q → AreDisjoint (tasks_of q)
 disjoint-tasks_of q d = record {

@@ -71,7 +71,3 @@ number_small (Some t) = t.most
 pub number_names : (n : ℕ) (t : Task) (o : Option Task) → t.number ≡ n → (n ≡ 0 → ⊥) → n ≡ task_number o → Some t ≡ o
 number_names n t None e some h = absurd (some h)
 number_names n t (Some u) e some h = ap Some (tasks_same t u (e ∙ h))
-
-pub number_none : (o : Option Task) → 0 ≡ task_number o → None ≡ o
-number_none None h = refl
-number_none (Some t) h = let low = t.least in absurd (omega (arith, low, h))

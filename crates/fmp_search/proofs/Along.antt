@@ -91,18 +91,6 @@ module _ {P : Type 0} (after : P → ℕ → Option P) where
       go None h = h
       go (Some x) h = (h.0, ap (guide (drop 1 cs)) h.1)
 
-  pub not_guided : (w v : Guide P) (s : ℕ) → may_choose w.choices s ≡ false → Goes (guided_after after w s) false v
-  not_guided w v s may = rw may refl
-
-  -- and of one that can be made it is known that it can be without a guide
-  pub made_guided : (q : P) (cs : List Choice) (s : ℕ) → is_some (guided_after after (guide cs q) s) ≡ true → is_some (after q s) ≡ true
-  made_guided q cs s some = go (may_choose cs s) (after q s) some
-    where
-      go : (b : Bool) (o : Option P) → is_some (cond b (option_map (guide (drop 1 cs)) o) None) ≡ true → is_some o ≡ true
-      go true None h = h
-      go true (Some x) h = refl
-      go false o h = absurd (search (rules, h))
-
   pub again_guided : (q r : P) (cs : List Choice) (s : ℕ) → is_some (guided_after after (guide cs q) s) ≡ true → after q s ≡ Some r →
       guided_after after (guide cs q) s ≡ Some (guide (drop 1 cs) r)
   again_guided q r cs s some to = go (may_choose cs s) refl
@@ -110,13 +98,6 @@ module _ {P : Type 0} (after : P → ℕ → Option P) where
       go : (b : Bool) → may_choose cs s ≡ b → guided_after after (guide cs q) s ≡ Some (guide (drop 1 cs) r)
       go true may = rw (may, to) refl
       go false may = let bad : false ≡ true = subst (λ (b : Bool). is_some (cond b (option_map (guide (drop 1 cs)) (after q s)) None) ≡ true) may some in absurd (search (rules, bad))
-
-  pub none_guided : (q : P) (cs : List Choice) (s : ℕ) → after q s ≡ None → guided_after after (guide cs q) s ≡ None
-  none_guided q cs s none = go (may_choose cs s)
-    where
-      go : (b : Bool) → cond b (option_map (guide (drop 1 cs)) (after q s)) None ≡ None
-      go true = rw none refl
-      go false = refl
 
   -- ---- answers
   module _ (wanted : P → Bool) (q : P) (cs : List Choice) where

@@ -1,7 +1,7 @@
 -- No two nodes are of the same step from the same place.
-use Rattle.std.proofs.Common.{◌≡◌, ℕ, zero, suc, ◌+◌, ◌<◌, ◌≤◌, Bool, Option, Some, List, [], ◌∷◌, ◌++◌, length, ◌⊎◌, inl, inr, slice_get, arith, subst, ap, sym, refl}
+use Rattle.std.proofs.Common.{◌≡◌, ℕ, zero, suc, ◌+◌, ◌<◌, Some, List, [], ◌∷◌, ◌++◌, length, ◌⊎◌, inl, inr, slice_get, arith, subst, ap, sym, refl}
 use Rattle.fmp_search.specs.declared.nodes.Node.{Node}
-use Rattle.fmp_search.specs.Answers.{Explored, Precedes, UsedUp}
+use Rattle.fmp_search.specs.Answers.{Precedes}
 use Rattle.fmp_search.specs.Growth.{AreBefore}
 
 pub before_none : AreBefore [] 0 0
@@ -18,10 +18,7 @@ place_later : (a : Node) (parent step : ℕ) → Precedes a parent step → Prec
 place_later a parent step (inl lt) = inl (omega (arith, lt))
 place_later a parent step (inr both) = let is = both.0 in inl (omega (arith, is))
 
--- all are before a later step from the same place, and before the first one from the next
-pub before_step : (nodes : List Node) (parent step : ℕ) → AreBefore nodes parent step → AreBefore nodes parent (step + 1)
-before_step nodes parent step x = record { apart = x.apart; before = λ i a at. step_later a parent step (x.before i a at) }
-
+-- all that are before a step of one place are before the first step of the next
 pub before_place : (nodes : List Node) (parent step : ℕ) → AreBefore nodes parent step → AreBefore nodes (parent + 1) 0
 before_place nodes parent step x = record { apart = x.apart; before = λ i a at. place_later a parent step (x.before i a at) }
 
@@ -56,15 +53,3 @@ module _ (nodes : List Node) (node : Node) (x : AreBefore nodes node.parent node
     apart = λ i j a b lt at_i at_j. apart_last i j a b lt at_i at_j (here_or_last i nodes node a at_i) (here_or_last j nodes node b at_j);
     before = λ i a at. before_last i a (here_or_last i nodes node a at);
   }
-
--- where there is no room for a place more, all of it was used
-pub used_up :
-    {P : Type 0} (after : P → ℕ → Option P) (wanted : P → Bool) (q : P) (nodes : List Node) (n first opened room parent step : ℕ) → Explored after wanted q nodes n first opened →
-    AreBefore nodes parent step → length nodes ≤ room → room ≤ length nodes → UsedUp after q n room
-used_up after wanted q nodes n first opened room parent step x before few many = record {
-  nodes = nodes;
-  tree = x.tree;
-  all = omega (arith, few, many);
-  near = x.depths;
-  apart = before.apart;
-}

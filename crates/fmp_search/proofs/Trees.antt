@@ -1,6 +1,6 @@
 -- One node more, and runs in two parts.
 use Rattle.std.proofs.Common.{◌≡◌, ◌⊎◌, ℕ, ◌+◌, ◌<◌, ◌≤◌, ◌^◌, true, Option, None, Some, List, [], ◌∷◌, ◌++◌, length, get_or, inl, inr, refl, ap, sym, subst, ◌∙◌, arith, rules}
-use Rattle.std.specs.Prelude.{unwrap_or, is_some}
+use Rattle.std.specs.Prelude.{unwrap_or}
 use Rattle.std.specs.Option.{option_and_then}
 use Rattle.std.specs.List.{fold}
 use Rattle.std.proofs.lemmas.List.Sums.{fold-append}
@@ -76,11 +76,6 @@ module _ {P : Type 0} (after : P → ℕ → Option P) where
   pub found-root : (q : P) (ns : List Node) → found_at after q ns 0 ≡ root q
   unfolding places
   found-root q ns = folded-first q (root q ∷ []) ns (omega arith)
-
-  -- the first step of a run can be made, and leads on to where the rest leads
-  pub can-go : (o : Option P) (t : P) (ss : List ℕ) → option_and_then (λ r. run after r ss) o ≡ Some t → is_some o ≡ true
-  can-go None t ss h = absurd (search rules)
-  can-go (Some r) t ss h = refl
 
   -- the place behind a step that was made
   pub made : (o : Option P) (p : P) → Goes o true p → o ≡ Some p

@@ -15,12 +15,6 @@ part_behind : (x : Event) (es whole : List Event) → IsPartOf es whole → IsPa
 part_behind x [] whole part = tt
 part_behind x (e ∷ es) whole part = inr part
 
--- the rest of a part is a part
-rest_of_part : (e : Event) (es whole : List Event) → IsPartOf (e ∷ es) whole → IsPartOf es whole
-rest_of_part e es [] part = absurd part
-rest_of_part e es (x ∷ whole) (inl here) = part_behind x es whole here.1
-rest_of_part e es (x ∷ whole) (inr there) = part_behind x es whole (rest_of_part e es whole there)
-
 pub part_of_part : (es part whole : List Event) → IsPartOf es part → IsPartOf part whole → IsPartOf es whole
 part_of_part [] part whole a b = tt
 part_of_part (e ∷ es) [] whole a b = absurd a

@@ -1,6 +1,5 @@
 -- The ticks of a history are in turn.
 use Rattle.std.proofs.Common.{◌≡◌, ℕ, ◌+◌, ◌≤◌, inl, inr, Bool, true, false, cond, List, [], ◌∷◌, ◌++◌, take, Option, Some, None, refl, ap, sym, subst, ◌∙◌, arith}
-use Rattle.std.specs.Prelude.{IfSome, IsSome}
 use Rattle.fmp_codes.specs.declared.numbers.Proc.{Proc}
 use Rattle.fmp_codes.specs.declared.records.Event.{Event}
 use Rattle.fmp_codes.specs.declared.records.Event.TheVariants.{Tick}
@@ -15,7 +14,6 @@ use Rattle.fmp_smp.specs.Rounds.{Rounds, rounds_of, next_of, after_record, ticks
 use Rattle.fmp_smp.specs.Seeds.{movers, drawn, event_of, number_at, IsInOrderOf}
 use Rattle.fmp_smp.proofs.Moving.{IsOwn, choice_own, told_event, clock_rests, tick_counts, below_or_last}
 use Rattle.fmp_smp.proofs.Following.{ticks_more, drawn_can, next_within}
-use Rattle.fmp_world.specs.declared.finishing.SmpRun.{SmpRun}
 use Rattle.fmp_world.specs.declared.seats.Turn.{Turn}
 use Rattle.fmp_world.specs.declared.seats.Turn.TheVariants.{Made, Nothing, Full}
 use Rattle.fmp_world.specs.Turns.{told_after}
@@ -80,12 +78,6 @@ tick_in_turn ticks w r s (Made told) w' r' s' so gives =
     made_in_turn ticks w r (Tick (next_of r)) w' r' so gives.2.2.history (tick_counts w r s told w' r' s' gives) (λ p is. (gives.0, same_tick p (next_of r) is))
 tick_in_turn ticks w r s Nothing w' r' s' so gives = rw (gives.2, gives.1) so
 tick_in_turn ticks w r s Full w' r' s' so gives = rw (gives.3, gives.2) so
-
--- the records of a run that the judge gives are those of its world
-pub run_ticked : (o : Option SmpRun) (w : History) (c : Setup) (ticks : ℕ) → TicksInTurn w.config ticks w.records → (IsSome o → w.config ≡ c)
-    → IfSome o (λ r. r.history ≡ w) → IfSome o (λ r. TicksInTurn c ticks r.history.records)
-run_ticked None w c ticks so is same = tt
-run_ticked (Some run) w c ticks so is same = rw (same, ← is refl) so
 
 -- ---- a history in the order of a seed
 

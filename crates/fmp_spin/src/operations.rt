@@ -1,5 +1,5 @@
-//! The operations on one spin lock, which the kernel does not call: a call's rule stands in `fmp_machine/specs`. They are this
-//! part's own surface, tested by `fmp_part_tests`.
+//! The operations on one spin lock, which the kernel does not call: a call's rule stands in `fmp_machine/specs`. They are
+//! this part's own surface.
 ghost use Rattle.std.specs.Prelude.{◌≡◌, ◌≤◌, not, Some, None, length, is_some, if◌then◌else◌};
 ghost use Rattle.fmp_machine.specs.World.{item, with_item};
 ghost use Rattle.fmp_machine.specs.Processors.{is_at};

@@ -1,5 +1,5 @@
 //! The operations on one task, which the kernel does not call: a call's rule stands in `fmp_machine/specs`. They are this part's
-//! own surface, tested by `fmp_part_tests`: how a task changes, each way under the condition that its state sets.
+//! own surface: how a task changes, each way under the condition that its state sets.
 ghost use Rattle.std.specs.Prelude.{◌≡◌, ◌+◌, ◌<◌, Some, None, true, false};
 ghost use Rattle.fmp_machine.specs.Ordering.{is_runnable};
 ghost use Rattle.fmp_machine.specs.Tasks.{started, ended};

@@ -3,7 +3,7 @@ use Rattle.std.proofs.Common.{◌≡◌, ℕ, ◌+◌, ◌*◌, ◌-◌, ◌/◌
 use Rattle.std.specs.Prelude.{codes, slice_index}
 use Rattle.std.specs.Option.{option_copied}
 use Rattle.std.specs.List.{list_all, join_with_byte}
-use Rattle.std.proofs.lemmas.List.{append-nil, take_all, nil_from_length}
+use Rattle.std.proofs.lemmas.List.{append-nil, take_all}
 use Rattle.std.proofs.lemmas.Bool.{eqb-true, false≢true}
 use Rattle.std.proofs.Math.Seq.{drop-append-add}
 use Rattle.std.proofs.lemmas.Fmt.{decimal_step, decimal_digit}
@@ -23,12 +23,10 @@ use Rattle.fmp_calls.proofs.Matched.{call_of-same, call_of-agrees}
 use Rattle.fmp_names.specs.Names.{NameLists, AreValid}
 use Rattle.fmp_names.proofs.Listed.{list_all-at}
 use Rattle.fmp_text.specs.Argument.{ranged, constant_of}
-use Rattle.fmp_text.specs.Grammar.{AreBlank, Padded, IsNumber, IsObjectName, SpellsValue, SpellsPieces, SpellsArguments, SpellsCall}
+use Rattle.fmp_text.specs.Grammar.{AreBlank, Padded, IsNumber, SpellsValue, SpellsPieces, SpellsArguments, SpellsCall}
 use Rattle.fmp_text.specs.TextGrammar.{IsAlone, OnProcessor, SpellsEvent}
 use Rattle.fmp_text.specs.Fronts.{IsFront, IsBehindComma, IsClosed, IsClosedBehind, IsMade, IsNumberOf, Happens}
 use Rattle.fmp_text.specs.Events.{HasNoFeed, IsFirstLine}
-use Rattle.fmp_text.specs.Reading.{call_in}
-use Rattle.fmp_text.proofs.SpelledCalls.{call_in-spelled}
 use Rattle.fmp_text.proofs.SpelledEvents.{line_of_spelled}
 use Rattle.fmp_text.proofs.SpelledTexts.{one_read}
 
@@ -63,11 +61,6 @@ decimal_more text rest more n digit some few most follows parts =
 pub decimal_first : (text rest : List ℕ) (digit : ℕ) → digit ≤ 9 → text ≡ (48 + digit) ∷ rest → text ≡ decimal digit ++ rest
 decimal_first text rest digit most parts = parts ∙ ap (λ (d : List ℕ). d ++ rest) (sym (decimal_digit digit (omega (arith, most))))
 
-pub front_positive : (kind : ArgumentKind) (text rest : List ℕ) (n : ℕ) (value : Value) → n < 10 ^ 9 → text ≡ decimal n ++ rest → ranged kind false n ≡ Some value
-    → IsFront (IsNumber kind) text value rest
-front_positive kind text rest n value few parts range =
-    record { token = decimal n; spelled = record { negative = false; magnitude = n; spelled = (omega (arith, few), inl refl); in_range = range }; parts = parts }
-
 pub front_negative : (kind : ArgumentKind) (text digits rest : List ℕ) (n : ℕ) (value : Value) → n < 10 ^ 9 → text ≡ 45 ∷ digits → digits ≡ decimal n ++ rest → ranged kind true n ≡ Some value
     → IsFront (IsNumber kind) text value rest
 front_negative kind text digits rest n value few signed parts range =
@@ -75,16 +68,9 @@ front_negative kind text digits rest n value few signed parts range =
 
 -- ---- values
 
-pub front_number : (names : NameLists) (kind : ArgumentKind) (text rest : List ℕ) (value : Value) → IsFront (IsNumber kind) text value rest → IsFront (SpellsValue names kind) text value rest
-front_number names kind text rest value f = record { token = f.token; spelled = inl f.spelled; parts = f.parts }
-
 pub front_constant : (names : NameLists) (kind : ArgumentKind) (text rest : List ℕ) (value : Value) → IsFront (λ token v. constant_of kind token ≡ Some v) text value rest
     → IsFront (SpellsValue names kind) text value rest
 front_constant names kind text rest value f = record { token = f.token; spelled = inr (inl f.spelled); parts = f.parts }
-
-pub front_object : (names : NameLists) (kind : ArgumentKind) (text rest : List ℕ) (value : Value) → IsFront (IsObjectName names kind) text value rest
-    → IsFront (SpellsValue names kind) text value rest
-front_object names kind text rest value f = record { token = f.token; spelled = inr (inr f.spelled); parts = f.parts }
 
 pub constant_some : (names : NameLists) (kind : ArgumentKind) (text : List ℕ) (found : Option (Value × Bor (List ℕ))) → IfSome found (λ f. IsFront (λ token v. constant_of kind token ≡ Some v) text f.0 f.1.now)
     → IfSome found (λ f. IsFront (SpellsValue names kind) text f.0 f.1.now)
@@ -142,9 +128,6 @@ closed_more names kind next kinds value others text rest more end f c closed =
       arguments = more_pieces names kind next kinds value others f.token c.blanks a.0 f.spelled c.blank a.2;
       parts = f.parts ∙ ap (λ (r : List ℕ). f.token ++ r) behind ∙ sym (append_assoc f.token (44 ∷ (c.blanks ++ join_with_byte 44 a.0)) (41 ∷ end));
     }
-
-pub closed_none : (names : NameLists) (text end : List ℕ) → text ≡ 41 ∷ end → IsClosed names [] [] text end
-closed_none names text end closes = record { inner = []; arguments = (refl, refl); parts = closes }
 
 -- the only argument, behind other values
 pub closed_last : (names : NameLists) (kind : ArgumentKind) (others all : List Value) (value : Value) (text rest end : List ℕ) → all ≡ others ++ value ∷ [] → IsFront (SpellsValue names kind) text value rest
@@ -232,16 +215,7 @@ call_spelled names call made text rest inner end parts opened bare m =
 pub return_spelled : (names : NameLists) → SpellsCall names (codes "ret_hdr") calls.RetHdr
 return_spelled names = record { before = []; rest = []; before_blank = refl; follows = inl (refl, refl); parts = refl }
 
--- a call that is the whole text is read
-pub whole_call : (names : NameLists) (text rest : List ℕ) (call : Call) (test : Bool) → AreValid names → IsFront (SpellsCall names) text call rest → test ≡ eqb (length rest) 0 → test ≡ true → call_in names text ≡ Ok call
-whole_call names text rest call test valid f e t =
-    let whole : text ≡ f.token = f.parts ∙ ap (λ (r : List ℕ). f.token ++ r) (nil_from_length rest (eqb-true (length rest) 0 (sym e ∙ t))) ∙ append-nil f.token in
-    ap (call_in names) whole ∙ call_in-spelled names f.token call valid f.spelled
-
 -- ---- what happens on a processor
-
-pub word_alone : (word : List ℕ) → IsAlone word word
-word_alone word = record { behind = []; behind_blank = refl; parts = sym (append-nil word) }
 
 on_digit : (names : NameLists) (processor : Proc) (Says : List ℕ → Type 0) (number : ℕ) (token : List ℕ) → IsNumberOf names number processor → Says token
     → OnProcessor names processor Says (80 ∷ ((48 + number) ∷ (32 ∷ token)))

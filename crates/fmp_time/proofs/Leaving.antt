@@ -2,7 +2,6 @@
 use Rattle.std.proofs.Common.{◌≡◌, ℕ, zero, suc, ◌+◌, ◌≤◌, Bool, true, false, cond, Some, List, [], ◌∷◌, nat_eq, refl, sym, ap, ◌∙◌, arith, ⊎_elim}
 use Rattle.std.proofs.lemmas.Bool.{cases_eq, eq-eqb, ne_eqb}
 use Rattle.fmp_links.specs.Lists as links
-use Rattle.fmp_links.specs.Lists.{has}
 use Rattle.fmp_links.proofs.Having as having
 use Rattle.fmp_links.proofs.Having.{or_left, or_right}
 use Rattle.fmp_time.specs.Differences.{Entry, entries_at, has_entry, without, take_out, ticks_in, entries_from, sum_of}
@@ -27,10 +26,6 @@ stays_in k (e ∷ es) h =
 pub stays : (q : List (List Entry)) (k : ℕ) → ((i : ℕ) → has_entry k (entries_at q i) ≡ false) → take_out q k ≡ q
 stays [] k h = refl
 stays (x ∷ q) k h = rw (stays_in k x (h 0)) (ap (λ (r : List (List Entry)). x ∷ r) (stays q k (λ i. h (suc i))))
-
-pub items_stay : (q : List (List ℕ)) (k : ℕ) → ((i : ℕ) → has k (links.list_at q i) ≡ false) → links.take_out q k ≡ q
-items_stay [] k h = refl
-items_stay (x ∷ q) k h = rw (having.without_lacking k x (h 0)) (ap (λ (r : List (List ℕ)). x ∷ r) (items_stay q k (λ i. h (suc i))))
 
 -- ticks left are between those before and the sum
 pub ticks_from : (d : ℕ → ℕ) (s : ℕ) (xs : List ℕ) (k r : ℕ) → ticks_in (entries_from d s xs) k ≡ Some r → (s ≤ r) × (r ≤ s + sum_of d xs)

@@ -163,11 +163,6 @@ spot_less d r (x ∷ xs) b e =
     (λ (l : d x ≤ r). rw (le-ltb r (d x) l) (spot_less d (r - d x) xs b (sym (ap (λ (c : Bool). cond c (Some x) (spot_in d (r - d x) xs)) (le-ltb r (d x) l)) ∙ e)))
     (cases_lt r (d x))
 
-pub rest_most : (d : ℕ → ℕ) (r : ℕ) (xs : List ℕ) → rest_in d r xs ≤ r
-rest_most d r [] = omega arith
-rest_most d r (x ∷ xs) =
-    ⊎_elim (λ (l : r < d x). rw (lt-ltb r (d x) l) (omega arith)) (λ (l : d x ≤ r). rw (le-ltb r (d x) l) (omega (arith, rest_most d (r - d x) xs, l))) (cases_lt r (d x))
-
 pub insert_some_total : (d e : ℕ → ℕ) (k b r : ℕ) (xs : List ℕ) → spot_in d r xs ≡ Some b → e k ≡ rest_in d r xs → e b ≡ d b - rest_in d r xs → ((u : ℕ) → (u ≡ k → ⊥) → (u ≡ b → ⊥) → e u ≡ d u) →
     has k xs ≡ false → AreDistinct xs → sum_of e (inserted b k xs) ≡ sum_of d xs
 insert_some_total d e k b r [] spot own more others out apart = cc

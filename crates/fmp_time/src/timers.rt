@@ -1,4 +1,4 @@
-//! The timers. The kernel does not call `tick`, which is this part's own surface, tested by `fmp_part_tests`: the rule of a tick
+//! The timers. The kernel does not call `tick`, which is this part's own surface: the rule of a tick
 //! stands in `fmp_machine/specs`.
 ghost use Rattle.std.specs.Prelude.{◌≡◌, None, [], false, true, filter, is_some};
 ghost use Rattle.std.specs.Option.{option_map};

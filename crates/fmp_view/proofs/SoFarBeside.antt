@@ -6,20 +6,15 @@ use Rattle.std.proofs.lemmas.List.{append-nil}
 use Rattle.fmp_bytes.specs.Bytes.{cut_at}
 use Rattle.fmp_codes.specs.declared.records.Event.{Event}
 use Rattle.fmp_codes.specs.declared.records.Record.{Record}
-use Rattle.fmp_check.specs.Checking.{own_text}
-use Rattle.fmp_check.specs.Differences.{differences}
 use Rattle.fmp_check.proofs.CheckedTexts.{told}
 use Rattle.fmp_check.proofs.Compared.{differing}
 use Rattle.fmp_machine.specs.Arrivals.{State, numbered}
-use Rattle.fmp_machine.specs.Boot.{booted}
 use Rattle.fmp_machine.specs.Step.{step}
 use Rattle.fmp_names.specs.Names.{AreValid, NameLists}
-use Rattle.fmp_setup.specs.Setup.{Setup}
 use Rattle.fmp_text.specs.Limits.{most_events}
 use Rattle.fmp_trace.specs.Fits.{AllFit}
 use Rattle.fmp_trace.specs.Heads.{event_of}
 use Rattle.fmp_trace.specs.Lines.{core_text, line_text, lines_from}
-use Rattle.fmp_trace.specs.Prints.{PrintsWithin}
 use Rattle.fmp_view.specs.Given.{given_beside, given_text}
 use Rattle.fmp_view.proofs.Lines.{after_is, core_is, event_is, is_told, none_left, not_over}
 
@@ -41,17 +36,6 @@ pub record SoFarBeside (names : NameLists) (n : ℕ) (w : State) (rest own given
   pub few : n + length left ≤ most_events + 1
   pub owns : own ++ lines_from names n (told w left) ≡ own_whole
   pub gives : given ++ given_text (differing names w n left) ≡ given_whole
-
-pub begins_beside : (c : Setup) (text : List ℕ) (records : List Record) → PrintsWithin c.names text records
-    → SoFarBeside c.names 1 (booted c) text [] [] (own_text c records) (given_text (differences c records))
-begins_beside c text records prints = record {
-  left = records;
-  text = prints.prints.lines;
-  fit = prints.prints.fit;
-  few = let few = prints.few in omega (arith, few);
-  owns = refl;
-  gives = refl;
-}
 
 module _ (names : NameLists) (valid : AreValid names) (n : ℕ) (w : State) (rest own given own_whole given_whole : List ℕ) (s : SoFarBeside names n w rest own given own_whole given_whole) where
   module _ (line after : List ℕ) (is_line : (cut_at 10 rest).0 ≡ line) (cut : (cut_at 10 rest).1 ≡ Some after) where

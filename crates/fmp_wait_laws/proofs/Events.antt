@@ -10,7 +10,6 @@ use Rattle.fmp_codes.specs.declared.records.Answer.TheVariants as answer
 use Rattle.fmp_codes.specs.declared.records.Event.{Event}
 use Rattle.fmp_codes.specs.declared.records.Event.TheVariants as event
 use Rattle.fmp_codes.specs.declared.records.Record.{Record}
-use Rattle.fmp_codes.specs.declared.records.Release.{Release}
 use Rattle.fmp_codes.specs.Records.{is_taken}
 use Rattle.fmp_setup.specs.declared.setup.Timer.{Timer}
 use Rattle.fmp_setup.specs.Setup.{has_time, counts_for}
@@ -68,16 +67,6 @@ module _ {Q : Type 0} (k : Ordering Q) (w : World Q) (L : World Q → Record →
       cond_both (is_held w p) _ _ After (λ _. interrupts p answer.Held refl)
       (λ _. settles (event.Ipi p) p (w, plain (if (processor w p).latch then answer.Taken else answer.Nothing))
       (interrupts p _ (cond_both (processor w p).latch answer.Taken answer.Nothing (λ a. is_accepted a ≡ false) (λ _. refl) (λ _. refl))))
-
--- what a tick releases that was taken is what its record tells
-pub tick_taken : {Q : Type 0} (k : Ordering Q) (w : World Q) (p : Proc) (P : List Release → Type 0) → P (tick k w p).1.releases → (step k w (event.Tick p)).1.answer ≡ answer.Taken →
-    P (step k w (event.Tick p)).1.releases
-unfolding settled before_event unchanged
-tick_taken k w p P h =
-    cond_both (has_time w.timer p) _ _ (λ (after : World _ × Record). after.1.answer ≡ answer.Taken → P after.1.releases)
-    (λ _.
-    cond_both ((processor w p).locked || is_some (handler w p)) _ _ (λ (after : World _ × Record). after.1.answer ≡ answer.Taken → P after.1.releases) (λ _ e. absurd (cc)) (λ _ e. h))
-    (λ _ e. absurd (cc))
 
 -- what holds after a tick that was taken holds after its step, where it says nothing of the processors
 pub tick_state : {Q : Type 0} (k : Ordering Q) (w : World Q) (p : Proc) (P : World Q → Type 0) → ((v : World Q) (cs : List Processor) → P v → P (record v { processors = cs })) →

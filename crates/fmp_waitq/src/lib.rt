@@ -1,6 +1,5 @@
 //! Wait queues: the tasks that wait for an object, in the order in which it serves them. The kernel calls all operations but
-//! `reorder`, which serves those of the objects and is tested with them by `fmp_part_tests`: a call's rule stands in
-//! `fmp_machine/specs`.
+//! `reorder`, which serves those of the objects: a call's rule stands in `fmp_machine/specs`.
 //!
 //! Contracts see a queue as its order and a list of waiters, each a task with its rank: its priority in a queue by priority,
 //! and 0 in one by arrival. A lower rank comes first, and of equal ranks the one that joined earlier. No task waits twice in

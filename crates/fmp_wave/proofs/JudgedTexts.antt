@@ -5,7 +5,6 @@ use Rattle.fmp_setup.specs.Setup.{Setup}
 use Rattle.fmp_check.specs.declared.checking.Verdict.{Verdict}
 use Rattle.fmp_check.specs.declared.checking.Verdict.TheVariants.{Yes, No}
 use Rattle.fmp_check.specs.Checking.{Judges}
-use Rattle.fmp_devices.specs.Devices.{BeginsWith}
 use Rattle.fmp_judging.specs.declared.fault.RunFault.{RunFault}
 use Rattle.fmp_judging.specs.declared.fault.RunFault.TheVariants as run
 use Rattle.fmp_judging.specs.Faults.{is_write}
@@ -25,10 +24,6 @@ module _ (config_text trace_text old new text : List ℕ) (c : Setup) (says : Sa
     judges = subst (λ (t : List ℕ). Judges c t verdict) same judges;
     drawn = subst (λ (t : List ℕ). IsDrawnBy c t old new verdict) same (is_drawn_by verdict wave draws whole none);
   }
-
-  -- a write failed
-  pub begun_of_texts : (wave : List ℕ) → Draws c text wave → BeginsWith old wave new → LeavesDrawn config_text trace_text old new run.Write
-  begun_of_texts wave draws begun = (c, says, (wave, subst (λ (t : List ℕ). Draws c t wave) same draws, begun))
 
 -- nothing was written before any other fault
 pub nothing_left : (config_text trace_text old new : List ℕ) (fault : RunFault) → is_write fault ≡ false → new ≡ old → LeavesDrawn config_text trace_text old new fault

@@ -213,11 +213,5 @@ module _ (f : Findings) (n : ℕ) (cpus : List Seat) (clock : ClockSeat) (h : Li
     ]
   ])
 
-  pub seats_passed : AreSeats n cpus clock h → AllPassed cpus f.passed
-  seats_passed seats = λ k d small.
-      let own = seats.fit k d small in
-      let few_places : k < 8 = omega (arith, small, few) in
-      (own.0, ap length (own.1 ∙ cpu_told k few_places h) ∙ sym (finds.passed k (omega (arith, few_places))))
-
   pub clock_passed : AreSeats n cpus clock h → length clock.receipts ≡ slice_index f.passed 8
   clock_passed seats = ap length (seats.clock_told ∙ clock_told h) ∙ sym (finds.passed 8 (omega arith))

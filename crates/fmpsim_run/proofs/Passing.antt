@@ -23,14 +23,6 @@ Ended = Result (Unit {0}) RunFault
 abbrev pub Passes : Ended → Ended → Type 0
 Passes ended result = (result ≡ ended) ⊎ (result ≡ Err run.Write)
 
-pub on_ok_passed : (P : Type 0) (ended result : Ended) → Passes ended result → OnOk ended P → OnOk result P
-on_ok_passed P ended result (inl is) holds = rw is holds
-on_ok_passed P ended result (inr is) holds = rw is tt
-
-pub if_err_passed : (P : RunFault → Type 0) (ended result : Ended) → P run.Write → Passes ended result → IfErr ended P → IfErr result P
-if_err_passed P ended result write (inl is) holds = rw is holds
-if_err_passed P ended result write (inr is) holds = rw is write
-
 module _ (d : Detail) (c : Setup) (text : List ℕ) (whole : Reading) (old : List ℕ) where
   out_begun : (new : List ℕ) → IsPrefixOut (detail_of d) c whole.events old new → BeginsWith old (detail_of d c whole.events) new
   out_begun new (n, text) = prefix_begun d c whole.events n old new text

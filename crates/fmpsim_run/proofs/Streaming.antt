@@ -114,11 +114,6 @@ module _ (d : Detail) (tells : Bool) (c : Setup) (text : List ℕ) (whole : Read
     text = λ told. same told ∙ s.text told;
   }
 
-  -- a fault that is ahead is the text's first one
-  pub stream_first : (a : Answering) (written remaining : List ℕ) (fault : TextFault) → Streams d tells c text whole old a written remaining
-      → ahead c.names a.feed remaining ≡ only fault → whole.fault ≡ Some fault
-  stream_first a written remaining fault s is = ap (λ (r : Reading). r.fault) (s.reading ∙ ap (with_events s.given) is)
-
   -- at the end of the text all is out
   pub stream_done : (a : Answering) (written remaining : List ℕ) → IsTrue tells → Streams d tells c text whole old a written remaining → IsDone c.names a.feed
       → IsAllOut d c whole old written

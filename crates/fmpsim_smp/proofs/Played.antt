@@ -19,7 +19,6 @@ use Rattle.fmp_judging.specs.declared.fault.RunFault.{RunFault}
 use Rattle.fmp_judging.specs.declared.fault.RunFault.TheVariants as kind
 use Rattle.fmp_judging.specs.Faults.{is_read, is_text}
 use Rattle.fmp_judging.specs.Texts.{CountsReads, FirstScriptFault, SaysConfig}
-use Rattle.fmp_judging.specs.Traces.{IsOwn}
 use Rattle.fmp_judging.proofs.Yes.{own_trace}
 use Rattle.fmp_states.specs.Waits.{waiting_lines}
 use Rattle.fmpsim_smp.specs.Scripted.{InOrder, IsPlayBegun, IsPlayedToEnd, Played, waiting_after}
@@ -42,10 +41,6 @@ played config_text script_text ticks turns c scripts h receipts ended says valid
       let many : length (events_of h) ≤ 1000000 = omega (arith, length-map h (λ (r : Record). r.event), is.within, few) in
       own_trace c (lines_from c.names 1 h) (events_of h) valid names_valid is.run.on (is.in_bits fit) many (ap (lines_from c.names 1) is.run.answers);
 }
-
--- that trace is one of the machine's own
-abbrev pub played_is_own : (config_text script_text trace : List ℕ) (ticks turns : ℕ) (ended : Ended) → Played config_text script_text ticks turns trace ended → IsOwn config_text trace
-played_is_own config_text script_text trace ticks turns ended p = record { config = p.config; events = events_of p.records; says = p.says; prints = p.answers }
 
 -- the lines of those that wait, by the names and the configuration of a run
 pub tells_waiting : (c setup : Setup) (names : NameLists) (h : List Record) (waiting : List ℕ) → names ≡ c.names → setup ≡ c → waiting ≡ waiting_lines names (state_after setup h)

@@ -1,11 +1,8 @@
 //! Numbers that look random, the same in every run.
 ghost use Rattle.std.specs.Prelude.{◌<◌};
 
-/// The tests go over these, with as many commands for each.
+/// The tests go over these.
 pub const SEEDS: [u64; 10] = [1, 2, 3, 5, 8, 13, 21, 34, 55, 89];
-
-/// How many commands each seed gives.
-pub const COMMANDS: u32 = 1000;
 
 #[derive(Drop)]
 pub struct Random(pub u64);

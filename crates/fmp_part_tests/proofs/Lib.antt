@@ -1,1 +1,0 @@
-pub mod EmptyLists  -- No task stands in lists that are all empty.
