@@ -1,3 +1,4 @@
+-- believed: see docs/PROOF.md, "What has to be believed"
 -- Nothing is lost or doubled: what the records of a run say came in and went out agrees with what is there.
 use Rattle.std.specs.Prelude.{ℕ, List, take}
 use Rattle.fmp_codes.specs.declared.numbers.Object.{Object}

@@ -1,3 +1,4 @@
+-- believed: see docs/PROOF.md, "What has to be believed"
 -- What stands in the table of the calls: how a call is written, and what it is made of.
 use Rattle.std.specs.Prelude.{ℕ, ◌+◌, ℤ, pos, Bool, false, List, [], ◌∷◌, get_or}
 use Rattle.fmp_codes.specs.declared.calls.Mode.{Mode}

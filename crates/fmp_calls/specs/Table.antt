@@ -1,3 +1,4 @@
+-- believed: see docs/PROOF.md, "What has to be believed"
 -- The table of the service calls, by families.
 use Rattle.std.specs.Prelude.{ℕ, Bool, true, List, [], Option, None, Some, option_map, find, codes, if◌then◌else◌}
 use Rattle.std.specs.Option.{option_or}

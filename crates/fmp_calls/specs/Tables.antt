@@ -1,3 +1,4 @@
+-- believed: see docs/PROOF.md, "What has to be believed"
 -- The rows of the table of calls, family by family.
 pub mod TaskTable
 pub mod SyncTable

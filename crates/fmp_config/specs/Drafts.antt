@@ -1,3 +1,4 @@
+-- believed: see docs/PROOF.md, "What has to be believed"
 -- What was read of a configuration.
 use Rattle.std.specs.Prelude.{Bool, true, false, Option, None}
 use Rattle.fmp_config.specs.declared.draft.OpenClass.{OpenClass}

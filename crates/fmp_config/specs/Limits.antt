@@ -1,3 +1,4 @@
+-- believed: see docs/PROOF.md, "What has to be believed"
 -- How much a configuration text may hold.
 use Rattle.std.specs.Prelude.{ℕ}
 

@@ -1,3 +1,4 @@
+-- believed: see docs/PROOF.md, "What has to be believed"
 -- The grammar of configuration texts, apart from how they are read: which texts say which configuration.
 use Rattle.std.specs.Prelude.{◌≡◌, ℕ, false, List, None}
 use Rattle.fmp_config.specs.Drafts.{is_start}

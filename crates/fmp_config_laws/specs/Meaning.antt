@@ -1,3 +1,4 @@
+-- believed: see docs/PROOF.md, "What has to be believed"
 -- What statements say: how a configuration grows by them, and which may follow it.
 use Rattle.std.specs.Prelude.{ℕ, ◌≡◌, ◌<◌, ◌⊎◌, Bool, true, false, not, ◌&&◌, ◌||◌, List, [], ◌∷◌, length, map, Some, None, is_some, ◌==◌, All, Contains}
 use Rattle.std.specs.List.{list_all, list_any}

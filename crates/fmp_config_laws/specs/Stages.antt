@@ -1,3 +1,4 @@
+-- believed: see docs/PROOF.md, "What has to be believed"
 -- How far a text has come, the names that stand for numbers, and the numbers for which words stand.
 use Rattle.std.specs.Prelude.{ℕ, ◌≡◌, ◌≤◌, ◌⊎◌, Bool, true, false, ◌&&◌, List, [], ◌∷◌, Option, Some, None, nat_le}
 use Rattle.fmp_bytes.specs.Spelling.{SpellsUnsigned}

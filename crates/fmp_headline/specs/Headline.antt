@@ -1,3 +1,4 @@
+-- believed: see docs/PROOF.md, "What has to be believed"
 -- The sentence that all of this is about, of one state and of every prefix of a run.
 use Rattle.std.specs.Prelude.{◌≡◌, ◌⊎◌, ℕ, true, false, List, Some, length, take}
 use Rattle.fmp_codes.specs.declared.numbers.Proc.{Proc}

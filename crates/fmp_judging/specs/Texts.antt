@@ -1,3 +1,4 @@
+-- believed: see docs/PROOF.md, "What has to be believed"
 -- What the texts of a run say, and which of their faults a run tells.
 use Rattle.std.specs.Prelude.{◌≡◌, ◌⊎◌, ℕ, ◌+◌, ◌≤◌, List, length, Result, Err, if◌then◌else◌}
 use Rattle.fmp_codes.specs.declared.records.Event.{Event}

@@ -1,3 +1,4 @@
+-- believed: see docs/PROOF.md, "What has to be believed"
 -- Lists of tasks. As an item a task is its place among all tasks, from 0.
 use Rattle.std.specs.Prelude.{◌≡◌, ℕ, ◌+◌, ◌<◌, ◌==◌, Bool, true, false, not, List, [], ◌∷◌, length, filter, if◌then◌else◌}
 use Rattle.std.specs.List.{list_any}

@@ -1,3 +1,4 @@
+-- believed: see docs/PROOF.md, "What has to be believed"
 -- The way of lists to keep what came before what: ready queues, the queues of the objects, and the timed waits.
 use Rattle.std.specs.Prelude.{ℕ, Option, None, Some, List, [], ◌∷◌, ◌++◌, map, replicate}
 use Rattle.fmp_codes.specs.declared.numbers.Task.{Task}

@@ -1,3 +1,4 @@
+-- believed: see docs/PROOF.md, "What has to be believed"
 -- What the arguments of calls name.
 use Rattle.std.specs.Prelude.{ℕ, ℤ, pos, negsuc, ◌+◌, Bool, false, ◌&&◌, Option, None, Some, List, nat_le, ◌==◌, if◌then◌else◌, unwrap_or, is_some, length, option_map}
 use Rattle.fmp_codes.specs.Numbers.{as_proc, as_task, as_object, as_pri}

@@ -1,3 +1,4 @@
+-- believed: see docs/PROOF.md, "What has to be believed"
 -- What a call does besides changing the state.
 use Rattle.std.specs.Prelude.{ℤ, ◌≡◌, ◌⊎◌, Option, List, [], ◌++◌}
 use Rattle.fmp_codes.specs.declared.records.Answer.{Answer}

@@ -1,3 +1,4 @@
+-- believed: see docs/PROOF.md, "What has to be believed"
 -- Look-ups of the objects, and what of them a task may wait for.
 use Rattle.std.specs.Prelude.{ℕ, ℤ, not, Bool, false, Option, None, List, [], ◌==◌, nat_lt, replicate, take, count_by, bit_and}
 use Rattle.std.specs.List.{position}

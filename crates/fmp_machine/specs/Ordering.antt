@@ -1,3 +1,4 @@
+-- believed: see docs/PROOF.md, "What has to be believed"
 -- Ways to keep what came before what, and the words by which tasks change.
 use Rattle.std.specs.Prelude.{ℕ, Bool, false, not, ◌&&◌, ◌==◌, Option, None, Some, List, if◌then◌else◌, is_some}
 use Rattle.fmp_codes.specs.declared.numbers.Proc.{Proc}

@@ -1,3 +1,4 @@
+-- believed: see docs/PROOF.md, "What has to be believed"
 -- The calls on spin locks, and the return of a handler.
 use Rattle.std.specs.Prelude.{ℤ, not, true, Some, [], ◌∷◌, if◌then◌else◌, is_some}
 use Rattle.fmp_codes.specs.declared.numbers.Proc.{Proc}

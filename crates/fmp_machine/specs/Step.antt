@@ -1,3 +1,4 @@
+-- believed: see docs/PROOF.md, "What has to be believed"
 -- One step of the machine, and runs.
 use Rattle.std.specs.Prelude.{Bool, true, false, not, ◌&&◌, ◌||◌, Option, None, Some, List, [], ◌∷◌, ◌==◌, if◌then◌else◌, filter, map, is_some}
 use Rattle.fmp_codes.specs.Records.{answer_record}

@@ -1,3 +1,4 @@
+-- believed: see docs/PROOF.md, "What has to be believed"
 -- The names of a configuration, as lists in the order of their numbers.
 use Rattle.std.specs.Prelude.{◌≡◌, ℕ, ◌+◌, ◌-◌, ◌≤◌, ◌<◌, ◌^◌, ◌==◌, nat_lt, nat_le, All, Bool, true, false, not, ◌&&◌, ◌||◌, List, [], ◌∷◌, ◌++◌, length, map, position, Option, None, option_map, is_some, slice_get, slice_set, get_or, if◌then◌else◌, codes}
 use Rattle.std.specs.List.{list_all, list_any, sum_by}

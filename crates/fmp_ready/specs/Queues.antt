@@ -1,3 +1,4 @@
+-- believed: see docs/PROOF.md, "What has to be believed"
 -- Ready queues as lists of tasks, one for each processor and priority.
 use Rattle.std.specs.Prelude.{◌≡◌, ℕ, ◌+◌, ◌-◌, ◌*◌, true, Option, Some, None, List, [], ◌∷◌, ◌++◌, slice_set, slice_index_or, map, take, drop}
 use Rattle.fmp_codes.specs.declared.numbers.Proc.{Proc}

@@ -1,3 +1,4 @@
+-- believed: see docs/PROOF.md, "What has to be believed"
 -- What a state with lists tells, where it stands for one with numbers.
 use Rattle.std.specs.Prelude.{◌≡◌}
 use Rattle.fmp_codes.specs.declared.numbers.Proc.{Proc}

@@ -1,3 +1,4 @@
+-- believed: see docs/PROOF.md, "What has to be believed"
 -- Lists of tasks in which each of some tasks stands once, in an order.
 use Rattle.std.specs.Prelude.{◌≡◌, ℕ, ◌==◌, not, ◌&&◌, Bool, true, false, List, [], ◌∷◌, if◌then◌else◌, count_by}
 use Rattle.fmp_codes.specs.declared.numbers.Task.{Task}

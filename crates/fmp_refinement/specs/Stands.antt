@@ -1,3 +1,4 @@
+-- believed: see docs/PROOF.md, "What has to be believed"
 -- What the lists stand for: a state with numbers, of which they are the order.
 use Rattle.std.specs.Prelude.{◌≡◌, ℕ, ◌<◌, ◌≤◌, ◌==◌, ◌&&◌, Bool, true, Option, None, List, [], ◌∷◌, length, map, is_some}
 use Rattle.fmp_codes.specs.declared.numbers.Proc.{Proc}

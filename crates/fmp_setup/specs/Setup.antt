@@ -1,3 +1,4 @@
+-- believed: see docs/PROOF.md, "What has to be believed"
 -- What a configuration says: lists in the order of the numbers, which begin at 1.
 use Rattle.std.specs.Prelude.{◌≡◌, ℕ, ◌-◌, ◌==◌, Bool, true, false, List, [], slice_index_or, slice_set, replicate}
 use Rattle.fmp_codes.specs.Numbers.{as_proc}

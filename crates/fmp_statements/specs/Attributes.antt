@@ -1,3 +1,4 @@
+-- believed: see docs/PROOF.md, "What has to be believed"
 -- The attributes of objects.
 use Rattle.std.specs.Prelude.{ℕ, true, false, List, find, Result, Ok, codes}
 use Rattle.std.specs.Option.{ok_or}

@@ -1,3 +1,4 @@
+-- believed: see docs/PROOF.md, "What has to be believed"
 -- The table of the statements: words, parts, attributes and ranges.
 use Rattle.std.specs.Prelude.{ℕ, ◌-◌, ◌^◌, List, find, Option, Some, None, codes}
 use Rattle.std.specs.Str.{bytes_eq}

@@ -1,3 +1,4 @@
+-- believed: see docs/PROOF.md, "What has to be believed"
 -- Words: what is kept of a token.
 use Rattle.std.specs.Prelude.{ℕ, Bool, true, false, ◌&&◌, List, [], ◌∷◌, ◌==◌}
 use Rattle.fmp_tokens.specs.declared.tokens.TokenKind.{TokenKind}

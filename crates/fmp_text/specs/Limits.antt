@@ -1,3 +1,4 @@
+-- believed: see docs/PROOF.md, "What has to be believed"
 -- How much an event text or a trace may hold.
 use Rattle.std.specs.Prelude.{ℕ}
 

@@ -1,3 +1,4 @@
+-- believed: see docs/PROOF.md, "What has to be believed"
 -- The parts of a text, apart from how they are read: how each is written, and where it may stand.
 use Rattle.std.specs.Prelude.{ℕ, Bool, true, false, not, ◌&&◌, ◌||◌, List, [], ◌∷◌, ◌++◌, ◌==◌}
 use Rattle.std.specs.Char.{is_ascii_graphic}

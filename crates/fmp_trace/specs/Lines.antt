@@ -1,3 +1,4 @@
+-- believed: see docs/PROOF.md, "What has to be believed"
 -- The text of a trace as a function of its records.
 use Rattle.std.specs.Prelude.{ℕ, zero, suc, ◌+◌, ℤ, List, [], ◌∷◌, ◌++◌, Option, Some, None, unwrap_or, codes, decimal}
 use Rattle.std.specs.Fmt.{signed_decimal}
