@@ -4,12 +4,12 @@ use Rattle.std.specs.Prelude.{◌==◌}
 use Rattle.std.specs.Option.{option_map_or}
 use Rattle.fmp_bytes.specs.Results.{◌>>=◌}
 use Rattle.fmp_names.specs.Names.{has_room_to_define, number_defined}
-use Rattle.fmp_statements.specs.declared.directive.Directive.{Directive}
-use Rattle.fmp_statements.specs.declared.directive.Directive.TheVariants as directives
-use Rattle.fmp_statements.specs.declared.fault.ConfigKind.TheVariants.{Syntax, NameTaken, TooMany}
-use Rattle.fmp_statements.specs.declared.table.StatementName.{StatementName}
-use Rattle.fmp_statements.specs.Faults.{fault_at, fault_in, fault_of_line}
-use Rattle.fmp_statements.specs.Words.{Word}
+use Rattle.fmp_config_statements.specs.declared.directive.Directive.{Directive}
+use Rattle.fmp_config_statements.specs.declared.directive.Directive.TheVariants as directives
+use Rattle.fmp_config_statements.specs.declared.fault.ConfigKind.TheVariants.{Syntax, NameTaken, TooMany}
+use Rattle.fmp_config_statements.specs.declared.table.StatementName.{StatementName}
+use Rattle.fmp_config_statements.specs.Faults.{fault_at, fault_in, fault_of_line}
+use Rattle.fmp_config_statements.specs.Words.{Word}
 use Rattle.fmp_config.specs.declared.draft.OpenClass.{OpenClass}
 use Rattle.fmp_config.specs.Drafts.{Draft, is_body}
 use Rattle.fmp_config.specs.Judging.{define, ended}

@@ -7,13 +7,13 @@ use Rattle.std.proofs.lemmas.List.Elements.{Contains-append_left}
 use Rattle.fmp_bytes.specs.Results.{◌>>=◌}
 use Rattle.fmp_codes.specs.Numbers.{as_proc}
 use Rattle.fmp_names.specs.Names.{is_name}
-use Rattle.fmp_statements.specs.declared.fault.ConfigKind.TheVariants.{BadClass, UnknownClass}
-use Rattle.fmp_statements.specs.declared.table.StatementName.{StatementName}
-use Rattle.fmp_statements.specs.declared.table.StatementName.TheVariants as statements
-use Rattle.fmp_statements.specs.Faults.{Fault, fault_at, fault_in}
-use Rattle.fmp_statements.specs.Forms.{Form}
-use Rattle.fmp_statements.specs.Pieces.{Pieces}
-use Rattle.fmp_statements.specs.Words.{Word}
+use Rattle.fmp_config_statements.specs.declared.fault.ConfigKind.TheVariants.{BadClass, UnknownClass}
+use Rattle.fmp_config_statements.specs.declared.table.StatementName.{StatementName}
+use Rattle.fmp_config_statements.specs.declared.table.StatementName.TheVariants as statements
+use Rattle.fmp_config_statements.specs.Faults.{Fault, fault_at, fault_in}
+use Rattle.fmp_config_statements.specs.Forms.{Form}
+use Rattle.fmp_config_statements.specs.Pieces.{Pieces}
+use Rattle.fmp_config_statements.specs.Words.{Word}
 use Rattle.fmp_config.specs.declared.draft.OpenClass.{OpenClass}
 use Rattle.fmp_config.specs.declared.draft.Phase.TheVariants as phases
 use Rattle.fmp_config.specs.Drafts.{Draft, is_start, is_body}

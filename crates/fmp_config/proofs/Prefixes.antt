@@ -1,8 +1,8 @@
 -- The first fault of a text that is too long is that of its prefix, so no more of it need be read.
 use Rattle.std.proofs.Common.{◌≡◌, ℕ, ◌<◌, ◌≤◌, Bool, true, false, nat_lt, List, [], ◌++◌, length, Err, refl, sym, ap, subst, ◌∙◌, inl, inr, arith, append-nil, length-append}
 use Rattle.std.proofs.lemmas.Bool.{lt-ltb, ltb-true, ltb-false}
-use Rattle.fmp_statements.specs.declared.fault.ConfigKind.TheVariants.{TooMany}
-use Rattle.fmp_statements.specs.Faults.{Fault, fault_of_line}
+use Rattle.fmp_config_statements.specs.declared.fault.ConfigKind.TheVariants.{TooMany}
+use Rattle.fmp_config_statements.specs.Faults.{Fault, fault_of_line}
 use Rattle.fmp_config.specs.declared.fault.ConfigFault.{ConfigFault}
 use Rattle.fmp_config.specs.Limits.{most_bytes}
 use Rattle.fmp_config.specs.Faults.{FaultIs, IsFirstFault, IsTold}

@@ -6,14 +6,14 @@ use Rattle.fmp_bytes.specs.Results.{◌>>=◌}
 use Rattle.fmp_calls.specs.declared.kinds.ObjectKind.{ObjectKind}
 use Rattle.fmp_calls.specs.declared.kinds.ObjectKind.TheVariants as objects
 use Rattle.fmp_names.specs.Names.{NameLists}
-use Rattle.fmp_statements.specs.declared.fault.ConfigKind.TheVariants.{OutOfRange}
-use Rattle.fmp_statements.specs.declared.table.Range.{Range}
-use Rattle.fmp_statements.specs.declared.table.StatementName.{StatementName}
-use Rattle.fmp_statements.specs.declared.table.StatementName.TheVariants as statements
-use Rattle.fmp_statements.specs.Faults.{fault_at}
-use Rattle.fmp_statements.specs.Pieces.{Pieces}
-use Rattle.fmp_statements.specs.Table.{first_range, second_range}
-use Rattle.fmp_statements.specs.Words.{Word}
+use Rattle.fmp_config_statements.specs.declared.fault.ConfigKind.TheVariants.{OutOfRange}
+use Rattle.fmp_config_statements.specs.declared.table.Range.{Range}
+use Rattle.fmp_config_statements.specs.declared.table.StatementName.{StatementName}
+use Rattle.fmp_config_statements.specs.declared.table.StatementName.TheVariants as statements
+use Rattle.fmp_config_statements.specs.Faults.{fault_at}
+use Rattle.fmp_config_statements.specs.Pieces.{Pieces}
+use Rattle.fmp_config_statements.specs.Table.{first_range, second_range}
+use Rattle.fmp_config_statements.specs.Words.{Word}
 use Rattle.fmp_config.specs.declared.numbers.Numbers.{Numbers}
 use Rattle.fmp_config.specs.Objects.{counts_fit}
 use Rattle.fmp_config.specs.Numbers.{AreInRanges, IsInRange, is_within, number_at, number_within, numbers_of, value_at}

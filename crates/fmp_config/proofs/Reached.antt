@@ -5,17 +5,17 @@ use Rattle.std.specs.Option.{option_map_or}
 use Rattle.std.specs.Str.{bytes_eq}
 use Rattle.std.proofs.lemmas.Bool.{leb-true}
 use Rattle.fmp_names.specs.Names.{is_name}
-use Rattle.fmp_tokens.specs.Lexing.{Lexeme}
-use Rattle.fmp_statements.specs.declared.directive.Directive.{Directive}
-use Rattle.fmp_statements.specs.declared.directive.Directive.TheVariants as directives
-use Rattle.fmp_statements.specs.declared.fault.ConfigKind.TheVariants as faults
-use Rattle.fmp_statements.specs.declared.table.StatementName.{StatementName}
-use Rattle.fmp_statements.specs.Directives.{defined_number, named, named_number, next_directive, numbered}
-use Rattle.fmp_statements.specs.Faults.{fault_of_line, unknown_directive}
-use Rattle.fmp_statements.specs.Forms.{Form}
-use Rattle.fmp_statements.specs.Numbers.{numeral}
-use Rattle.fmp_statements.specs.Words.{Word, word_of, is_identifier_kind}
-use Rattle.fmp_statements.proofs.Promised.{begun_is_promised, step_keeps_name, step_keeps_promise}
+use Rattle.fmp_config_tokens.specs.Lexing.{Lexeme}
+use Rattle.fmp_config_statements.specs.declared.directive.Directive.{Directive}
+use Rattle.fmp_config_statements.specs.declared.directive.Directive.TheVariants as directives
+use Rattle.fmp_config_statements.specs.declared.fault.ConfigKind.TheVariants as faults
+use Rattle.fmp_config_statements.specs.declared.table.StatementName.{StatementName}
+use Rattle.fmp_config_statements.specs.Directives.{defined_number, named, named_number, next_directive, numbered}
+use Rattle.fmp_config_statements.specs.Faults.{fault_of_line, unknown_directive}
+use Rattle.fmp_config_statements.specs.Forms.{Form}
+use Rattle.fmp_config_statements.specs.Numbers.{numeral}
+use Rattle.fmp_config_statements.specs.Words.{Word, word_of, is_identifier_kind}
+use Rattle.fmp_config_statements.proofs.Promised.{begun_is_promised, step_keeps_name, step_keeps_promise}
 use Rattle.fmp_config.specs.Drafts.{Draft}
 use Rattle.fmp_config.specs.Places.{place_fault}
 use Rattle.fmp_config.specs.Reading.{State, take_token}

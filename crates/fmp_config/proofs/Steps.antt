@@ -2,7 +2,7 @@
 use Rattle.std.proofs.Common.{◌≡◌, Bool, true, false, Option, Some, None, if◌then◌else◌, Result, Ok, Err, refl}
 use Rattle.std.specs.Option.{ok_or, option_map_or}
 use Rattle.fmp_bytes.specs.Results.{◌>>=◌}
-use Rattle.fmp_statements.specs.Faults.{Fault}
+use Rattle.fmp_config_statements.specs.Faults.{Fault}
 
 pub ok_is : {A : Type 0} (x y : A) → ◌≡◌ {A = Result A Fault} (Ok x) (Ok y) → x ≡ y
 ok_is x y e = cc

@@ -2,14 +2,14 @@
 use Rattle.std.proofs.Common.{◌≡◌, Bool, true, false, Option, Some, None, Ok, if◌then◌else◌, refl}
 use Rattle.std.specs.Option.{option_map_or}
 use Rattle.fmp_bytes.specs.Results.{◌>>=◌}
-use Rattle.fmp_tokens.specs.Lexing.{Lexeme}
-use Rattle.fmp_statements.specs.declared.directive.Directive.{Directive}
-use Rattle.fmp_statements.specs.declared.directive.Directive.TheVariants as directives
-use Rattle.fmp_statements.specs.declared.table.StatementName.{StatementName}
-use Rattle.fmp_statements.specs.Directives.{next_directive}
-use Rattle.fmp_statements.specs.Faults.{fault_at}
-use Rattle.fmp_statements.specs.Forms.{Form, begun, form_step, is_complete}
-use Rattle.fmp_statements.specs.Words.{word_of, is_directive_kind, is_end_kind}
+use Rattle.fmp_config_tokens.specs.Lexing.{Lexeme}
+use Rattle.fmp_config_statements.specs.declared.directive.Directive.{Directive}
+use Rattle.fmp_config_statements.specs.declared.directive.Directive.TheVariants as directives
+use Rattle.fmp_config_statements.specs.declared.table.StatementName.{StatementName}
+use Rattle.fmp_config_statements.specs.Directives.{next_directive}
+use Rattle.fmp_config_statements.specs.Faults.{fault_at}
+use Rattle.fmp_config_statements.specs.Forms.{Form, begun, form_step, is_complete}
+use Rattle.fmp_config_statements.specs.Words.{word_of, is_directive_kind, is_end_kind}
 use Rattle.fmp_config.specs.Drafts.{Draft}
 use Rattle.fmp_config.specs.Places.{place_fault}
 use Rattle.fmp_config.specs.Judging.{ended, judged}

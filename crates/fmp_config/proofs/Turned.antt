@@ -1,12 +1,12 @@
 -- Reading token after token, as a loop does.
 use Rattle.std.proofs.Common.{◌≡◌, List, [], ◌∷◌, Result, Ok, Err, sym, ◌∙◌, refl}
 use Rattle.fmp_bytes.specs.Results.{◌>>=◌}
-use Rattle.fmp_tokens.specs.Lexing.{Lexeme}
-use Rattle.fmp_statements.specs.declared.fault.ReadError.{ReadError}
-use Rattle.fmp_statements.specs.declared.fault.ReadError.TheVariants as errors
-use Rattle.fmp_statements.specs.Faults.{Fault}
-use Rattle.fmp_statements.specs.Folds.{each}
-use Rattle.fmp_statements.specs.Outcomes.{Stops}
+use Rattle.fmp_config_tokens.specs.Lexing.{Lexeme}
+use Rattle.fmp_config_statements.specs.declared.fault.ReadError.{ReadError}
+use Rattle.fmp_config_statements.specs.declared.fault.ReadError.TheVariants as errors
+use Rattle.fmp_config_statements.specs.Faults.{Fault}
+use Rattle.fmp_config_statements.specs.Folds.{each}
+use Rattle.fmp_config_statements.specs.Outcomes.{Stops}
 use Rattle.fmp_config.specs.Reading.{State, take_token}
 
 module _ (s : State) (t : Lexeme) (ts rest : List Lexeme) (total : Result State Fault) where

@@ -5,16 +5,16 @@ use Rattle.std.proofs.lemmas.Bool.{false≢true, and_parts, eqb-true}
 use Rattle.fmp_calls.specs.declared.kinds.ObjectKind.{ObjectKind}
 use Rattle.fmp_calls.specs.declared.kinds.ObjectKind.TheVariants as objects
 use Rattle.fmp_names.specs.Names.{is_name}
-use Rattle.fmp_statements.specs.declared.parts.Item.{Item}
-use Rattle.fmp_statements.specs.declared.parts.Part.{Part}
-use Rattle.fmp_statements.specs.declared.parts.Scan.{Scan}
-use Rattle.fmp_statements.specs.declared.parts.Scan.TheVariants as scans
-use Rattle.fmp_statements.specs.declared.table.StatementName.{StatementName}
-use Rattle.fmp_statements.specs.declared.table.StatementName.TheVariants as statements
-use Rattle.fmp_statements.specs.Forms.{Form, is_complete}
-use Rattle.fmp_statements.specs.Named.{IsPromised, awaits, comes_next, has_such, is_part_of, is_name_item, is_function_item}
-use Rattle.fmp_statements.specs.Parts.{is_nothing}
-use Rattle.fmp_statements.specs.Table.{parts_of}
+use Rattle.fmp_config_statements.specs.declared.parts.Item.{Item}
+use Rattle.fmp_config_statements.specs.declared.parts.Part.{Part}
+use Rattle.fmp_config_statements.specs.declared.parts.Scan.{Scan}
+use Rattle.fmp_config_statements.specs.declared.parts.Scan.TheVariants as scans
+use Rattle.fmp_config_statements.specs.declared.table.StatementName.{StatementName}
+use Rattle.fmp_config_statements.specs.declared.table.StatementName.TheVariants as statements
+use Rattle.fmp_config_statements.specs.Forms.{Form, is_complete}
+use Rattle.fmp_config_statements.specs.Named.{IsPromised, awaits, comes_next, has_such, is_part_of, is_name_item, is_function_item}
+use Rattle.fmp_config_statements.specs.Parts.{is_nothing}
+use Rattle.fmp_config_statements.specs.Table.{parts_of}
 use Rattle.fmp_config.specs.Sound.{IsNamedAs, IsWhole}
 use Rattle.fmp_setup.specs.Building.{has_function}
 

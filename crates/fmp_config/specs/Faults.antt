@@ -2,10 +2,10 @@
 use Rattle.std.specs.Prelude.{◌≡◌, ℕ, ◌⊎◌, Bool, List, [], ◌∷◌, ◌++◌, length, nat_le, if◌then◌else◌, Result, Ok, Err, codes, decimal}
 use Rattle.std.specs.Str.{is_utf8}
 use Rattle.fmp_bytes.specs.Bytes.{is_identifier, number_sign}
-use Rattle.fmp_statements.specs.declared.fault.ConfigKind.TheVariants.{Memory}
-use Rattle.fmp_statements.specs.declared.fault.ReadError.{ReadError}
-use Rattle.fmp_statements.specs.declared.fault.ReadError.TheVariants as errors
-use Rattle.fmp_statements.specs.Faults.{Fault, code_of, words_of}
+use Rattle.fmp_config_statements.specs.declared.fault.ConfigKind.TheVariants.{Memory}
+use Rattle.fmp_config_statements.specs.declared.fault.ReadError.{ReadError}
+use Rattle.fmp_config_statements.specs.declared.fault.ReadError.TheVariants as errors
+use Rattle.fmp_config_statements.specs.Faults.{Fault, code_of, words_of}
 use Rattle.fmp_config.specs.declared.fault.ConfigFault.{ConfigFault}
 use Rattle.fmp_config.specs.Reading.{config_in}
 

@@ -4,14 +4,14 @@ use Rattle.std.specs.Option.{ok_or, option_map_or}
 use Rattle.fmp_bytes.specs.Results.{◌>>=◌}
 use Rattle.fmp_codes.specs.Numbers.{as_proc}
 use Rattle.fmp_names.specs.Names.{number_defined, has_room_to_define}
-use Rattle.fmp_statements.specs.declared.directive.Directive.{Directive}
-use Rattle.fmp_statements.specs.declared.directive.Directive.TheVariants as directives
-use Rattle.fmp_statements.specs.declared.fault.ConfigKind.TheVariants.{Syntax, UnknownClass, NameTaken}
-use Rattle.fmp_statements.specs.declared.table.StatementName.{StatementName}
-use Rattle.fmp_statements.specs.declared.table.StatementName.TheVariants as statements
-use Rattle.fmp_statements.specs.Faults.{Fault, fault_at, fault_of_line}
-use Rattle.fmp_statements.specs.Forms.{Form}
-use Rattle.fmp_statements.specs.Words.{Word}
+use Rattle.fmp_config_statements.specs.declared.directive.Directive.{Directive}
+use Rattle.fmp_config_statements.specs.declared.directive.Directive.TheVariants as directives
+use Rattle.fmp_config_statements.specs.declared.fault.ConfigKind.TheVariants.{Syntax, UnknownClass, NameTaken}
+use Rattle.fmp_config_statements.specs.declared.table.StatementName.{StatementName}
+use Rattle.fmp_config_statements.specs.declared.table.StatementName.TheVariants as statements
+use Rattle.fmp_config_statements.specs.Faults.{Fault, fault_at, fault_of_line}
+use Rattle.fmp_config_statements.specs.Forms.{Form}
+use Rattle.fmp_config_statements.specs.Words.{Word}
 use Rattle.fmp_config.specs.declared.draft.Phase.TheVariants as phases
 use Rattle.fmp_config.specs.Drafts.{Draft}
 use Rattle.fmp_config.specs.Numbers.{number_within, numbers_of, class_of}

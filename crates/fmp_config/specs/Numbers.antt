@@ -5,15 +5,15 @@ use Rattle.fmp_bytes.specs.Results.{◌>>=◌}
 use Rattle.fmp_codes.specs.Numbers.{as_proc}
 use Rattle.fmp_codes.specs.declared.numbers.Proc.{Proc}
 use Rattle.fmp_names.specs.Names.{NameLists, number_defined}
-use Rattle.fmp_statements.specs.declared.fault.ConfigKind.TheVariants.{OutOfRange, BadClass}
-use Rattle.fmp_statements.specs.declared.table.Range.{Range}
-use Rattle.fmp_statements.specs.declared.table.StatementName.{StatementName}
-use Rattle.fmp_statements.specs.Faults.{Fault, fault_at, fault_in}
-use Rattle.fmp_statements.specs.Folds.{each}
-use Rattle.fmp_statements.specs.Numbers.{numeral}
-use Rattle.fmp_statements.specs.Pieces.{Pieces}
-use Rattle.fmp_statements.specs.Table.{first_range, second_range}
-use Rattle.fmp_statements.specs.Words.{Word}
+use Rattle.fmp_config_statements.specs.declared.fault.ConfigKind.TheVariants.{OutOfRange, BadClass}
+use Rattle.fmp_config_statements.specs.declared.table.Range.{Range}
+use Rattle.fmp_config_statements.specs.declared.table.StatementName.{StatementName}
+use Rattle.fmp_config_statements.specs.Faults.{Fault, fault_at, fault_in}
+use Rattle.fmp_config_statements.specs.Folds.{each}
+use Rattle.fmp_config_statements.specs.Numbers.{numeral}
+use Rattle.fmp_config_statements.specs.Pieces.{Pieces}
+use Rattle.fmp_config_statements.specs.Table.{first_range, second_range}
+use Rattle.fmp_config_statements.specs.Words.{Word}
 use Rattle.fmp_config.specs.declared.numbers.Numbers.{Numbers}
 use Rattle.fmp_setup.specs.declared.setup.Class.{Class}
 use Rattle.fmp_setup.specs.Setup.{Setup}

@@ -9,14 +9,14 @@ use Rattle.fmp_calls.specs.declared.kinds.NameKind.TheVariants.{Object}
 use Rattle.fmp_calls.specs.declared.kinds.ObjectKind.{ObjectKind}
 use Rattle.fmp_calls.specs.declared.kinds.ObjectKind.TheVariants as objects
 use Rattle.fmp_names.specs.Names.{has_room}
-use Rattle.fmp_statements.specs.declared.attributes.Attributes.{Attributes}
-use Rattle.fmp_statements.specs.declared.fault.ConfigKind.TheVariants.{OutsideClass, NameTaken, OutOfRange, TooMany, ForeignHandler}
-use Rattle.fmp_statements.specs.declared.table.StatementName.TheVariants as statements
-use Rattle.fmp_statements.specs.Attributes.{attributes_in}
-use Rattle.fmp_statements.specs.Faults.{Fault, fault_at, fault_in, fault_of_line}
-use Rattle.fmp_statements.specs.Forms.{Form}
-use Rattle.fmp_statements.specs.Table.{allowed_of}
-use Rattle.fmp_statements.specs.Words.{Word}
+use Rattle.fmp_config_statements.specs.declared.attributes.Attributes.{Attributes}
+use Rattle.fmp_config_statements.specs.declared.fault.ConfigKind.TheVariants.{OutsideClass, NameTaken, OutOfRange, TooMany, ForeignHandler}
+use Rattle.fmp_config_statements.specs.declared.table.StatementName.TheVariants as statements
+use Rattle.fmp_config_statements.specs.Attributes.{attributes_in}
+use Rattle.fmp_config_statements.specs.Faults.{Fault, fault_at, fault_in, fault_of_line}
+use Rattle.fmp_config_statements.specs.Forms.{Form}
+use Rattle.fmp_config_statements.specs.Table.{allowed_of}
+use Rattle.fmp_config_statements.specs.Words.{Word}
 use Rattle.fmp_config.specs.declared.numbers.Numbers.{Numbers}
 use Rattle.fmp_config.specs.Drafts.{Draft}
 use Rattle.fmp_config.specs.Numbers.{numbers_of}

@@ -1,10 +1,10 @@
 -- Where a statement may stand.
 use Rattle.std.specs.Prelude.{Option, Some, None, if◌then◌else◌}
 use Rattle.std.specs.Option.{option_map_or}
-use Rattle.fmp_statements.specs.declared.fault.ConfigKind.{ConfigKind}
-use Rattle.fmp_statements.specs.declared.fault.ConfigKind.TheVariants.{Syntax, OutsideClass, TooMany, NoProcessors}
-use Rattle.fmp_statements.specs.declared.table.StatementName.{StatementName}
-use Rattle.fmp_statements.specs.declared.table.StatementName.TheVariants as statements
+use Rattle.fmp_config_statements.specs.declared.fault.ConfigKind.{ConfigKind}
+use Rattle.fmp_config_statements.specs.declared.fault.ConfigKind.TheVariants.{Syntax, OutsideClass, TooMany, NoProcessors}
+use Rattle.fmp_config_statements.specs.declared.table.StatementName.{StatementName}
+use Rattle.fmp_config_statements.specs.declared.table.StatementName.TheVariants as statements
 use Rattle.fmp_config.specs.Drafts.{Draft, is_start, is_body}
 
 -- outside a class, behind the number of processors: the kind of fault of a statement that may not stand there

@@ -3,20 +3,20 @@ use Rattle.std.specs.Prelude.{ℕ, Bool, ◌&&◌, List, length, Option, Some, N
 use Rattle.std.specs.Option.{ok_or, option_map_or}
 use Rattle.fmp_bytes.specs.Bytes.{close_brace}
 use Rattle.fmp_bytes.specs.Results.{◌>>=◌}
-use Rattle.fmp_tokens.specs.Lexing.{Lexeme, Lexed, lexed_text}
-use Rattle.fmp_tokens.specs.declared.tokens.End.{End}
-use Rattle.fmp_tokens.specs.declared.tokens.End.TheVariants as ends
-use Rattle.fmp_statements.specs.declared.directive.Directive.{Directive}
-use Rattle.fmp_statements.specs.declared.directive.Directive.TheVariants as directives
-use Rattle.fmp_statements.specs.declared.fault.ConfigKind.TheVariants as faults
-use Rattle.fmp_statements.specs.declared.table.StatementName.{StatementName}
-use Rattle.fmp_statements.specs.Directives.{next_directive}
-use Rattle.fmp_statements.specs.Faults.{Fault, fault_at, fault_of_line}
-use Rattle.fmp_statements.specs.Folds.{each}
-use Rattle.fmp_statements.specs.Forms.{Form, begun, form_step, is_complete}
-use Rattle.fmp_statements.specs.Parts.{depth_of}
-use Rattle.fmp_statements.specs.Table.{statement_of}
-use Rattle.fmp_statements.specs.Words.{word_of, is_mark, is_identifier_kind, is_directive_kind, is_end_kind}
+use Rattle.fmp_config_tokens.specs.Lexing.{Lexeme, Lexed, lexed_text}
+use Rattle.fmp_config_tokens.specs.declared.tokens.End.{End}
+use Rattle.fmp_config_tokens.specs.declared.tokens.End.TheVariants as ends
+use Rattle.fmp_config_statements.specs.declared.directive.Directive.{Directive}
+use Rattle.fmp_config_statements.specs.declared.directive.Directive.TheVariants as directives
+use Rattle.fmp_config_statements.specs.declared.fault.ConfigKind.TheVariants as faults
+use Rattle.fmp_config_statements.specs.declared.table.StatementName.{StatementName}
+use Rattle.fmp_config_statements.specs.Directives.{next_directive}
+use Rattle.fmp_config_statements.specs.Faults.{Fault, fault_at, fault_of_line}
+use Rattle.fmp_config_statements.specs.Folds.{each}
+use Rattle.fmp_config_statements.specs.Forms.{Form, begun, form_step, is_complete}
+use Rattle.fmp_config_statements.specs.Parts.{depth_of}
+use Rattle.fmp_config_statements.specs.Table.{statement_of}
+use Rattle.fmp_config_statements.specs.Words.{word_of, is_mark, is_identifier_kind, is_directive_kind, is_end_kind}
 use Rattle.fmp_config.specs.Drafts.{Draft, blank_draft, is_start}
 use Rattle.fmp_config.specs.Places.{place_fault}
 use Rattle.fmp_config.specs.Judging.{ended, judged}

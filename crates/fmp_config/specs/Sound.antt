@@ -3,13 +3,13 @@ use Rattle.std.specs.Prelude.{◌≡◌, ℕ, ◌≤◌, true, false, [], Option
 use Rattle.fmp_calls.specs.declared.kinds.ObjectKind.{ObjectKind}
 use Rattle.fmp_calls.specs.declared.kinds.ObjectKind.TheVariants as objects
 use Rattle.fmp_names.specs.Names.{is_name}
-use Rattle.fmp_statements.specs.declared.directive.Directive.{Directive}
-use Rattle.fmp_statements.specs.declared.directive.Directive.TheVariants.{Numbering, Defining}
-use Rattle.fmp_statements.specs.declared.table.StatementName.{StatementName}
-use Rattle.fmp_statements.specs.declared.table.StatementName.TheVariants as statements
-use Rattle.fmp_statements.specs.Forms.{Form}
-use Rattle.fmp_statements.specs.Named.{IsPromised}
-use Rattle.fmp_statements.specs.Words.{Word}
+use Rattle.fmp_config_statements.specs.declared.directive.Directive.{Directive}
+use Rattle.fmp_config_statements.specs.declared.directive.Directive.TheVariants.{Numbering, Defining}
+use Rattle.fmp_config_statements.specs.declared.table.StatementName.{StatementName}
+use Rattle.fmp_config_statements.specs.declared.table.StatementName.TheVariants as statements
+use Rattle.fmp_config_statements.specs.Forms.{Form}
+use Rattle.fmp_config_statements.specs.Named.{IsPromised}
+use Rattle.fmp_config_statements.specs.Words.{Word}
 use Rattle.fmp_config.specs.declared.draft.OpenClass.{OpenClass}
 use Rattle.fmp_config.specs.declared.numbers.Numbers.{Numbers}
 use Rattle.fmp_config.specs.Drafts.{Draft, is_start, is_body}

@@ -12,13 +12,13 @@ ghost use Rattle.fmp_setup.specs.Parts.{setup_of};
 use crate::numbers::{Numbers, class_of, number_within, numbers_of};
 use fmp_calls::{NameKind, ObjectKind};
 use fmp_codes::{Pri, Proc};
+use fmp_config_statements::{
+    Attributes, ConfigKind, Directive, Fault, Form, Range, ReadError, StatementName, Word, allowed,
+    attributes_in,
+};
 use fmp_setup::{
     Class, CyclicFields, DataQueueSetup, EventflagSetup, Fields, Limits, Order, Parts, PoolSetup,
     SemaphoreSetup, TaskFields, Timer,
-};
-use fmp_statements::{
-    Attributes, ConfigKind, Directive, Fault, Form, Range, ReadError, StatementName, Word, allowed,
-    attributes_in,
 };
 use std::alloc::Global;
 
@@ -258,7 +258,7 @@ impl Draft {
     ghost use Rattle.fmp_config.specs.Sound.{IsSound, IsSoundDirective, IsWhole, MayStandFor};
     ghost use Rattle.fmp_setup.specs.Building.{has_function};
     ghost use Rattle.fmp_names.specs.Names.{is_name};
-    ghost use Rattle.fmp_statements.specs.Outcomes.{Leads};
+    ghost use Rattle.fmp_config_statements.specs.Outcomes.{Leads};
 
     /// Nothing was read.
     pub fn blank(alloc: Global) -> Self

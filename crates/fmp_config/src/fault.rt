@@ -1,12 +1,12 @@
 //! Why there is no configuration.
 ghost use Rattle.std.specs.Prelude.{◌≡◌};
 ghost use Rattle.fmp_config.specs.Faults as spec;
-ghost use Rattle.fmp_statements.specs.declared.fault.ReadError.TheVariants as errors;
+ghost use Rattle.fmp_config_statements.specs.declared.fault.ReadError.TheVariants as errors;
 
 use arrayvec::ArrayString;
 use fmp_bytes::is_identifier;
+use fmp_config_statements::{ConfigKind, Fault, ReadError};
 use fmp_names::MOST_NAME_BYTES;
-use fmp_statements::{ConfigKind, Fault, ReadError};
 use std::fmt;
 
 /// The first fault of a configuration text: its kind, its line from 1, and the word at fault.
@@ -71,7 +71,7 @@ fn word_of(marked: bool, text: &[u8]) -> ArrayString<MOST_NAME_BYTES>
 impl ConfigFault {
     ghost use Rattle.std.specs.Prelude.{◌≡◌};
     ghost use Rattle.fmp_config.specs.Faults as spec;
-    ghost use Rattle.fmp_statements.specs.declared.fault.ReadError.TheVariants as errors;
+    ghost use Rattle.fmp_config_statements.specs.declared.fault.ReadError.TheVariants as errors;
 
     /// The fault of a reading.
     pub fn of(error: ReadError<'_>) -> Self

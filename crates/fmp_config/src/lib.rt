@@ -5,7 +5,7 @@
 //! what is whole, and grows.
 //!
 //! Its contract is exact: the answer is that of `config_in` (`specs/Reading`), a fold over the tokens, unless memory ran out.
-//! What a text says apart from how it is read stands in `fmp_config_laws`, with the proof that both agree.
+//! What a text says apart from how it is read stands in `fmp_law_config`, with the proof that both agree.
 #![tactic(auto)]
 
 mod draft;
@@ -16,8 +16,8 @@ mod reading;
 
 pub use draft::{Draft, OpenClass, Phase};
 pub use fault::ConfigFault;
+pub use fmp_config_statements::ConfigKind;
 pub use fmp_setup::Config;
-pub use fmp_statements::ConfigKind;
 pub use numbers::Numbers;
 pub use reader::Reader;
 pub use reading::{MOST_BYTES, read_config};

@@ -5,9 +5,9 @@ ghost use Rattle.fmp_setup.specs.Parts.{setup_of};
 ghost use Rattle.fmp_setup.specs.Valid.{is_class_of};
 
 use fmp_codes::Proc;
+use fmp_config_statements::{ConfigKind, Fault, Pieces, Range, StatementName, Word, numeral};
 use fmp_names::Names;
 use fmp_setup::{Class, Parts, is_class_of};
-use fmp_statements::{ConfigKind, Fault, Pieces, Range, StatementName, Word, numeral};
 
 /// The numbers of a statement, 0 where it has none.
 #[derive(Clone, Copy, PartialEq, Eq)]

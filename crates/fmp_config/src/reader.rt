@@ -5,11 +5,11 @@ ghost use Rattle.fmp_config.specs.Reading as spec;
 ghost use Rattle.fmp_config.specs.Sound.{IsSound};
 
 use crate::draft::Draft;
-use fmp_setup::Config;
-use fmp_statements::{
+use fmp_config_statements::{
     ConfigKind, Directive, Fault, Form, ReadError, StatementName, Word, find_statement, is_mark,
 };
-use fmp_tokens::{End, Token, TokenKind};
+use fmp_config_tokens::{End, Token, TokenKind};
+use fmp_setup::Config;
 use std::alloc::Global;
 use std::mem;
 
@@ -65,10 +65,10 @@ impl<'a> Reader<'a> {
     ghost use Rattle.fmp_config.specs.Readers.{state_of};
     ghost use Rattle.fmp_config.specs.Sound.{IsSound, IsSoundDirective, IsSoundState, IsWhole};
     ghost use Rattle.fmp_config.specs.Drafts.{draft_of};
-    ghost use Rattle.fmp_statements.specs.Forms.{is_complete};
-    ghost use Rattle.fmp_statements.specs.Named.{IsPromised};
-    ghost use Rattle.fmp_statements.specs.Parts.{depth_of};
-    ghost use Rattle.fmp_statements.specs.Outcomes.{Leads, Gives};
+    ghost use Rattle.fmp_config_statements.specs.Forms.{is_complete};
+    ghost use Rattle.fmp_config_statements.specs.Named.{IsPromised};
+    ghost use Rattle.fmp_config_statements.specs.Parts.{depth_of};
+    ghost use Rattle.fmp_config_statements.specs.Outcomes.{Leads, Gives};
 
     /// Nothing was read.
     pub fn new(alloc: Global) -> Self

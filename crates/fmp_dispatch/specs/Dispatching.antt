@@ -3,8 +3,8 @@ use Rattle.std.specs.Prelude.{ℕ, Bool, false, ◌||◌, Option, List, [], repl
 use Rattle.fmp_codes.specs.declared.numbers.Proc.{Proc}
 use Rattle.fmp_codes.specs.declared.numbers.Task.{Task}
 use Rattle.fmp_codes.specs.declared.records.Runner.{Runner}
-use Rattle.fmp_machine.specs.declared.machine.Processor.{Processor}
-use Rattle.fmp_machine.specs.World.{item, with_item, first, no_processor}
+use Rattle.fmp_rules.specs.declared.machine.Processor.{Processor}
+use Rattle.fmp_rules.specs.World.{item, with_item, first, no_processor}
 
 pub record Dispatching : Type 0 where
   pub processors : List Processor

@@ -1,14 +1,14 @@
 //! All processors, and what may run on them.
 ghost use Rattle.std.specs.Prelude.{◌≡◌, ◌≤◌, ◌<◌, ◌++◌, ◌∷◌, [], length, replicate, true, false};
-ghost use Rattle.fmp_machine.specs.World.{first, rest, no_processor};
+ghost use Rattle.fmp_rules.specs.World.{first, rest, no_processor};
 ghost use Rattle.fmp_dispatch.specs.Dispatching.{idle, processor_in, with_processor_in, due_on, with_due_on, with_lock_in};
 
 use crate::due::{Due, nothing_due};
 use arrayvec::ArrayVec;
 use fmp_codes::{Proc, Runner};
-use fmp_machine::Processor;
-use fmp_parts::{Digest, Part, add_all, are_same, copy_all};
-use fmp_same::{add_each, are_equal};
+use fmp_kernel_parts::{Digest, Part, add_all, are_same, copy_all};
+use fmp_kernel_same::{add_each, are_equal};
+use fmp_rules::Processor;
 use std::marker::Model;
 
 /// The processors in the order of their numbers, with the handlers that are due on each. There are at most 8.

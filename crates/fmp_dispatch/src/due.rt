@@ -1,11 +1,11 @@
 //! The handlers that are due on a processor.
 ghost use Rattle.std.specs.Prelude.{◌≡◌, ◌<◌, ◌≤◌, ◌++◌, ◌∷◌, [], length, replicate};
-ghost use Rattle.fmp_machine.specs.World.{first, rest};
+ghost use Rattle.fmp_rules.specs.World.{first, rest};
 
 use arrayvec::ArrayVec;
 use fmp_codes::Runner;
-use fmp_parts::{Digest, Part};
-use fmp_same::{add_each, are_equal};
+use fmp_kernel_parts::{Digest, Part};
+use fmp_kernel_same::{add_each, are_equal};
 use std::marker::Model;
 
 /// The handlers that are due on a processor, at most 64, in a ring from the oldest one on. The first one runs.

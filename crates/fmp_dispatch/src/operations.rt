@@ -1,12 +1,12 @@
-//! The operations on one processor, which the kernel does not call: a call's rule stands in `fmp_machine/specs`. They are
+//! The operations on one processor, which the kernel does not call: a call's rule stands in `fmp_rules/specs`. They are
 //! this part's own surface.
 ghost use Rattle.std.specs.Prelude.{◌≡◌, false, true};
-ghost use Rattle.fmp_machine.specs.Step.{changed_run};
+ghost use Rattle.fmp_rules.specs.Step.{changed_run};
 ghost use Rattle.fmp_dispatch.specs.Dispatching.{processor_in, with_processor_in, with_disabled_in, with_latch_in, is_held_in, dispatched_to};
 
 use crate::dispatch::Dispatch;
 use fmp_codes::{Proc, Task};
-use fmp_machine::Processor;
+use fmp_rules::Processor;
 
 impl Dispatch {
     /// The task that a processor runs.

@@ -3,7 +3,7 @@ use Rattle.std.proofs.Common.{◌≡◌, ℤ, ◌<◌, ◌≤◌, Bool, true, fa
 use Rattle.std.specs.Prelude.{nat_lt, is_some}
 use Rattle.std.proofs.lemmas.Bool.{or_parts, lt-ltb, le-ltb}
 use Rattle.fmp_codes.specs.declared.numbers.Task.{Task}
-use Rattle.fmp_machine.specs.World.{first, rest}
+use Rattle.fmp_rules.specs.World.{first, rest}
 use Rattle.fmp_waitq.specs.Queue.{Waiter, task_of, has_waiter, left_by}
 use Rattle.fmp_waitq.proofs.Waiters.{waited_before}
 use Rattle.fmp_dtq.specs.DataQueue.{DataQueue, sender, receiver}

@@ -2,7 +2,7 @@
 use Rattle.std.specs.Prelude.{ℤ, List, map, Option}
 use Rattle.fmp_codes.specs.declared.numbers.Task.{Task}
 use Rattle.fmp_setup.specs.declared.setup.DataQueueSetup.{DataQueueSetup}
-use Rattle.fmp_machine.specs.World.{first}
+use Rattle.fmp_rules.specs.World.{first}
 use Rattle.fmp_waitq.specs.Queue.{Waiter, task_of}
 
 pub record DataQueue : Type 0 where

@@ -2,7 +2,7 @@
 use Rattle.std.specs.Prelude.{ℤ, pos, ◌==◌, Option, None, Some, List, [], ◌∷◌, ◌++◌, length, nat_lt, if◌then◌else◌}
 use Rattle.std.specs.Option.{option_map}
 use Rattle.fmp_codes.specs.declared.numbers.Task.{Task}
-use Rattle.fmp_machine.specs.World.{first, rest, item}
+use Rattle.fmp_rules.specs.World.{first, rest, item}
 use Rattle.fmp_waitq.specs.Queue.{left_by}
 use Rattle.fmp_dtq.specs.DataQueue.{DataQueue, sender, receiver}
 use Rattle.fmp_dtq.specs.declared.operations.Sent.{Sent}

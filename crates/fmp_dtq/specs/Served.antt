@@ -1,7 +1,7 @@
 -- When nobody waits for what is to be had.
 use Rattle.std.specs.Prelude.{◌≡◌, ◌||◌, Bool, true, false, length, nat_lt, is_some}
 use Rattle.fmp_codes.specs.declared.numbers.Task.{Task}
-use Rattle.fmp_machine.specs.World.{first}
+use Rattle.fmp_rules.specs.World.{first}
 use Rattle.fmp_waitq.specs.Queue.{has_waiter}
 use Rattle.fmp_dtq.specs.DataQueue.{DataQueue, sender, receiver}
 

@@ -8,8 +8,8 @@
 #![tactic(auto)]
 
 ghost use Rattle.std.specs.Prelude.{◌≡◌, ◌≤◌, ◌<◌, ◌++◌, ◌∷◌, [], length, map, slice_get, ℤ, Some, IfOk, IsTrue};
-ghost use Rattle.fmp_machine.specs.World.{first, rest};
-ghost use Rattle.fmp_links.specs.Tasks.{AreDistinct};
+ghost use Rattle.fmp_rules.specs.World.{first, rest};
+ghost use Rattle.fmp_kernel_links.specs.Tasks.{AreDistinct};
 ghost use Rattle.fmp_waitq.specs.Queue.{task_of, has_waiter, left_by, joined_by, waiter_of};
 ghost use Rattle.fmp_dtq.specs.DataQueue.{sender, receiver};
 ghost use Rattle.fmp_dtq.specs.Served.{IsServed};
@@ -19,9 +19,9 @@ mod operations;
 use arrayvec::ArrayVec;
 use circular_buffer::HeapCircularBuffer;
 use fmp_codes::{Pri, Task};
-use fmp_machine::{DataQueueSetup, Order};
-use fmp_parts::{Digest, Part};
-use fmp_same::Same;
+use fmp_kernel_parts::{Digest, Part};
+use fmp_kernel_same::Same;
+use fmp_rules::{DataQueueSetup, Order};
 use fmp_waitq::WaitQueue;
 pub use operations::{Forced, Received, Sent};
 use std::alloc::{AllocError, Global};

@@ -1,14 +1,14 @@
-//! The operations on a data queue alone, which the kernel does not call: a call's rule stands in `fmp_machine/specs`. They are
+//! The operations on a data queue alone, which the kernel does not call: a call's rule stands in `fmp_rules/specs`. They are
 //! this part's own surface.
 ghost use Rattle.std.specs.Prelude.{◌≡◌, ◌++◌, ◌∷◌, pos, [], true, false, unwrap_or};
-ghost use Rattle.fmp_machine.specs.World.{first, rest};
+ghost use Rattle.fmp_rules.specs.World.{first, rest};
 ghost use Rattle.fmp_waitq.specs.Queue.{has_waiter, joined_by, put_ranked, waiter_of};
 ghost use Rattle.fmp_dtq.specs.Operations.{send, force_send, receive};
 ghost use Rattle.fmp_dtq.specs.Served.{can_send, can_receive, IsServed};
 
 use crate::Dtq;
 use fmp_codes::{Pri, Task};
-use fmp_machine::Order;
+use fmp_rules::Order;
 
 /// What became of a value that was sent.
 #[derive(Clone, Copy, PartialEq, Eq)]

@@ -4,10 +4,10 @@ use Rattle.std.specs.Prelude.{nat_lt, bit_or}
 use Rattle.std.proofs.lemmas.Bool.{cases_eq, cond_both, ne_eqb}
 use Rattle.fmp_codes.specs.declared.numbers.Task.{Task}
 use Rattle.fmp_codes.specs.declared.calls.Mode.TheVariants as mode
-use Rattle.fmp_machine.specs.World.{item}
-use Rattle.fmp_machine.specs.Objects.{holds}
-use Rattle.fmp_machine.proofs.Patterns.{unmet_with_none}
-use Rattle.fmp_links.specs.Tasks.{has_task}
+use Rattle.fmp_rules.specs.World.{item}
+use Rattle.fmp_rules.specs.Objects.{holds}
+use Rattle.fmp_rules.proofs.Patterns.{unmet_with_none}
+use Rattle.fmp_kernel_links.specs.Tasks.{has_task}
 use Rattle.fmp_waitq.specs.Queue.{Waiter, task_of, has_waiter, left_by, put_ranked, joined_by}
 use Rattle.fmp_waitq.proofs.Waiters.{waits_is, waited_before}
 use Rattle.fmp_flag.specs.declared.wanted.Wanted.{Wanted}

@@ -2,9 +2,9 @@
 use Rattle.std.specs.Prelude.{◌≡◌, ℕ, Bool, true, false, Option, None, Some, List, [], ◌∷◌, if◌then◌else◌, map, bit_or}
 use Rattle.fmp_codes.specs.declared.numbers.Task.{Task}
 use Rattle.fmp_codes.specs.declared.calls.Mode.TheVariants as mode
-use Rattle.fmp_machine.specs.declared.machine.Eventflag.{Eventflag}
-use Rattle.fmp_machine.specs.World.{first, item}
-use Rattle.fmp_machine.specs.Objects.{holds}
+use Rattle.fmp_rules.specs.declared.machine.Eventflag.{Eventflag}
+use Rattle.fmp_rules.specs.World.{first, item}
+use Rattle.fmp_rules.specs.Objects.{holds}
 use Rattle.fmp_waitq.specs.Queue.{Waiter, task_of, has_waiter, left_by}
 use Rattle.fmp_flag.specs.declared.wanted.Wanted.{Wanted}
 

@@ -7,7 +7,7 @@
 #![tactic(auto)]
 
 ghost use Rattle.std.specs.Prelude.{◌≡◌, List, map, []};
-ghost use Rattle.fmp_links.specs.Tasks.{AreDistinct};
+ghost use Rattle.fmp_kernel_links.specs.Tasks.{AreDistinct};
 ghost use Rattle.fmp_waitq.specs.Queue.{task_of, has_waiter, left_by, joined_by, waiter_of};
 ghost use Rattle.fmp_flag.specs.Eventflags.{waiter, with_pattern, WaitsUnmet};
 ghost use Rattle.fmp_flag.specs.declared.wanted.Wanted.{Wanted as AnyWanted};
@@ -18,9 +18,9 @@ mod wanted;
 
 use arrayvec::ArrayVec;
 use fmp_codes::{Pri, Task};
-use fmp_machine::{Eventflag, EventflagSetup};
-use fmp_parts::{Digest, Part};
-use fmp_same::Same;
+use fmp_kernel_parts::{Digest, Part};
+use fmp_kernel_same::Same;
+use fmp_rules::{Eventflag, EventflagSetup};
 use fmp_waitq::WaitQueue;
 use std::marker::Model;
 pub use wanted::Wanted;

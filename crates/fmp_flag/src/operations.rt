@@ -1,7 +1,7 @@
-//! The operations on an eventflag alone, which the kernel does not call: a call's rule stands in `fmp_machine/specs`. They are
+//! The operations on an eventflag alone, which the kernel does not call: a call's rule stands in `fmp_rules/specs`. They are
 //! this part's own surface.
 ghost use Rattle.std.specs.Prelude.{◌≡◌, true, false, bit_and, List};
-ghost use Rattle.fmp_machine.specs.Objects.{holds};
+ghost use Rattle.fmp_rules.specs.Objects.{holds};
 ghost use Rattle.fmp_waitq.specs.Queue.{has_waiter, put_ranked, joined_by, waiter_of};
 ghost use Rattle.fmp_flag.specs.Eventflags.{with_pattern, is_met, bits_set, polled, WaitsUnmet};
 ghost use Rattle.fmp_flag.specs.declared.wanted.Wanted.{Wanted as AnyWanted};

@@ -1,6 +1,6 @@
 //! What tasks want of an eventflag.
 ghost use Rattle.std.specs.Prelude.{◌≡◌};
-ghost use Rattle.fmp_machine.specs.Objects.{holds};
+ghost use Rattle.fmp_rules.specs.Objects.{holds};
 ghost use Rattle.fmp_flag.specs.Eventflags.{wanted_by, is_met, no_bits};
 
 use fmp_codes::{Mode, Task};

@@ -3,8 +3,8 @@ use Rattle.std.proofs.Common.{◌≡◌, ◌<◌, ◌+◌, ◌++◌, ◌∷◌, 
 use Rattle.std.proofs.lemmas.List.{drop_more, drop_all}
 use Rattle.fmp_codes.specs.declared.records.Event.{Event}
 use Rattle.fmp_codes.specs.declared.records.Record.{Record}
-use Rattle.fmp_machine.specs.Arrivals.{State, numbered}
-use Rattle.fmp_machine.specs.Step.{step, answers}
+use Rattle.fmp_rules.specs.Arrivals.{State, numbered}
+use Rattle.fmp_rules.specs.Step.{step, answers}
 
 -- the records so far, with one more, before those of the events that are left
 pub answers_more : (m : State) (es : List Event) (i : ℕ) (e : Event) (told all : List Record) → i < length es → e ≡ slice_index_or es i e

@@ -6,21 +6,21 @@ use Rattle.std.proofs.lemmas.List.{get_or_past}
 use Rattle.fmp_codes.specs.declared.numbers.Task.{Task}
 use Rattle.fmp_codes.specs.declared.records.Event.{Event}
 use Rattle.fmp_codes.specs.declared.records.Record.{Record}
-use Rattle.fmp_links.specs.Tasks.{has_task}
-use Rattle.fmp_machine.specs.World.{World, item}
-use Rattle.fmp_machine.specs.Arrivals.{State, numbered}
-use Rattle.fmp_machine.specs.Step.{step}
-use Rattle.fmp_safety.specs.Runs.{processor_of}
-use Rattle.fmp_safety.specs.Safe.{Safe}
-use Rattle.fmp_safety.specs.Laws.{FindsNothing, TakesRequest, RunsTop}
-use Rattle.fmp_safety.proofs.Stepping.{numbered_tops, safe_step}
-use Rattle.fmp_safety.proofs.Listed.{numbered_lists}
-use Rattle.fmp_safety.proofs.Interrupts.{finds_nothing, takes_request, runs_top}
-use Rattle.fmp_listed.specs.Queues.{Queues, listed}
-use Rattle.fmp_refinement.specs.Stands.{Stands, StepsMatch}
-use Rattle.fmp_refinement.specs.Laws.{ListsAreRight}
-use Rattle.fmp_refinement.proofs.Steps.{lists_refine}
-use Rattle.fmp_refinement.proofs.SafeLists.{lists_safe, numbers_safe, lists_are_right}
+use Rattle.fmp_kernel_links.specs.Tasks.{has_task}
+use Rattle.fmp_rules.specs.World.{World, item}
+use Rattle.fmp_rules.specs.Arrivals.{State, numbered}
+use Rattle.fmp_rules.specs.Step.{step}
+use Rattle.fmp_law_safety.specs.Runs.{processor_of}
+use Rattle.fmp_law_safety.specs.Safe.{Safe}
+use Rattle.fmp_law_safety.specs.Laws.{FindsNothing, TakesRequest, RunsTop}
+use Rattle.fmp_law_safety.proofs.Stepping.{numbered_tops, safe_step}
+use Rattle.fmp_law_safety.proofs.Listed.{numbered_lists}
+use Rattle.fmp_law_safety.proofs.Interrupts.{finds_nothing, takes_request, runs_top}
+use Rattle.fmp_kernel_order.specs.Queues.{Queues, listed}
+use Rattle.fmp_law_lists.specs.Stands.{Stands, StepsMatch}
+use Rattle.fmp_law_lists.specs.Laws.{ListsAreRight}
+use Rattle.fmp_law_lists.proofs.Steps.{lists_refine}
+use Rattle.fmp_law_lists.proofs.SafeLists.{lists_safe, numbers_safe, lists_are_right}
 use Rattle.fmp_kernel.specs.Kept.{IsKept}
 use Rattle.fmp_kernel.proofs.Told.{takes_over, runs_over}
 

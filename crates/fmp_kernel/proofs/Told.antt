@@ -3,13 +3,13 @@ use Rattle.std.proofs.Common.{◌≡◌, ◌≤◌, false, length, sym, ap, subs
 use Rattle.fmp_codes.specs.declared.records.Event.{Event}
 use Rattle.fmp_codes.specs.declared.records.Event.TheVariants as event
 use Rattle.fmp_codes.specs.declared.records.Record.{Record}
-use Rattle.fmp_machine.specs.World.{World, processor, is_held}
-use Rattle.fmp_machine.specs.Arrivals.{State, numbered}
-use Rattle.fmp_safety.specs.Runs.{processor_of}
-use Rattle.fmp_safety.specs.Laws.{TakesRequest, RunsTop}
-use Rattle.fmp_listed.specs.Queues.{Queues, listed}
-use Rattle.fmp_refinement.specs.Stands.{Stands, with_order}
-use Rattle.fmp_refinement.proofs.SafeLists.{numbers_safe, tells_alike}
+use Rattle.fmp_rules.specs.World.{World, processor, is_held}
+use Rattle.fmp_rules.specs.Arrivals.{State, numbered}
+use Rattle.fmp_law_safety.specs.Runs.{processor_of}
+use Rattle.fmp_law_safety.specs.Laws.{TakesRequest, RunsTop}
+use Rattle.fmp_kernel_order.specs.Queues.{Queues, listed}
+use Rattle.fmp_law_lists.specs.Stands.{Stands, with_order}
+use Rattle.fmp_law_lists.proofs.SafeLists.{numbers_safe, tells_alike}
 
 module _ (m n : State) (r : Record) (x y : Queues) where
   takes_as : (e : Event) → TakesRequest m e r n → TakesRequest (with_order m x) e r (with_order n y)

@@ -1,15 +1,15 @@
 //! The answers of the kernel to a list of events.
 ghost use Rattle.std.specs.Prelude.{◌≡◌, length, IfOk};
 ghost use Rattle.fmp_codes.specs.Records.{AreOn};
-ghost use Rattle.fmp_machine.specs.Boot.{booted};
-ghost use Rattle.fmp_machine.specs.Arrivals.{numbered};
-ghost use Rattle.fmp_machine.specs.Step.{answers};
-ghost use Rattle.fmp_safety.specs.Runs.{IsSafeThroughout};
-ghost use Rattle.fmp_balance.specs.Balance.{IsBalancedThroughout};
+ghost use Rattle.fmp_rules.specs.Boot.{booted};
+ghost use Rattle.fmp_rules.specs.Arrivals.{numbered};
+ghost use Rattle.fmp_rules.specs.Step.{answers};
+ghost use Rattle.fmp_law_safety.specs.Runs.{IsSafeThroughout};
+ghost use Rattle.fmp_law_balance.specs.Balance.{IsBalancedThroughout};
 
 use crate::kernel::Kernel;
 use fmp_codes::{Event, Record};
-use fmp_machine::Config;
+use fmp_rules::Config;
 use std::alloc::{AllocError, Global};
 
 /// The records of a list of events on processors of the machine, which are those of the model. Each prefix of the list leads to

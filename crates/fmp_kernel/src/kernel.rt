@@ -1,22 +1,22 @@
 //! The kernel, which stands for a safe state of the model.
 ghost use Rattle.std.specs.Prelude.{◌≡◌, ◌≤◌, ◌↔◌, false, length, IfOk, IsTrue};
-ghost use Rattle.fmp_machine.specs.Boot as machine;
-ghost use Rattle.fmp_machine.specs.Boot.{booted};
+ghost use Rattle.fmp_rules.specs.Boot as machine;
+ghost use Rattle.fmp_rules.specs.Boot.{booted};
 ghost use Rattle.fmp_setup.specs.Valid.{IsValid};
-ghost use Rattle.fmp_machine.specs.Arrivals.{State, numbered};
-ghost use Rattle.fmp_machine.specs.Step.{step};
-ghost use Rattle.fmp_safety.specs.Safe.{Safe};
-ghost use Rattle.fmp_safety.specs.Runs.{processor_of};
-ghost use Rattle.fmp_safety.specs.Laws.{FindsNothing, TakesRequest, RunsTop};
-ghost use Rattle.fmp_listed.specs.Queues.{listed, no_queues};
-ghost use Rattle.fmp_refinement.specs.Stands.{Stands};
-ghost use Rattle.fmp_refinement.specs.Laws.{ListsAreRight};
+ghost use Rattle.fmp_rules.specs.Arrivals.{State, numbered};
+ghost use Rattle.fmp_rules.specs.Step.{step};
+ghost use Rattle.fmp_law_safety.specs.Safe.{Safe};
+ghost use Rattle.fmp_law_safety.specs.Runs.{processor_of};
+ghost use Rattle.fmp_law_safety.specs.Laws.{FindsNothing, TakesRequest, RunsTop};
+ghost use Rattle.fmp_kernel_order.specs.Queues.{listed, no_queues};
+ghost use Rattle.fmp_law_lists.specs.Stands.{Stands};
+ghost use Rattle.fmp_law_lists.specs.Laws.{ListsAreRight};
 ghost use Rattle.fmp_kernel_machine.specs.Alike.{AreAlike};
 
 use fmp_codes::{Answer, Event, Record};
 use fmp_kernel_machine::KernelMachine;
-use fmp_machine::Config;
-use fmp_parts::{Digest, Part};
+use fmp_kernel_parts::{Digest, Part};
+use fmp_rules::Config;
 use fmp_step::{boot, step_into};
 use std::alloc::AllocError;
 use std::marker::Model;
@@ -28,8 +28,8 @@ pub struct Kernel {
 }
 
 impl Model for Kernel {
-    ghost use Rattle.fmp_machine.specs.World.{World};
-    ghost use Rattle.fmp_listed.specs.Queues.{Queues};
+    ghost use Rattle.fmp_rules.specs.World.{World};
+    ghost use Rattle.fmp_kernel_order.specs.Queues.{Queues};
     ghost use Rattle.fmp_kernel.specs.Kept.{IsKept};
 
     ghost Value = { World Queues };

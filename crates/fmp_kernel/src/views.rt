@@ -2,20 +2,20 @@
 //! stands.
 ghost use Rattle.std.specs.Prelude.{◌≡◌, ◌≤◌, ◌&&◌, [], None, is_none, length, slice_get};
 ghost use Rattle.std.specs.List.{list_all};
-ghost use Rattle.fmp_links.specs.Lists.{first_of};
-ghost use Rattle.fmp_machine.specs.Due.{IsNextDue};
-ghost use Rattle.fmp_machine.specs.Objects.{cyclic, eventflag, holder, pool, semaphore, values};
-ghost use Rattle.fmp_machine.specs.World.{item, task, processor, handler, is_held, runner_of};
-ghost use Rattle.fmp_machine.specs.Ordering.{top, queue};
-ghost use Rattle.fmp_machine.specs.Arrivals.{State, numbered};
-ghost use Rattle.fmp_listed.specs.Queues.{listed};
-ghost use Rattle.fmp_refinement.specs.Stands.{Stands};
+ghost use Rattle.fmp_kernel_links.specs.Lists.{first_of};
+ghost use Rattle.fmp_rules.specs.Due.{IsNextDue};
+ghost use Rattle.fmp_rules.specs.Objects.{cyclic, eventflag, holder, pool, semaphore, values};
+ghost use Rattle.fmp_rules.specs.World.{item, task, processor, handler, is_held, runner_of};
+ghost use Rattle.fmp_rules.specs.Ordering.{top, queue};
+ghost use Rattle.fmp_rules.specs.Arrivals.{State, numbered};
+ghost use Rattle.fmp_kernel_order.specs.Queues.{listed};
+ghost use Rattle.fmp_law_lists.specs.Stands.{Stands};
 
 use crate::kernel::Kernel;
 use arrayvec::ArrayVec;
 use fmp_codes::{Object, Pri, Proc, Runner, Task};
-use fmp_machine::{Cyclic, Eventflag, Pool, Processor, QueueKind, Semaphore, TaskRecord};
-use fmp_primitives::{Objects, Words, is_held};
+use fmp_rules::{Cyclic, Eventflag, Pool, Processor, QueueKind, Semaphore, TaskRecord};
+use fmp_step_words::{Objects, Words, is_held};
 
 impl Kernel {
     /// How many tasks there are.

@@ -1,12 +1,12 @@
 -- A task that goes last in a ready queue leaves the one in which it stood by that.
 use Rattle.std.proofs.Common.{◌≡◌, Bool, true, false, if◌then◌else◌, refl, sym, ap, ◌∙◌}
 use Rattle.fmp_codes.specs.declared.numbers.Task.{Task}
-use Rattle.fmp_machine.specs.declared.machine.TaskRecord.{TaskRecord}
-use Rattle.fmp_machine.specs.World.{World, task}
-use Rattle.fmp_machine.specs.Ordering.{is_runnable, depart, arrive}
+use Rattle.fmp_rules.specs.declared.machine.TaskRecord.{TaskRecord}
+use Rattle.fmp_rules.specs.World.{World, task}
+use Rattle.fmp_rules.specs.Ordering.{is_runnable, depart, arrive}
 use Rattle.fmp_ready.specs.Queues.{list_number, push_last}
 use Rattle.fmp_ready.proofs.Tasks.{take_out-twice}
-use Rattle.fmp_listed.specs.Queues.{Queues, listed}
+use Rattle.fmp_kernel_order.specs.Queues.{Queues, listed}
 use Rattle.fmp_kernel_machine.specs.Going.{order_before}
 
 once : (q : Queues) (s : TaskRecord) (r : TaskRecord) (t : Task) (b : Bool) → listed.put_last q s t ≡ listed.put_last (if b then listed.take_out q r t else q) s t

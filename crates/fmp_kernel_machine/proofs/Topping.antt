@@ -5,15 +5,15 @@ use Rattle.std.proofs.lemmas.Bool.{cases_lt}
 use Rattle.std.proofs.lemmas.List.{get_or_past}
 use Rattle.fmp_codes.specs.Numbers.{as_proc, task_number}
 use Rattle.fmp_codes.specs.declared.numbers.Task.{Task}
-use Rattle.fmp_machine.specs.World.{World, processors_to}
-use Rattle.fmp_machine.specs.Ordering.{top}
-use Rattle.fmp_machine.specs.Step.{tops}
+use Rattle.fmp_rules.specs.World.{World, processors_to}
+use Rattle.fmp_rules.specs.Ordering.{top}
+use Rattle.fmp_rules.specs.Step.{tops}
 use Rattle.fmp_ready.specs.Queues.{top_at}
 use Rattle.fmp_ready.proofs.Tops.{number_small}
-use Rattle.fmp_listed.specs.Queues.{Queues, listed}
-use Rattle.fmp_primitives.specs.Numbered.{numbered}
-use Rattle.fmp_primitives.proofs.EachProcessor.{numbers-tell}
-use Rattle.fmp_primitives.proofs.Numbers.{numbered-task}
+use Rattle.fmp_kernel_order.specs.Queues.{Queues, listed}
+use Rattle.fmp_step_words.specs.Numbered.{numbered}
+use Rattle.fmp_step_words.proofs.EachProcessor.{numbers-tell}
+use Rattle.fmp_step_words.proofs.Numbers.{numbered-task}
 
 numbered-back : (o : Option Task) → numbered (task_number o) ≡ o
 numbered-back None = refl

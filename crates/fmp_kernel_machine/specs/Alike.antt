@@ -1,7 +1,7 @@
 -- When a machine has the places for what is in another one.
 use Rattle.std.specs.Prelude.{◌≡◌, length}
-use Rattle.fmp_machine.specs.World.{World}
-use Rattle.fmp_listed.specs.Queues.{Queues}
+use Rattle.fmp_rules.specs.World.{World}
+use Rattle.fmp_kernel_order.specs.Queues.{Queues}
 use Rattle.fmp_kernel_objects.specs.Objects as objects
 use Rattle.fmp_kernel_objects.specs.Objects.{objects_of}
 

@@ -2,24 +2,24 @@
 ghost use Rattle.std.specs.Prelude.{◌≡◌, ◌≤◌, ◌&&◌, true, [], None, is_none, length, slice_get, IfOk, IsTrue, ◌↔◌};
 ghost use Rattle.std.specs.List.{list_all};
 ghost use Rattle.fmp_codes.specs.declared.numbers.Task.{Task as AnyTask};
-ghost use Rattle.fmp_links.specs.Lists.{first_of};
-ghost use Rattle.fmp_links.specs.Tasks.{has_task};
-ghost use Rattle.fmp_machine.specs.Boot.{blank};
-ghost use Rattle.fmp_machine.specs.Due.{IsNextDue};
+ghost use Rattle.fmp_kernel_links.specs.Lists.{first_of};
+ghost use Rattle.fmp_kernel_links.specs.Tasks.{has_task};
+ghost use Rattle.fmp_rules.specs.Boot.{blank};
+ghost use Rattle.fmp_rules.specs.Due.{IsNextDue};
 ghost use Rattle.fmp_kernel_machine.specs.Alike.{AreAlike};
-ghost use Rattle.fmp_machine.specs.Objects.{pool, values};
-ghost use Rattle.fmp_machine.specs.World.{item};
-ghost use Rattle.fmp_listed.specs.Queues.{listed, no_queues};
+ghost use Rattle.fmp_rules.specs.Objects.{pool, values};
+ghost use Rattle.fmp_rules.specs.World.{item};
+ghost use Rattle.fmp_kernel_order.specs.Queues.{listed, no_queues};
 
 use arrayvec::ArrayVec;
 use fmp_codes::{Object, Pri, Proc, Runner, Task};
 use fmp_dispatch::Dispatch;
+use fmp_kernel_assigned::Assigned;
 use fmp_kernel_objects::Resources;
-use fmp_kernel_time::Assigned;
-use fmp_machine::{Config, Pool};
-use fmp_parts::{Digest, Part};
+use fmp_kernel_parts::{Digest, Part};
+use fmp_kernel_same::Same;
 use fmp_ready::ReadyQueues;
-use fmp_same::Same;
+use fmp_rules::{Config, Pool};
 use fmp_spin::Spins;
 use std::alloc::AllocError;
 use std::marker::Model;
@@ -41,8 +41,8 @@ pub struct KernelMachine {
 }
 
 impl Model for KernelMachine {
-    ghost use Rattle.fmp_machine.specs.World.{World};
-    ghost use Rattle.fmp_listed.specs.Queues.{Queues};
+    ghost use Rattle.fmp_rules.specs.World.{World};
+    ghost use Rattle.fmp_kernel_order.specs.Queues.{Queues};
 
     ghost Value = { World Queues };
 
@@ -76,7 +76,7 @@ impl KernelMachine {
     }
 
     /// The ready tasks of a priority on a processor, in their precedence.
-    #[tactic(auto, unfolding(fmp_listed::specs::Queues::listed))]
+    #[tactic(auto, unfolding(fmp_kernel_order::specs::Queues::listed))]
     pub fn ready(&self, p: Proc, priority: Pri) -> ArrayVec<Task, 64>
         ensures { result.items ≡ listed.ready self.now.order self.now.tasks p priority }
     {
@@ -84,7 +84,7 @@ impl KernelMachine {
     }
 
     /// The first ready task of a priority on a processor.
-    #[tactic(auto, unfolding(fmp_listed::specs::Queues::listed))]
+    #[tactic(auto, unfolding(fmp_kernel_order::specs::Queues::listed))]
     pub fn first_ready(&self, p: Proc, priority: Pri) -> Option<Task>
         ensures { result ≡ first_of (listed.ready self.now.order self.now.tasks p priority) }
     {

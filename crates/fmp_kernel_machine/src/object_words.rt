@@ -2,16 +2,16 @@
 use crate::machine::KernelMachine;
 use arrayvec::ArrayVec;
 use fmp_codes::{Object, Proc, Runner, Task};
-use fmp_machine::{Alarm, Cyclic, DataQueueSetup, Eventflag, QueueKind, Semaphore, Timer};
-use fmp_primitives::Objects;
+use fmp_rules::{Alarm, Cyclic, DataQueueSetup, Eventflag, QueueKind, Semaphore, Timer};
+use fmp_step_words::Objects;
 
 impl Objects for KernelMachine {
-    #[tactic(auto, unfolding(fmp_listed::specs::Queues::listed))]
+    #[tactic(auto, unfolding(fmp_kernel_order::specs::Queues::listed))]
     fn first_waiter(&self, kind: QueueKind, o: Object) -> Option<Task> {
         self.resources.first_waiter(kind, o)
     }
 
-    #[tactic(auto, unfolding(fmp_listed::specs::Queues::listed))]
+    #[tactic(auto, unfolding(fmp_kernel_order::specs::Queues::listed))]
     fn waiters(&self, kind: QueueKind, o: Object) -> ArrayVec<Task, 64> {
         self.resources.waiters(kind, o)
     }
@@ -129,12 +129,12 @@ impl Objects for KernelMachine {
         self.assigned.timer()
     }
 
-    #[tactic(auto, unfolding(fmp_machine::specs::Tick::counted_down))]
+    #[tactic(auto, unfolding(fmp_rules::specs::Tick::counted_down))]
     fn count_down(&mut self, p: Proc) {
         self.assigned.count_down(p);
     }
 
-    #[tactic(auto, unfolding(fmp_listed::specs::Queues::listed))]
+    #[tactic(auto, unfolding(fmp_kernel_order::specs::Queues::listed))]
     fn expired_waits(&self) -> ArrayVec<Task, 64> {
         self.assigned.expired_waits()
     }

@@ -1,10 +1,10 @@
 //! The words of the definitions, on the kernel.
-ghost use Rattle.fmp_listed.specs.Queues.{Queues, listed};
+ghost use Rattle.fmp_kernel_order.specs.Queues.{Queues, listed};
 
 use crate::machine::KernelMachine;
 use fmp_codes::{Pri, Proc, Runner, Task};
-use fmp_machine::{Limits, Processor, TaskRecord, Wait};
-use fmp_primitives::{Overview, Tops, Words};
+use fmp_rules::{Limits, Processor, TaskRecord, Wait};
+use fmp_step_words::{Overview, Tops, Words};
 
 impl Words for KernelMachine {
     ghost Order = { Queues };
@@ -36,12 +36,12 @@ impl Words for KernelMachine {
         self.dispatch.handler(p)
     }
 
-    #[tactic(auto, unfolding(fmp_listed::specs::Queues::listed))]
+    #[tactic(auto, unfolding(fmp_kernel_order::specs::Queues::listed))]
     fn top(&self, p: Proc) -> Option<Task> {
         self.ready.top(p)
     }
 
-    #[tactic(auto, unfolding(fmp_listed::specs::Queues::listed))]
+    #[tactic(auto, unfolding(fmp_kernel_order::specs::Queues::listed))]
     fn first_ready(&self, p: Proc, priority: Pri) -> Option<Task> {
         self.ready.first(p, priority)
     }
@@ -77,7 +77,7 @@ impl Words for KernelMachine {
         self.arrive(t, &changed);
     }
 
-    #[tactic(auto, unfolding(fmp_listed::specs::Queues::listed))]
+    #[tactic(auto, unfolding(fmp_kernel_order::specs::Queues::listed))]
     fn end_wait(&mut self, t: Task, changed: TaskRecord) {
         let task = self.assigned.task(t);
         self.resources.leave(t, task.wait);
@@ -85,7 +85,7 @@ impl Words for KernelMachine {
         self.place(t, changed);
     }
 
-    #[tactic(auto, unfolding(fmp_listed::specs::Queues::listed))]
+    #[tactic(auto, unfolding(fmp_kernel_order::specs::Queues::listed))]
     fn begin_wait(&mut self, t: Task, wait: Wait, left: Option<u64>) {
         let task = self.assigned.task(t);
         self.depart(t, &task);
@@ -112,12 +112,12 @@ impl Words for KernelMachine {
 }
 
 impl Overview for KernelMachine {
-    #[tactic(auto, unfolding(fmp_listed::specs::Queues::listed))]
+    #[tactic(auto, unfolding(fmp_kernel_order::specs::Queues::listed))]
     fn tops(&self) -> Tops {
         Tops::new(self.ready.tops(), self.dispatch.count())
     }
 
-    #[tactic(auto, unfolding(fmp_listed::specs::Queues::listed))]
+    #[tactic(auto, unfolding(fmp_kernel_order::specs::Queues::listed))]
     fn may_have_expired(&self) -> bool {
         self.assigned.may_have_expired()
     }

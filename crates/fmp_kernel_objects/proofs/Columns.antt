@@ -4,7 +4,7 @@ use Rattle.std.proofs.lemmas.List.{map-id, map-set, set-get_or}
 use Rattle.std.proofs.lemmas.Simd.{map-map}
 use Rattle.std.proofs.lemmas.Option.{unwrap_or-slice_get}
 use Rattle.std.proofs.Math.ListN.{get_or-map}
-use Rattle.fmp_machine.specs.Objects.{blank_semaphore, blank_eventflag, no_data_queue, blank_pool}
+use Rattle.fmp_rules.specs.Objects.{blank_semaphore, blank_eventflag, no_data_queue, blank_pool}
 use Rattle.fmp_sem.specs.Semaphores.{SemaphoreState}
 use Rattle.fmp_flag.specs.Eventflags.{EventflagState}
 use Rattle.fmp_dtq.specs.DataQueue.{DataQueue}

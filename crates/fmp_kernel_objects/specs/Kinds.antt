@@ -1,7 +1,7 @@
 -- What stands where there is no object of a kind, and the blocks of a pool.
 use Rattle.std.specs.Prelude.{ℤ, Bool, []}
-use Rattle.fmp_machine.specs.declared.machine.Pool.{Pool}
-use Rattle.fmp_machine.specs.Objects.{blank_semaphore, blank_eventflag, no_data_queue, blank_pool}
+use Rattle.fmp_rules.specs.declared.machine.Pool.{Pool}
+use Rattle.fmp_rules.specs.Objects.{blank_semaphore, blank_eventflag, no_data_queue, blank_pool}
 use Rattle.fmp_sem.specs.Semaphores.{SemaphoreState}
 use Rattle.fmp_flag.specs.Eventflags.{EventflagState}
 use Rattle.fmp_dtq.specs.DataQueue.{DataQueue}

@@ -4,18 +4,18 @@ use Rattle.fmp_codes.specs.declared.numbers.Object.{Object}
 use Rattle.fmp_setup.specs.declared.setup.Order.{Order}
 use Rattle.fmp_setup.specs.declared.setup.Order.TheVariants as order
 use Rattle.fmp_setup.specs.declared.setup.DataQueueSetup.{DataQueueSetup}
-use Rattle.fmp_machine.specs.declared.machine.Semaphore.{Semaphore}
-use Rattle.fmp_machine.specs.declared.machine.Eventflag.{Eventflag}
-use Rattle.fmp_machine.specs.declared.machine.Pool.{Pool}
-use Rattle.fmp_machine.specs.declared.machine.Wait.{Wait}
-use Rattle.fmp_machine.specs.declared.machine.Wait.TheVariants as wait
-use Rattle.fmp_machine.specs.declared.machine.QueueKind.{QueueKind}
-use Rattle.fmp_machine.specs.declared.machine.QueueKind.TheVariants as kind
+use Rattle.fmp_rules.specs.declared.machine.Semaphore.{Semaphore}
+use Rattle.fmp_rules.specs.declared.machine.Eventflag.{Eventflag}
+use Rattle.fmp_rules.specs.declared.machine.Pool.{Pool}
+use Rattle.fmp_rules.specs.declared.machine.Wait.{Wait}
+use Rattle.fmp_rules.specs.declared.machine.Wait.TheVariants as wait
+use Rattle.fmp_rules.specs.declared.machine.QueueKind.{QueueKind}
+use Rattle.fmp_rules.specs.declared.machine.QueueKind.TheVariants as kind
 use Rattle.fmp_setup.specs.Setup.{Setup}
-use Rattle.fmp_machine.specs.World.{World}
-use Rattle.fmp_machine.specs.Ordering.{order_among}
-use Rattle.fmp_machine.specs.Boot.{blank}
-use Rattle.fmp_listed.specs.Queues.{WaitQueues, Queues, no_queues}
+use Rattle.fmp_rules.specs.World.{World}
+use Rattle.fmp_rules.specs.Ordering.{order_among}
+use Rattle.fmp_rules.specs.Boot.{blank}
+use Rattle.fmp_kernel_order.specs.Queues.{WaitQueues, Queues, no_queues}
 
 pub record AllObjects : Type 0 where
   pub semaphores : List Semaphore

@@ -1,6 +1,6 @@
 //! The kinds of objects for which tasks wait: semaphores, eventflags, data queues and memory pools.
 ghost use Rattle.std.specs.Prelude.{◌≡◌, ◌<◌, ◌++◌, ◌∷◌, [], false, length, map, refl, replicate, slice_set, IsTrue, ◌↔◌};
-ghost use Rattle.fmp_machine.specs.World.{rest, item, with_item};
+ghost use Rattle.fmp_rules.specs.World.{rest, item, with_item};
 ghost use Rattle.fmp_setup.specs.declared.setup.Order.TheVariants as orders;
 ghost use Rattle.fmp_kernel_objects.specs.Kinds.{no_semaphore, no_eventflag, no_queue, no_pool};
 
@@ -9,8 +9,8 @@ use arrayvec::ArrayVec;
 use fmp_codes::{Object, Pri, Task};
 use fmp_dtq::Dtq;
 use fmp_flag::Flag;
-use fmp_machine::{DataQueueSetup, EventflagSetup, Order, PoolSetup, SemaphoreSetup};
 use fmp_mpf::Mpf;
+use fmp_rules::{DataQueueSetup, EventflagSetup, Order, PoolSetup, SemaphoreSetup};
 use fmp_sem::Sem;
 use std::alloc::{AllocError, Global};
 

@@ -1,12 +1,12 @@
 //! The list of all objects of a kind, each with the tasks that wait for it.
 ghost use Rattle.std.specs.Prelude.{◌≡◌, ◌≤◌, ◌<◌, ℕ, ◌-◌, List, [], length, map, option_copied, slice_get, slice_index_or, unwrap_or, IfOk};
 ghost use Rattle.fmp_setup.specs.declared.setup.Order.{Order};
-ghost use Rattle.fmp_machine.specs.World.{first, item, with_item};
+ghost use Rattle.fmp_rules.specs.World.{first, item, with_item};
 ghost use Rattle.fmp_waitq.specs.Queue.{Waiter, task_of, left_by, joined_by, waiter_of};
 
 use arrayvec::ArrayVec;
 use fmp_codes::{Object, Pri, Task};
-use fmp_parts::{Digest, Part, add_all, are_same, copy_all};
+use fmp_kernel_parts::{Digest, Part, add_all, are_same, copy_all};
 use std::alloc::{AllocError, Global};
 use std::marker::Model;
 

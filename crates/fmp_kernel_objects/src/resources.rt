@@ -1,10 +1,10 @@
 //! All objects for which tasks wait.
 ghost use Rattle.std.specs.Prelude.{◌≡◌, ◌≤◌, ◌<◌, ◌≤ℤ◌, ◌++◌, ◌∷◌, [], pos, not, length, map, take, slice_get, slice_set, IfOk, IsTrue, ◌↔◌};
 ghost use Rattle.std.specs.List.{position};
-ghost use Rattle.fmp_machine.specs.Objects.{blank_semaphore, blank_eventflag, no_data_queue, blank_pool};
-ghost use Rattle.fmp_machine.specs.World.{first, rest, item, with_item};
+ghost use Rattle.fmp_rules.specs.Objects.{blank_semaphore, blank_eventflag, no_data_queue, blank_pool};
+ghost use Rattle.fmp_rules.specs.World.{first, rest, item, with_item};
 ghost use Rattle.fmp_waitq.specs.Queue.{task_of, left_by, joined_by, waiter_of};
-ghost use Rattle.fmp_listed.specs.Queues.{queue, place_of, place_in, changed};
+ghost use Rattle.fmp_kernel_order.specs.Queues.{queue, place_of, place_in, changed};
 ghost use Rattle.fmp_kernel_objects.specs.Kinds.{is_handed_in};
 ghost use Rattle.fmp_kernel_objects.specs.Objects.{blank_objects, order_for, AreAlike};
 
@@ -14,9 +14,9 @@ use arrayvec::ArrayVec;
 use fmp_codes::{Object, Pri, Task};
 use fmp_dtq::Dtq;
 use fmp_flag::Flag;
-use fmp_machine::{Config, DataQueueSetup, Eventflag, Order, Pool, QueueKind, Semaphore, Wait};
+use fmp_kernel_parts::{Digest, Part};
 use fmp_mpf::Mpf;
-use fmp_parts::{Digest, Part};
+use fmp_rules::{Config, DataQueueSetup, Eventflag, Order, Pool, QueueKind, Semaphore, Wait};
 use fmp_sem::Sem;
 use std::alloc::AllocError;
 use std::marker::Model;

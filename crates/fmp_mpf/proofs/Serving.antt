@@ -1,7 +1,7 @@
 -- A change of a memory pool leaves nobody waiting for what is to be had.
 use Rattle.std.proofs.Common.{◌≡◌, ℕ, true, false, None, List, [], ◌∷◌, map}
 use Rattle.fmp_codes.specs.declared.numbers.Task.{Task}
-use Rattle.fmp_machine.specs.World.{first}
+use Rattle.fmp_rules.specs.World.{first}
 use Rattle.fmp_waitq.specs.Queue.{Waiter, task_of, has_waiter, left_by}
 use Rattle.fmp_waitq.proofs.Waiters.{waited_before}
 use Rattle.fmp_mpf.specs.MemoryPool.{MemoryPool, waiter}

@@ -2,8 +2,8 @@
 use Rattle.std.specs.Prelude.{ℕ, ℤ, pos, negsuc, not, Bool, false, List, map, take, Option, slice_index_or}
 use Rattle.std.specs.List.{position}
 use Rattle.fmp_codes.specs.declared.numbers.Task.{Task}
-use Rattle.fmp_machine.specs.declared.machine.Pool.{Pool}
-use Rattle.fmp_machine.specs.World.{first}
+use Rattle.fmp_rules.specs.declared.machine.Pool.{Pool}
+use Rattle.fmp_rules.specs.World.{first}
 use Rattle.fmp_waitq.specs.Queue.{Waiter, task_of}
 
 pub record MemoryPool : Type 0 where

@@ -1,7 +1,7 @@
 -- What an operation does to a memory pool, and what it answers; and when nobody waits for what is to be had.
 use Rattle.std.specs.Prelude.{◌≡◌, ℕ, ℤ, Bool, true, false, Option, None, Some, slice_set, if◌then◌else◌}
 use Rattle.fmp_codes.specs.declared.numbers.Task.{Task}
-use Rattle.fmp_machine.specs.BufferCalls.{block_of}
+use Rattle.fmp_rules.specs.BufferCalls.{block_of}
 use Rattle.fmp_waitq.specs.Queue.{has_waiter, left_by}
 use Rattle.fmp_mpf.specs.MemoryPool.{MemoryPool, free_block, is_handed, waiter}
 use Rattle.fmp_mpf.specs.declared.operations.Given.{Given}

@@ -7,7 +7,7 @@
 #![tactic(auto)]
 
 ghost use Rattle.std.specs.Prelude.{◌≡◌, ◌≤◌, ◌≤ℤ◌, IfSome, pos, IsTrue, false, [], map, replicate, slice_set};
-ghost use Rattle.fmp_links.specs.Tasks.{AreDistinct};
+ghost use Rattle.fmp_kernel_links.specs.Tasks.{AreDistinct};
 ghost use Rattle.fmp_waitq.specs.Queue.{task_of, has_waiter, left_by, joined_by, waiter_of};
 ghost use Rattle.fmp_mpf.specs.MemoryPool.{free_block, is_handed, waiter};
 ghost use Rattle.fmp_mpf.specs.Operations.{IsServed};
@@ -18,9 +18,9 @@ mod operations;
 use crate::marks::{all_marks, first_free, is_marked, no_marks, with_mark};
 use arrayvec::ArrayVec;
 use fmp_codes::{Pri, Task};
-use fmp_machine::{Pool, PoolSetup};
-use fmp_parts::{Digest, Part};
-use fmp_same::Same;
+use fmp_kernel_parts::{Digest, Part};
+use fmp_kernel_same::Same;
+use fmp_rules::{Pool, PoolSetup};
 use fmp_waitq::WaitQueue;
 pub use operations::Given;
 use std::marker::Model;

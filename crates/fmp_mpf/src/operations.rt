@@ -1,4 +1,4 @@
-//! The operations on a memory pool alone, which the kernel does not call: a call's rule stands in `fmp_machine/specs`. They are
+//! The operations on a memory pool alone, which the kernel does not call: a call's rule stands in `fmp_rules/specs`. They are
 //! this part's own surface.
 ghost use Rattle.std.specs.Prelude.{◌≡◌, None, true, false};
 ghost use Rattle.std.specs.Option.{option_map};

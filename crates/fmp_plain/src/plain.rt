@@ -1,15 +1,15 @@
 //! The plain machine, and how many steps it made.
 ghost use Rattle.std.specs.Prelude.{◌≡◌, ◌+◌, ◌<◌, IfOk};
-ghost use Rattle.fmp_machine.specs.Boot.{booted};
+ghost use Rattle.fmp_rules.specs.Boot.{booted};
 ghost use Rattle.fmp_setup.specs.Valid.{IsValid};
-ghost use Rattle.fmp_machine.specs.Arrivals.{numbered};
-ghost use Rattle.fmp_machine.specs.Step.{step};
-ghost use Rattle.fmp_safety.specs.Safe.{Safe};
-ghost use Rattle.fmp_safety.specs.Laws.{FindsNothing, TakesRequest, RunsTop};
+ghost use Rattle.fmp_rules.specs.Arrivals.{numbered};
+ghost use Rattle.fmp_rules.specs.Step.{step};
+ghost use Rattle.fmp_law_safety.specs.Safe.{Safe};
+ghost use Rattle.fmp_law_safety.specs.Laws.{FindsNothing, TakesRequest, RunsTop};
 
 use fmp_codes::{Answer, Event, Record};
-use fmp_machine::Config;
 use fmp_plain_machine::PlainMachine;
+use fmp_rules::Config;
 use fmp_step::{boot, step_into};
 use std::alloc::AllocError;
 use std::marker::Model;

@@ -6,10 +6,10 @@ use Rattle.std.proofs.lemmas.List.{get_or-set_same, get_or-set_other, length-set
 use Rattle.fmp_codes.specs.Numbers.{as_task}
 use Rattle.fmp_codes.specs.declared.numbers.Proc.{Proc}
 use Rattle.fmp_codes.specs.declared.numbers.Task.{Task}
-use Rattle.fmp_machine.specs.World.{item, no_task}
-use Rattle.fmp_machine.specs.Arrivals.{is_ready_on, comes_before, priority_in}
-use Rattle.fmp_machine.specs.Ordering.{is_runnable}
-use Rattle.fmp_machine.specs.declared.machine.TaskRecord.{TaskRecord}
+use Rattle.fmp_rules.specs.World.{item, no_task}
+use Rattle.fmp_rules.specs.Arrivals.{is_ready_on, comes_before, priority_in}
+use Rattle.fmp_rules.specs.Ordering.{is_runnable}
+use Rattle.fmp_rules.specs.declared.machine.TaskRecord.{TaskRecord}
 use Rattle.fmp_plain_machine.specs.Better.{better}
 use Rattle.fmp_plain_machine.specs.Tops.{top_among, AreTopsAmong}
 use Rattle.fmp_plain_machine.proofs.First.{first_in_order}

@@ -2,8 +2,8 @@
 use Rattle.std.proofs.Common.{◌≡◌, ℕ, suc, ◌+◌, Bool, true, false, Some, List, [], ◌∷◌, if◌then◌else◌, refl, arith}
 use Rattle.fmp_codes.specs.Numbers.{as_task}
 use Rattle.fmp_codes.specs.declared.numbers.Task.{Task}
-use Rattle.fmp_machine.specs.World.{first}
-use Rattle.fmp_machine.specs.Arrivals.{inserted, inserted_if, in_order}
+use Rattle.fmp_rules.specs.World.{first}
+use Rattle.fmp_rules.specs.Arrivals.{inserted, inserted_if, in_order}
 use Rattle.fmp_plain_machine.specs.Better.{better}
 
 by_test : (b : Bool) (t u : Task) (us vs : List Task) → first (if b then t ∷ us else u ∷ vs) ≡ (if b then Some t else Some u)

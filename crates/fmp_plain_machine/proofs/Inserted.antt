@@ -2,7 +2,7 @@
 use Rattle.std.proofs.Common.{◌≡◌, ℕ, suc, ◌+◌, Bool, true, false, List, if◌then◌else◌, refl, arith}
 use Rattle.fmp_codes.specs.Numbers.{as_task}
 use Rattle.fmp_codes.specs.declared.numbers.Task.{Task}
-use Rattle.fmp_machine.specs.Arrivals.{inserted, inserted_if, in_order}
+use Rattle.fmp_rules.specs.Arrivals.{inserted, inserted_if, in_order}
 
 by_test : (b : Bool) (before : Task → Task → Bool) (t : Task) (us : List Task) → inserted_if b before t us ≡ (if b then inserted before t us else us)
 by_test true before t us = refl

@@ -4,8 +4,8 @@ use Rattle.std.proofs.lemmas.Bool.{cases_Bool, eqb-true, eqb-false}
 use Rattle.fmp_codes.specs.Numbers.{as_task}
 use Rattle.fmp_codes.specs.declared.numbers.Task.{Task}
 use Rattle.fmp_codes.proofs.Same.{tasks_same}
-use Rattle.fmp_machine.specs.World.{item, first}
-use Rattle.fmp_machine.specs.Arrivals.{in_order, comes_before}
+use Rattle.fmp_rules.specs.World.{item, first}
+use Rattle.fmp_rules.specs.Arrivals.{in_order, comes_before}
 use Rattle.fmp_plain_machine.specs.Better.{better}
 use Rattle.fmp_plain_machine.specs.Tops.{ahead, is_task}
 use Rattle.fmp_plain_machine.proofs.First.{first_in_order}

@@ -1,6 +1,6 @@
 -- Counts of ticks that fall one after the other.
 use Rattle.std.proofs.Common.{◌≡◌, ℕ, zero, suc, ◌+◌, ◌<◌, Bool, true, false, List, [], ◌∷◌, Option, None, length, take, get_or, set, refl, ap, arith, add-one, if◌then◌else◌}
-use Rattle.fmp_machine.specs.Tick.{lowered, one_less}
+use Rattle.fmp_rules.specs.Tick.{lowered, one_less}
 
 -- the count of an item that does not qualify stays
 stays : {X : Type 0} (falls : X → Bool) (xs : List X) (counts : List (Option ℕ)) (i : ℕ) (d : X) → falls (get_or xs i d) ≡ false →

@@ -4,9 +4,9 @@ use Rattle.std.proofs.Math.Path.{fun_ext}
 use Rattle.std.proofs.lemmas.List.{length-set}
 use Rattle.fmp_codes.specs.declared.numbers.Proc.{Proc}
 use Rattle.fmp_codes.specs.declared.numbers.Task.{Task}
-use Rattle.fmp_machine.specs.World.{item, with_item, no_task, first}
-use Rattle.fmp_machine.specs.Arrivals.{in_order, is_ready_on, comes_before, priority_in}
-use Rattle.fmp_machine.specs.declared.machine.TaskRecord.{TaskRecord}
+use Rattle.fmp_rules.specs.World.{item, with_item, no_task, first}
+use Rattle.fmp_rules.specs.Arrivals.{in_order, is_ready_on, comes_before, priority_in}
+use Rattle.fmp_rules.specs.declared.machine.TaskRecord.{TaskRecord}
 use Rattle.fmp_plain_machine.specs.Tops.{rank_of, top_among, AreTops}
 
 rank_of-set : (records : List TaskRecord) (i k : ℕ) (changed : TaskRecord) → rank_of (get_or records i no_task) ≡ rank_of changed → rank_of (get_or (set records i changed) k no_task) ≡ rank_of (get_or records k no_task)

@@ -1,6 +1,6 @@
 -- The blocks of a pool.
 use Rattle.std.specs.Prelude.{ℤ, pos, negsuc, Bool, false, take, slice_index_or}
-use Rattle.fmp_machine.specs.declared.machine.Pool.{Pool}
+use Rattle.fmp_rules.specs.declared.machine.Pool.{Pool}
 
 -- the number is that of a block that is handed out
 abbrev pub is_handed : Pool → ℤ → Bool

@@ -1,6 +1,6 @@
 -- A data queue, and all of them.
 use Rattle.std.specs.Prelude.{ℤ, List, [], map}
-use Rattle.fmp_machine.specs.Objects.{no_data_queue}
+use Rattle.fmp_rules.specs.Objects.{no_data_queue}
 use Rattle.fmp_setup.specs.declared.setup.DataQueueSetup.{DataQueueSetup}
 
 -- what the configuration says of a data queue, and its values, the oldest first

@@ -2,11 +2,11 @@
 use Rattle.std.specs.Prelude.{ℕ, Bool, ◌&&◌, ◌==◌, None, List, length}
 use Rattle.fmp_codes.specs.declared.numbers.Task.{Task}
 use Rattle.fmp_setup.specs.declared.setup.Order.TheVariants as order
-use Rattle.fmp_machine.specs.declared.machine.TaskRecord.{TaskRecord}
-use Rattle.fmp_machine.specs.World.{item, no_task}
-use Rattle.fmp_machine.specs.Ordering.{is_runnable, waits_in}
-use Rattle.fmp_machine.specs.Tick.{is_over}
-use Rattle.fmp_machine.specs.Arrivals.{State, in_order, comes_before, priority_in, rank_in}
+use Rattle.fmp_rules.specs.declared.machine.TaskRecord.{TaskRecord}
+use Rattle.fmp_rules.specs.World.{item, no_task}
+use Rattle.fmp_rules.specs.Ordering.{is_runnable, waits_in}
+use Rattle.fmp_rules.specs.Tick.{is_over}
+use Rattle.fmp_rules.specs.Arrivals.{State, in_order, comes_before, priority_in, rank_in}
 use Rattle.fmp_plain_machine.specs.declared.groups.Group.{Group}
 use Rattle.fmp_plain_machine.specs.declared.groups.Group.TheVariants as group
 use Rattle.fmp_plain_machine.specs.declared.groups.Rule.{Rule}

@@ -1,7 +1,7 @@
 -- What shows of a task: how it stands, in a number, and the processor that it is assigned to.
 use Rattle.std.specs.Prelude.{◌≡◌, ℕ, Bool, true, false, Option, None, Some, List, map, if◌then◌else◌}
-use Rattle.fmp_machine.specs.declared.machine.TaskRecord.{TaskRecord}
-use Rattle.fmp_machine.specs.declared.machine.Wait.{Wait}
+use Rattle.fmp_rules.specs.declared.machine.TaskRecord.{TaskRecord}
+use Rattle.fmp_rules.specs.declared.machine.Wait.{Wait}
 
 -- how an active task stands with this wait, if it has one, that is suspended or not
 abbrev pub active_kind : Option Wait → Bool → ℕ

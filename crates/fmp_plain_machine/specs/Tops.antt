@@ -2,10 +2,10 @@
 use Rattle.std.specs.Prelude.{◌≡◌, ℕ, ◌-◌, Bool, false, not, ◌&&◌, ◌||◌, ◌==◌, nat_lt, Option, None, Some, List, length, slice_set, if◌then◌else◌}
 use Rattle.fmp_codes.specs.declared.numbers.Proc.{Proc}
 use Rattle.fmp_codes.specs.declared.numbers.Task.{Task}
-use Rattle.fmp_machine.specs.World.{item, first, no_task}
-use Rattle.fmp_machine.specs.Ordering.{is_runnable}
-use Rattle.fmp_machine.specs.Arrivals.{in_order, is_ready_on, comes_before, priority_in}
-use Rattle.fmp_machine.specs.declared.machine.TaskRecord.{TaskRecord}
+use Rattle.fmp_rules.specs.World.{item, first, no_task}
+use Rattle.fmp_rules.specs.Ordering.{is_runnable}
+use Rattle.fmp_rules.specs.Arrivals.{in_order, is_ready_on, comes_before, priority_in}
+use Rattle.fmp_rules.specs.declared.machine.TaskRecord.{TaskRecord}
 
 -- the record of each task, and when it became ready or was put last
 pub record Ranked : Type 0 where

@@ -1,6 +1,6 @@
 //! The machine before any task is started.
 ghost use Rattle.std.specs.Prelude.{◌≡◌, ◌≤◌, [], IfOk, replicate};
-ghost use Rattle.fmp_machine.specs.Boot.{blank, unnumbered};
+ghost use Rattle.fmp_rules.specs.Boot.{blank, unnumbered};
 
 use crate::due::Due;
 use crate::handlers::Handlers;
@@ -10,7 +10,7 @@ use crate::resources::Resources;
 use crate::tops::Tasks;
 use arrayvec::ArrayVec;
 use fmp_codes::Pri;
-use fmp_machine::{Config, Processor};
+use fmp_rules::{Config, Processor};
 use std::alloc::AllocError;
 
 /// For so many processors, that no handler is due.

@@ -3,7 +3,7 @@ ghost use Rattle.std.specs.Prelude.{◌≡◌, ◌≤◌, ◌<◌, ◌≤ℤ◌,
 ghost use Rattle.std.specs.List.{position};
 ghost use Rattle.fmp_plain_machine.specs.Blocks.{is_handed};
 
-use fmp_machine::Pool;
+use fmp_rules::Pool;
 
 /// For each block of a pool, whether it is handed out.
 fn marks(pool: &Pool) -> &[bool]

@@ -3,12 +3,12 @@ ghost use Rattle.std.specs.Prelude.{◌≡◌, ◌≤◌, None, length, map, fil
 ghost use Rattle.std.specs.List.{range_with_len};
 ghost use Rattle.fmp_codes.specs.Numbers.{as_object};
 ghost use Rattle.fmp_setup.specs.Setup.{counts_for};
-ghost use Rattle.fmp_machine.specs.World.{item};
-ghost use Rattle.fmp_machine.specs.Tick.{is_over, one_less, lowered};
+ghost use Rattle.fmp_rules.specs.World.{item};
+ghost use Rattle.fmp_rules.specs.Tick.{is_over, one_less, lowered};
 
 use arrayvec::ArrayVec;
 use fmp_codes::{Object, Proc};
-use fmp_machine::{Alarm, Cyclic, TaskRecord, Timer};
+use fmp_rules::{Alarm, Cyclic, TaskRecord, Timer};
 
 /// What is assigned to a processor.
 pub(crate) trait Assigned {

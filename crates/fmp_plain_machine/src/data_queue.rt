@@ -1,9 +1,9 @@
 //! A data queue.
 ghost use Rattle.std.specs.Prelude.{◌≡◌, ◌≤◌, ◌<◌, ◌++◌, ◌∷◌, [], length, IfOk};
-ghost use Rattle.fmp_machine.specs.World.{first, rest};
+ghost use Rattle.fmp_rules.specs.World.{first, rest};
 
 use circular_buffer::HeapCircularBuffer;
-use fmp_machine::DataQueueSetup;
+use fmp_rules::DataQueueSetup;
 use std::alloc::{AllocError, Global};
 use std::marker::Model;
 

@@ -1,12 +1,12 @@
 //! All data queues.
 ghost use Rattle.std.specs.Prelude.{◌≡◌, ◌≤◌, ◌<◌, ◌++◌, ◌∷◌, [], length, map, slice_index_or, slice_set, IfOk};
-ghost use Rattle.fmp_machine.specs.Objects.{no_data_queue};
-ghost use Rattle.fmp_machine.specs.World.{first, rest, item, with_item};
+ghost use Rattle.fmp_rules.specs.Objects.{no_data_queue};
+ghost use Rattle.fmp_rules.specs.World.{first, rest, item, with_item};
 ghost use Rattle.fmp_plain_machine.specs.DataQueues.{no_queue};
 
 use crate::data_queue::DataQueue;
 use fmp_codes::Object;
-use fmp_machine::DataQueueSetup;
+use fmp_rules::DataQueueSetup;
 use std::alloc::{AllocError, Global};
 use std::marker::Model;
 

@@ -1,6 +1,6 @@
 //! The handlers that are due on a processor.
 ghost use Rattle.std.specs.Prelude.{◌≡◌, ◌<◌, ◌++◌, ◌∷◌, [], length};
-ghost use Rattle.fmp_machine.specs.World.{first, rest};
+ghost use Rattle.fmp_rules.specs.World.{first, rest};
 
 use arrayvec::ArrayVec;
 use fmp_codes::Runner;

@@ -1,14 +1,14 @@
 //! Groups of tasks that have an order.
 ghost use Rattle.std.specs.Prelude.{◌≡◌};
-ghost use Rattle.fmp_machine.specs.World.{item};
-ghost use Rattle.fmp_machine.specs.Arrivals.{priority_in, rank_in};
+ghost use Rattle.fmp_rules.specs.World.{item};
+ghost use Rattle.fmp_rules.specs.Arrivals.{priority_in, rank_in};
 ghost use Rattle.fmp_plain_machine.specs.Groups.{takes, rule_of, rank, numbers, precedes};
 
 use crate::machine::PlainMachine;
 use crate::tops::is_runnable;
 use crate::waiting::waits_in;
 use fmp_codes::{Object, Pri, Proc, Task};
-use fmp_machine::{Order, QueueKind, TaskRecord};
+use fmp_rules::{Order, QueueKind, TaskRecord};
 
 /// A group of tasks that have an order.
 #[derive(Clone, Copy)]

@@ -3,7 +3,7 @@ use crate::counts::lower;
 use crate::kept::each;
 use arrayvec::ArrayVec;
 use fmp_codes::Proc;
-use fmp_machine::{Alarm, Config, Cyclic, Timer};
+use fmp_rules::{Alarm, Config, Cyclic, Timer};
 
 /// The timer, and the cyclic handlers and alarms in the order of their numbers, with the ticks left of those that are started.
 #[derive(Drop)]
@@ -17,9 +17,9 @@ pub(crate) struct Handlers {
 
 impl Handlers {
     ghost use Rattle.std.specs.Prelude.{◌≡◌, None, map};
-    ghost use Rattle.fmp_machine.specs.Boot.{phase_left};
+    ghost use Rattle.fmp_rules.specs.Boot.{phase_left};
     ghost use Rattle.fmp_setup.specs.Setup.{counts_for};
-    ghost use Rattle.fmp_machine.specs.Tick.{lowered};
+    ghost use Rattle.fmp_rules.specs.Tick.{lowered};
 
     /// Those of a configuration, before any tick.
     pub(crate) fn of(config: &Config) -> Handlers

@@ -1,10 +1,10 @@
 //! What the machine keeps at boot, by what the configuration says.
 ghost use Rattle.std.specs.Prelude.{◌≡◌, ◌≤◌, false, None, length, map, replicate};
-ghost use Rattle.fmp_machine.specs.World.{resting};
-ghost use Rattle.fmp_machine.specs.Boot.{phase_left};
+ghost use Rattle.fmp_rules.specs.World.{resting};
+ghost use Rattle.fmp_rules.specs.Boot.{phase_left};
 
 use arrayvec::ArrayVec;
-use fmp_machine::{
+use fmp_rules::{
     Alarm, AlarmSetup, Cyclic, CyclicSetup, Eventflag, EventflagSetup, Pool, PoolSetup, Semaphore,
     SemaphoreSetup, TaskRecord, TaskSetup,
 };

@@ -1,6 +1,6 @@
 //! The ticks left, where there are some.
 ghost use Rattle.std.specs.Prelude.{◌≡◌, None, slice_index_or};
-ghost use Rattle.fmp_machine.specs.World.{item};
+ghost use Rattle.fmp_rules.specs.World.{item};
 
 use crate::machine::PlainMachine;
 use fmp_codes::{Object, Task};

@@ -4,7 +4,7 @@
 //! first is found by looking at all of them. It is slow, and easy to compare with the rules.
 //!
 //! Contracts see a state of the definitions whose order is the model's numbers (`numbered`). [`PlainMachine`] is one of
-//! [`fmp_primitives::Words`] and of [`fmp_primitives::Objects`]: each of their methods does what the trait says. All memory is taken by
+//! [`fmp_step_words::Words`] and of [`fmp_step_words::Objects`]: each of their methods does what the trait says. All memory is taken by
 //! `PlainMachine::blank`.
 #![tactic(auto)]
 

@@ -1,7 +1,7 @@
 //! Who holds the spin locks.
 ghost use Rattle.std.specs.Prelude.{◌≡◌, None, map, slice_index_or, slice_set, if◌then◌else◌};
 ghost use Rattle.std.specs.List.{list_any};
-ghost use Rattle.fmp_machine.specs.Processors.{is_at, with_lock};
+ghost use Rattle.fmp_rules.specs.Processors.{is_at, with_lock};
 
 use crate::machine::PlainMachine;
 use arrayvec::ArrayVec;

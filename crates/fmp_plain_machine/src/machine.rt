@@ -5,7 +5,7 @@ use crate::resources::Resources;
 use crate::tops::Tasks;
 use arrayvec::ArrayVec;
 use fmp_codes::Pri;
-use fmp_machine::Processor;
+use fmp_rules::Processor;
 use std::marker::Model;
 
 /// The state of the plain machine. Contracts see it as the state of the model.
@@ -27,7 +27,7 @@ pub struct PlainMachine {
 }
 
 impl Model for PlainMachine {
-    ghost use Rattle.fmp_machine.specs.Arrivals.{State};
+    ghost use Rattle.fmp_rules.specs.Arrivals.{State};
 
     ghost Value = { State };
 

@@ -1,14 +1,14 @@
 //! The numbers by which the machine keeps what came before what.
 ghost use Rattle.std.specs.Prelude.{◌≡◌, ◌+◌, ◌<◌, ◌≤◌, ◌^◌, ℕ, Option, option_map};
-ghost use Rattle.fmp_machine.specs.World.{task, with_item};
-ghost use Rattle.fmp_machine.specs.Ordering.{order_of, rejoin};
-ghost use Rattle.fmp_machine.specs.Arrivals.{numbered};
-ghost use Rattle.fmp_machine.specs.declared.machine.TaskRecord.{TaskRecord as AnyTaskRecord};
+ghost use Rattle.fmp_rules.specs.World.{task, with_item};
+ghost use Rattle.fmp_rules.specs.Ordering.{order_of, rejoin};
+ghost use Rattle.fmp_rules.specs.Arrivals.{numbered};
+ghost use Rattle.fmp_rules.specs.declared.machine.TaskRecord.{TaskRecord as AnyTaskRecord};
 
 use crate::machine::PlainMachine;
 use fmp_codes::Task;
-use fmp_machine::{Order, TaskRecord};
-use fmp_primitives::Words;
+use fmp_rules::{Order, TaskRecord};
+use fmp_step_words::Words;
 
 impl PlainMachine {
     /// The next number, which is used up.
@@ -23,7 +23,7 @@ impl PlainMachine {
     }
 
     /// Changes the fields of a task and gives it the next number, so that it comes last of its priority.
-    #[tactic(auto, unfolding(fmp_machine::specs::Arrivals::numbered))]
+    #[tactic(auto, unfolding(fmp_rules::specs::Arrivals::numbered))]
     pub(crate) fn put_last(&mut self, t: Task, changed: TaskRecord)
         requires { self.old.order.next + 1 < 2 ^ 64 }
         ensures { self.new ≡ record self.old { tasks = with_item self.old.tasks t.number changed; order = numbered.put_last self.old.order changed t } }
@@ -61,7 +61,7 @@ impl PlainMachine {
     }
 
     /// In a queue by priority, begins the wait of a task anew.
-    #[tactic(auto, unfolding(fmp_machine::specs::Arrivals::numbered))]
+    #[tactic(auto, unfolding(fmp_rules::specs::Arrivals::numbered))]
     pub(crate) fn rejoin(&mut self, t: Task, order: Order)
         requires { self.old.order.next + 1 < 2 ^ 64 }
         ensures state { (r : AnyTaskRecord) (left : Option ℕ) → self.new ≡ record self.old { order = rejoin numbered self.old.order order r left t } }

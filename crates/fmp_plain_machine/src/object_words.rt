@@ -1,6 +1,6 @@
 //! The words of the definitions about objects and time, on the plain machine.
 ghost use Rattle.std.specs.Prelude.{◌≡◌};
-ghost use Rattle.fmp_machine.specs.Objects.{pool};
+ghost use Rattle.fmp_rules.specs.Objects.{pool};
 
 use crate::blocks;
 use crate::counts::{lower, objects_over};
@@ -8,8 +8,8 @@ use crate::groups::Group;
 use crate::machine::PlainMachine;
 use arrayvec::ArrayVec;
 use fmp_codes::{Object, Proc, Runner, Task};
-use fmp_machine::{Alarm, Cyclic, DataQueueSetup, Eventflag, Pool, QueueKind, Semaphore, Timer};
-use fmp_primitives::{Objects, Words};
+use fmp_rules::{Alarm, Cyclic, DataQueueSetup, Eventflag, Pool, QueueKind, Semaphore, Timer};
+use fmp_step_words::{Objects, Words};
 
 impl PlainMachine {
     /// A pool.
@@ -22,13 +22,13 @@ impl PlainMachine {
 }
 
 impl Objects for PlainMachine {
-    #[tactic(auto, unfolding(fmp_machine::specs::Arrivals::numbered))]
+    #[tactic(auto, unfolding(fmp_rules::specs::Arrivals::numbered))]
     fn first_waiter(&self, kind: QueueKind, o: Object) -> Option<Task> {
         let order = self.order_in(kind, o);
         self.first_of(Group::Queue(kind, o, order))
     }
 
-    #[tactic(auto, unfolding(fmp_machine::specs::Arrivals::numbered))]
+    #[tactic(auto, unfolding(fmp_rules::specs::Arrivals::numbered))]
     fn waiters(&self, kind: QueueKind, o: Object) -> ArrayVec<Task, 64> {
         let order = self.order_in(kind, o);
         self.members(Group::Queue(kind, o, order))
@@ -171,14 +171,14 @@ impl Objects for PlainMachine {
         self.handlers.timer
     }
 
-    #[tactic(auto, unfolding(fmp_machine::specs::Tick::counted_down))]
+    #[tactic(auto, unfolding(fmp_rules::specs::Tick::counted_down))]
     fn count_down(&mut self, p: Proc) {
         let timer = self.handlers.timer;
         lower(timer, p, self.tasks.records(), &mut self.waits_left);
         self.handlers.count_down(p);
     }
 
-    #[tactic(auto, unfolding(fmp_machine::specs::Arrivals::numbered), using(crate::proofs::Expired::over_in_order))]
+    #[tactic(auto, unfolding(fmp_rules::specs::Arrivals::numbered), using(crate::proofs::Expired::over_in_order))]
     fn expired_waits(&self) -> ArrayVec<Task, 64> {
         self.waits_over()
     }

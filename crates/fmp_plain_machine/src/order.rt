@@ -1,7 +1,7 @@
 //! What comes first, and what comes after it.
 ghost use Rattle.std.specs.Prelude.{◌≡◌, ◌+◌, ◌≤◌, ◌<◌, length, insert};
-ghost use Rattle.fmp_machine.specs.World.{first};
-ghost use Rattle.fmp_machine.specs.Arrivals.{inserted};
+ghost use Rattle.fmp_rules.specs.World.{first};
+ghost use Rattle.fmp_rules.specs.Arrivals.{inserted};
 ghost use Rattle.fmp_plain_machine.specs.Better.{better};
 ghost use Rattle.fmp_plain_machine.specs.Groups.{members, precedes, waits_over};
 
@@ -10,7 +10,7 @@ use crate::groups::{Group, Rule, rule_of, takes};
 use crate::machine::PlainMachine;
 use arrayvec::ArrayVec;
 use fmp_codes::Task;
-use fmp_machine::Order;
+use fmp_rules::Order;
 
 impl PlainMachine {
     /// The task of a group that comes first.

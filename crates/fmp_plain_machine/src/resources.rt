@@ -3,7 +3,7 @@ use crate::data_queues::DataQueues;
 use crate::kept::{copies, each};
 use arrayvec::ArrayVec;
 use fmp_codes::Proc;
-use fmp_machine::{Config, Eventflag, Pool, Semaphore};
+use fmp_rules::{Config, Eventflag, Pool, Semaphore};
 use std::alloc::AllocError;
 
 /// The objects for which tasks wait, and who holds the spin locks, each kind in the order of its numbers.

@@ -1,12 +1,12 @@
 //! What shows of the tasks. Each has a byte for how it stands and one for its processor, so that whoever looks at all of them after each
 //! event compares eight tasks at a time.
 ghost use Rattle.std.specs.Prelude.{◌≡◌, ◌≤◌, length, map};
-ghost use Rattle.fmp_machine.specs.World.{with_item};
+ghost use Rattle.fmp_rules.specs.World.{with_item};
 ghost use Rattle.fmp_plain_machine.specs.Signs.{kind_of, place_of};
 
 use arrayvec::ArrayVec;
 use fmp_codes::Task;
-use fmp_machine::TaskRecord;
+use fmp_rules::TaskRecord;
 
 /// How a task stands: 0 if it is dormant, 1 if it could run, 2 if it waits, 3 if it is suspended, 4 if it waits and is suspended.
 #[inline(always)]

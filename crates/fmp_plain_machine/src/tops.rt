@@ -1,8 +1,8 @@
 //! The records of the tasks, and what comes first on each processor.
 ghost use Rattle.std.specs.Prelude.{◌≡◌, ◌≤◌, ◌-◌, false, IsTrue, None, length, map, slice_index_or};
-ghost use Rattle.fmp_machine.specs.Ordering.{is_runnable};
-ghost use Rattle.fmp_machine.specs.Arrivals.{comes_before, priority_in};
-ghost use Rattle.fmp_machine.specs.World.{item, with_item, no_task, resting};
+ghost use Rattle.fmp_rules.specs.Ordering.{is_runnable};
+ghost use Rattle.fmp_rules.specs.Arrivals.{comes_before, priority_in};
+ghost use Rattle.fmp_rules.specs.World.{item, with_item, no_task, resting};
 ghost use Rattle.fmp_plain_machine.specs.Better.{better};
 ghost use Rattle.fmp_plain_machine.specs.Signs.{kind_of, place_of};
 ghost use Rattle.fmp_plain_machine.specs.Tops.{AreTops, ahead, is_task, raised, rank_of, top_among};
@@ -11,7 +11,7 @@ use crate::kept::each;
 use crate::signs::Signs;
 use arrayvec::ArrayVec;
 use fmp_codes::{Proc, Task};
-use fmp_machine::{TaskRecord, TaskSetup};
+use fmp_rules::{TaskRecord, TaskSetup};
 use std::marker::Model;
 
 /// The records of the tasks, and for each when it last became ready or was put last. What comes first on each processor is looked

@@ -1,11 +1,11 @@
 //! For what tasks wait, and in which order.
 ghost use Rattle.std.specs.Prelude.{◌≡◌};
-ghost use Rattle.fmp_machine.specs.Ordering.{is_in, waits_in, order_in, order_of};
+ghost use Rattle.fmp_rules.specs.Ordering.{is_in, waits_in, order_in, order_of};
 
 use crate::machine::PlainMachine;
 use fmp_codes::Object;
-use fmp_machine::{Order, QueueKind, Wait};
-use fmp_primitives::Objects;
+use fmp_rules::{Order, QueueKind, Wait};
+use fmp_step_words::Objects;
 
 /// Whether a wait is in the queue of an object.
 #[inline(always)]

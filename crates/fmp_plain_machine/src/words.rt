@@ -1,7 +1,7 @@
 //! The words of the definitions, on the plain machine.
 ghost use Rattle.std.specs.Prelude.{◌≡◌, ◌-◌, ◌^◌, ◌≤◌, [], length, map};
-ghost use Rattle.fmp_machine.specs.Arrivals.{Arrivals, numbered};
-ghost use Rattle.fmp_machine.specs.World.{item};
+ghost use Rattle.fmp_rules.specs.Arrivals.{Arrivals, numbered};
+ghost use Rattle.fmp_rules.specs.World.{item};
 ghost use Rattle.fmp_plain_machine.specs.Signs.{kind_of, place_of};
 
 use crate::groups::Group;
@@ -10,12 +10,12 @@ use crate::machine::PlainMachine;
 use crate::tops::is_runnable;
 use arrayvec::ArrayVec;
 use fmp_codes::{Pri, Proc, Runner, Task};
-use fmp_machine::{Limits, Processor, TaskRecord, Wait};
-use fmp_primitives::{Overview, Tops, Words, each_top};
+use fmp_rules::{Limits, Processor, TaskRecord, Wait};
+use fmp_step_words::{Overview, Tops, Words, each_top};
 
 impl PlainMachine {
     /// The ready tasks of a priority on a processor, in their precedence.
-    #[tactic(auto, unfolding(fmp_machine::specs::Arrivals::numbered))]
+    #[tactic(auto, unfolding(fmp_rules::specs::Arrivals::numbered))]
     pub fn ready(&self, p: Proc, priority: Pri) -> ArrayVec<Task, 64>
         ensures { result.items ≡ numbered.ready self.now.order self.now.tasks p priority }
     {
@@ -83,12 +83,12 @@ impl Words for PlainMachine {
         due.head()
     }
 
-    #[tactic(auto, unfolding(fmp_machine::specs::Arrivals::numbered))]
+    #[tactic(auto, unfolding(fmp_rules::specs::Arrivals::numbered))]
     fn top(&self, p: Proc) -> Option<Task> {
         self.tasks.top(p)
     }
 
-    #[tactic(auto, unfolding(fmp_machine::specs::Arrivals::numbered))]
+    #[tactic(auto, unfolding(fmp_rules::specs::Arrivals::numbered))]
     fn first_ready(&self, p: Proc, priority: Pri) -> Option<Task> {
         self.first_of(Group::ReadyAt(p, priority))
     }
@@ -119,7 +119,7 @@ impl Words for PlainMachine {
         self.tasks.set(t, changed);
     }
 
-    #[tactic(auto, unfolding(fmp_machine::specs::Arrivals::numbered))]
+    #[tactic(auto, unfolding(fmp_rules::specs::Arrivals::numbered))]
     fn place(&mut self, t: Task, changed: TaskRecord) {
         if is_runnable(&changed) {
             self.put_last(t, changed);
@@ -128,13 +128,13 @@ impl Words for PlainMachine {
         }
     }
 
-    #[tactic(auto, unfolding(fmp_machine::specs::Arrivals::numbered))]
+    #[tactic(auto, unfolding(fmp_rules::specs::Arrivals::numbered))]
     fn end_wait(&mut self, t: Task, changed: TaskRecord) {
         self.set_wait_left(t, None);
         self.place(t, changed);
     }
 
-    #[tactic(auto, unfolding(fmp_machine::specs::Arrivals::numbered))]
+    #[tactic(auto, unfolding(fmp_rules::specs::Arrivals::numbered))]
     fn begin_wait(&mut self, t: Task, wait: Wait, left: Option<u64>) {
         let task = self.task(t);
         self.set_task(
@@ -148,7 +148,7 @@ impl Words for PlainMachine {
         self.join(t);
     }
 
-    #[tactic(auto, unfolding(fmp_machine::specs::Arrivals::numbered))]
+    #[tactic(auto, unfolding(fmp_rules::specs::Arrivals::numbered))]
     fn requeue(&mut self, t: Task, changed: TaskRecord) {
         match self.queue_order(t) {
             None => self.place(t, changed),

@@ -1,5 +1,5 @@
 //! Ready queues: the tasks that are ready on each processor, in their precedence. The kernel calls neither `rotate` nor `word`,
-//! which are this part's own surface: a call's rule stands in `fmp_machine/specs`.
+//! which are this part's own surface: a call's rule stands in `fmp_rules/specs`.
 //!
 //! Contracts see a list of tasks for each processor and priority (`lists`, at `list_number`). No task stands in two lists, nor
 //! twice in one.
@@ -14,15 +14,15 @@ ghost use Rattle.std.specs.Int.{bit_at};
 ghost use Rattle.fmp_codes.specs.Numbers.{task_number};
 ghost use Rattle.fmp_codes.specs.declared.numbers.Pri.{Pri as AnyPri};
 ghost use Rattle.fmp_codes.specs.declared.numbers.Task.{Task as AnyTask};
-ghost use Rattle.fmp_links.specs.Lists.{first_of};
-ghost use Rattle.fmp_links.specs.Tasks.{has_task};
+ghost use Rattle.fmp_kernel_links.specs.Lists.{first_of};
+ghost use Rattle.fmp_kernel_links.specs.Tasks.{has_task};
 ghost use Rattle.fmp_ready.specs.Queues.{list_number, queue_at, push_last, take_out, rotated, top_of, top_at, bit_of, AreDisjoint};
 ghost use Rattle.fmp_ready.specs.Kept.{tasks_of, IsKept};
 
 use arrayvec::ArrayVec;
 use fmp_codes::{Pri, Proc, Task};
-use fmp_links::Links;
-use fmp_parts::{Digest, Part};
+use fmp_kernel_links::Links;
+use fmp_kernel_parts::{Digest, Part};
 use std::marker::Model;
 
 /// A list of tasks for each processor and priority. No task stands in two lists.

@@ -1,8 +1,8 @@
 -- A semaphore with the tasks that wait for it.
 use Rattle.std.specs.Prelude.{◌≡◌, ◌+◌, ◌-◌, ◌&&◌, Bool, true, Option, None, Some, List, nat_le, if◌then◌else◌, is_none, map}
 use Rattle.fmp_codes.specs.declared.numbers.Task.{Task}
-use Rattle.fmp_machine.specs.declared.machine.Semaphore.{Semaphore}
-use Rattle.fmp_machine.specs.World.{first}
+use Rattle.fmp_rules.specs.declared.machine.Semaphore.{Semaphore}
+use Rattle.fmp_rules.specs.World.{first}
 use Rattle.fmp_waitq.specs.Queue.{Waiter, task_of, has_waiter, left_by}
 use Rattle.fmp_sem.specs.declared.operations.Signal.{Signal}
 use Rattle.fmp_sem.specs.declared.operations.Signal.TheVariants as signal

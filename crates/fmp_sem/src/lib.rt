@@ -7,7 +7,7 @@
 #![tactic(auto)]
 
 ghost use Rattle.std.specs.Prelude.{◌≡◌, map, []};
-ghost use Rattle.fmp_links.specs.Tasks.{AreDistinct};
+ghost use Rattle.fmp_kernel_links.specs.Tasks.{AreDistinct};
 ghost use Rattle.fmp_waitq.specs.Queue.{task_of, has_waiter, left_by, joined_by, waiter_of};
 ghost use Rattle.fmp_sem.specs.Semaphores.{waiter, WaitsAtZero};
 
@@ -15,9 +15,9 @@ mod operations;
 
 use arrayvec::ArrayVec;
 use fmp_codes::{Pri, Task};
-use fmp_machine::{Semaphore, SemaphoreSetup};
-use fmp_parts::{Digest, Part};
-use fmp_same::Same;
+use fmp_kernel_parts::{Digest, Part};
+use fmp_kernel_same::Same;
+use fmp_rules::{Semaphore, SemaphoreSetup};
 use fmp_waitq::WaitQueue;
 pub use operations::Signal;
 use std::marker::Model;

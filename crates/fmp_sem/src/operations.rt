@@ -1,4 +1,4 @@
-//! The operations on a semaphore alone, which the kernel does not call: a call's rule stands in `fmp_machine/specs`. They are
+//! The operations on a semaphore alone, which the kernel does not call: a call's rule stands in `fmp_rules/specs`. They are
 //! this part's own surface.
 ghost use Rattle.std.specs.Prelude.{◌≡◌, true, false, nat_lt};
 ghost use Rattle.fmp_waitq.specs.Queue.{has_waiter, put_ranked, joined_by, waiter_of};

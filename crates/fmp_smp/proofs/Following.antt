@@ -16,21 +16,21 @@ use Rattle.fmp_setup.specs.declared.setup.Timer.{Timer}
 use Rattle.fmp_setup.specs.declared.setup.Timer.TheVariants.{Local, Global}
 use Rattle.fmp_setup.specs.Setup.{Setup}
 use Rattle.fmp_setup.specs.Valid.{IsValid, IsTimerOf}
-use Rattle.fmp_scripts.specs.Scripts.{Steps}
+use Rattle.fmp_text_scripts.specs.Scripts.{Steps}
 use Rattle.fmp_smp.specs.declared.seeded.Mover.{Mover}
 use Rattle.fmp_smp.specs.declared.seeded.Mover.TheVariants.{Cpu, Clock}
 use Rattle.fmp_smp.specs.Rounds.{Rounds, first_ticked, ticked, rounds_of, is_over, next_of, after_record, ticks_taken}
 use Rattle.fmp_smp.specs.Seeds.{state_at, number_at, cpu_of, cpus_of, movers, drawn, event_of, event_drawn, IsInOrderOf, CanMove, Moves, Goes, GoesOn}
 use Rattle.fmp_smp.proofs.Moving.{choice_own, told_event, order_more}
 use Rattle.fmp_smp.proofs.Shares.{share}
-use Rattle.fmp_histories.specs.Counted as history
-use Rattle.fmp_histories.specs.Counted.{taken}
-use Rattle.fmp_histories.specs.Histories.{state_after, IsRunOf}
-use Rattle.fmp_histories.specs.Positions.{is_tick_of}
-use Rattle.fmp_histories.specs.Scripted.{choice}
+use Rattle.fmp_smp_histories.specs.Counted as history
+use Rattle.fmp_smp_histories.specs.Counted.{taken}
+use Rattle.fmp_smp_histories.specs.Histories.{state_after, IsRunOf}
+use Rattle.fmp_smp_histories.specs.Positions.{is_tick_of}
+use Rattle.fmp_smp_histories.specs.Scripted.{choice}
 use Rattle.fmp_world.specs.Turns.{opening, told_after}
 use Rattle.fmp_world.specs.Views.{History}
-use Rattle.fmp_histories.proofs.Histories.{run_more}
+use Rattle.fmp_smp_histories.proofs.Histories.{run_more}
 use Rattle.fmp_world.proofs.Receipts.{taken_more}
 use Rattle.fmp_world.specs.Findings.{is_taken_tick}
 use Rattle.rand_xoshiro.specs.SplitMix64.{mix_u64, next_state}

@@ -10,7 +10,7 @@ use Rattle.fmp_smp.proofs.Moving.{turn_moves, tick_moves}
 use Rattle.fmp_smp.proofs.Seating.{seat_own, turn_full, turn_seated, tick_full, tick_seated}
 use Rattle.fmp_world.specs.declared.seats.Turn.{Turn}
 use Rattle.fmp_world.specs.declared.seats.Turn.TheVariants.{Made, Nothing, Full}
-use Rattle.fmp_histories.specs.Scripted.{choice}
+use Rattle.fmp_smp_histories.specs.Scripted.{choice}
 use Rattle.fmp_world.specs.Turns.{Turns}
 use Rattle.fmp_world.specs.Views.{History, Seat, ClockSeat}
 

@@ -1,6 +1,6 @@
 -- Turns and ticks as moves, and a history that is one record longer.
 use Rattle.std.proofs.Common.{◌≡◌, ℕ, zero, suc, ◌+◌, ◌==◌, Bool, true, false, List, [], ◌∷◌, ◌++◌, length, take, Option, Some, None, slice_get, cond, ◌⊎◌, inl, inr, refl, ap, sym, ◌∙◌}
-use Rattle.fmp_machine.proofs.Replays.{step_event}
+use Rattle.fmp_rules.proofs.Replays.{step_event}
 use Rattle.fmp_codes.specs.Records.{processor_of, is_taken, is_tick}
 use Rattle.fmp_codes.specs.declared.numbers.Proc.{Proc}
 use Rattle.fmp_codes.specs.declared.records.Event.{Event}
@@ -8,16 +8,16 @@ use Rattle.fmp_codes.specs.declared.records.Event.TheVariants as event
 use Rattle.fmp_codes.specs.declared.records.Record.{Record}
 use Rattle.fmp_codes.specs.declared.records.Runner.{Runner}
 use Rattle.fmp_setup.specs.Setup.{Setup}
-use Rattle.fmp_scripts.specs.Scripts.{Steps}
+use Rattle.fmp_text_scripts.specs.Scripts.{Steps}
 use Rattle.fmp_smp.specs.declared.seeded.Mover.TheVariants.{Cpu, Clock}
 use Rattle.fmp_smp.specs.Rounds.{Rounds, next_of, after_record, Gives}
 use Rattle.fmp_smp.specs.Seeds.{number_at, event_drawn, IsInOrderOf, Moves}
 use Rattle.fmp_world.specs.declared.seats.Receipt.{Receipt}
 use Rattle.fmp_world.specs.declared.seats.Turn.TheVariants.{Made}
 use Rattle.fmp_world.specs.Ends.{is_of_cpu}
-use Rattle.fmp_histories.specs.Histories.{state_after}
-use Rattle.fmp_histories.specs.Positions.{is_tick_of}
-use Rattle.fmp_histories.specs.Scripted.{choice, next_call, asked_at, position_of}
+use Rattle.fmp_smp_histories.specs.Histories.{state_after}
+use Rattle.fmp_smp_histories.specs.Positions.{is_tick_of}
+use Rattle.fmp_smp_histories.specs.Scripted.{choice, next_call, asked_at, position_of}
 use Rattle.fmp_world.specs.Turns.{told_after, Turns}
 use Rattle.fmp_world.specs.Views.{History, Seat, ClockSeat}
 use Rattle.fmp_world.specs.Findings.{is_taken_tick}

@@ -9,7 +9,7 @@ use Rattle.fmp_codes.specs.declared.records.Event.TheVariants as event
 use Rattle.fmp_codes.proofs.Same.{processors_same}
 use Rattle.fmp_codes.specs.Records.{is_tick}
 use Rattle.fmp_setup.specs.Setup.{Setup}
-use Rattle.fmp_scripts.specs.Scripts.{Steps}
+use Rattle.fmp_text_scripts.specs.Scripts.{Steps}
 use Rattle.fmp_smp.specs.Seeds.{AreSeated}
 use Rattle.fmp_smp.proofs.Moving.{IsOwn, choice_own, told_event}
 use Rattle.fmp_world.specs.declared.seats.Receipt.{Receipt}

@@ -12,15 +12,15 @@ use Rattle.fmp_codes.specs.declared.records.Record.{Record}
 use Rattle.fmp_codes.specs.declared.records.Runner.{Runner}
 use Rattle.fmp_setup.specs.declared.setup.Timer.{Timer}
 use Rattle.fmp_setup.specs.declared.setup.Timer.TheVariants.{Local, Global}
-use Rattle.fmp_machine.specs.Arrivals.{numbered}
-use Rattle.fmp_machine.specs.Boot.{booted}
+use Rattle.fmp_rules.specs.Arrivals.{numbered}
+use Rattle.fmp_rules.specs.Boot.{booted}
 use Rattle.fmp_setup.specs.Setup.{Setup, has_time}
-use Rattle.fmp_machine.specs.Step.{replay}
+use Rattle.fmp_rules.specs.Step.{replay}
 use Rattle.fmp_setup.specs.Valid.{IsValid}
-use Rattle.fmp_machine.specs.World.{processor, runner_of, is_held}
-use Rattle.fmp_safety.proofs.Booted.{runs_safe}
-use Rattle.fmp_safety.specs.Safe.{Safe, SafeAt}
-use Rattle.fmp_scripts.specs.Scripts.{Steps}
+use Rattle.fmp_rules.specs.World.{processor, runner_of, is_held}
+use Rattle.fmp_law_safety.proofs.Booted.{runs_safe}
+use Rattle.fmp_law_safety.specs.Safe.{Safe, SafeAt}
+use Rattle.fmp_text_scripts.specs.Scripts.{Steps}
 use Rattle.fmp_smp.specs.declared.seeded.Mover.TheVariants.{Cpu, Clock}
 use Rattle.fmp_smp.specs.Rounds.{Rounds, first_ticked, ticked, rounds_of, is_over, ticks_taken}
 use Rattle.fmp_smp.specs.Seeds.{cpu_of, cpus_of, movers, IsInOrderOf, AreSeated, GoesOn}
@@ -28,11 +28,11 @@ use Rattle.fmp_smp.proofs.Following.{Follows}
 use Rattle.fmp_smp.proofs.Shares.{share, share_all, share_within}
 use Rattle.fmp_world.specs.declared.finishing.SmpRun.{SmpRun}
 use Rattle.fmp_world.specs.Ends.{TicksWithin, TicksAre, EndsQuiet, IsWhole}
-use Rattle.fmp_histories.specs.Histories.{events_of, state_after, IsRunOf, is_idle}
-use Rattle.fmp_histories.specs.Scripted.{choice, next_call}
+use Rattle.fmp_smp_histories.specs.Histories.{events_of, state_after, IsRunOf, is_idle}
+use Rattle.fmp_smp_histories.specs.Scripted.{choice, next_call}
 use Rattle.fmp_world.specs.Turns.{is_full}
 use Rattle.fmp_world.specs.Views.{History, Seat, ClockSeat}
-use Rattle.fmp_histories.proofs.Histories.{count_after}
+use Rattle.fmp_smp_histories.proofs.Histories.{count_after}
 use Rattle.fmp_world.proofs.Judging.{fullness}
 
 -- ---- who has nothing to do is idle

@@ -5,14 +5,14 @@ use Rattle.fmp_codes.specs.declared.records.Event.{Event}
 use Rattle.fmp_codes.specs.declared.records.Event.TheVariants.{Tick}
 use Rattle.fmp_codes.specs.declared.records.Record.{Record}
 use Rattle.fmp_setup.specs.Setup.{Setup}
-use Rattle.fmp_scripts.specs.Scripts.{Steps}
+use Rattle.fmp_text_scripts.specs.Scripts.{Steps}
 use Rattle.fmp_smp.specs.declared.seeded.Mover.{Mover}
 use Rattle.fmp_smp.specs.declared.seeded.Mover.TheVariants.{Cpu, Clock}
 use Rattle.fmp_smp.specs.Rounds.{Rounds, rounds_of, is_over, next_of, after_record, ticks_taken}
 use Rattle.fmp_world.specs.declared.seats.Turn.{Turn}
 use Rattle.fmp_world.specs.declared.seats.Turn.TheVariants.{Made}
 use Rattle.fmp_world.specs.Ends.{AreSeats}
-use Rattle.fmp_histories.specs.Scripted.{choice}
+use Rattle.fmp_smp_histories.specs.Scripted.{choice}
 use Rattle.fmp_world.specs.Turns.{is_full, told_after}
 use Rattle.fmp_world.specs.Views.{History, Seat, ClockSeat}
 use Rattle.rand_xoshiro.specs.SplitMix64.{mix_u64, next_state}

@@ -4,8 +4,8 @@ ghost use Rattle.fmp_smp.specs.Rounds.{Gives, Takes, TicksInTurn, rounds_of};
 ghost use Rattle.fmp_world.specs.Ends.{IsSmpRun, IsWhole};
 
 use crate::rounds::{Rounds, take_turn};
-use fmp_machine::Config;
-use fmp_scripts::Scripts;
+use fmp_rules::Config;
+use fmp_text_scripts::Scripts;
 use fmp_world::{Clock, Cpu, Seats, SmpRun, Turn, World};
 use std::marker::Model;
 

@@ -3,7 +3,7 @@ ghost use Rattle.std.specs.Prelude.{◌≡◌, ◌≤◌, ◌+◌};
 ghost use Rattle.fmp_smp.specs.Rounds as spec;
 
 use fmp_codes::{Answer, Proc};
-use fmp_machine::{Config, Timer};
+use fmp_rules::{Config, Timer};
 use fmp_world::{Clock, Cpu, Turn, World};
 use std::marker::Model;
 

@@ -4,7 +4,7 @@ use Rattle.std.specs.List.{position}
 use Rattle.fmp_codes.specs.Numbers.{as_object}
 use Rattle.fmp_codes.specs.declared.numbers.Proc.{Proc}
 use Rattle.fmp_codes.specs.declared.numbers.Object.{Object}
-use Rattle.fmp_machine.specs.Processors.{is_at}
+use Rattle.fmp_rules.specs.Processors.{is_at}
 
 -- the holder of a lock after a processor freed what it held
 abbrev pub freed : Proc → Option Proc → Option Proc

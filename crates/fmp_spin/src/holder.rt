@@ -1,7 +1,7 @@
 //! The holders of spin locks.
 ghost use Rattle.std.specs.Prelude.{◌≡◌, ◌≤◌, None, map, replicate};
 ghost use Rattle.std.specs.List.{position};
-ghost use Rattle.fmp_machine.specs.Processors.{is_at};
+ghost use Rattle.fmp_rules.specs.Processors.{is_at};
 ghost use Rattle.fmp_spin.specs.Locks.{freed};
 
 use arrayvec::ArrayVec;

@@ -1,8 +1,8 @@
-//! The operations on one spin lock, which the kernel does not call: a call's rule stands in `fmp_machine/specs`. They are
+//! The operations on one spin lock, which the kernel does not call: a call's rule stands in `fmp_rules/specs`. They are
 //! this part's own surface.
 ghost use Rattle.std.specs.Prelude.{◌≡◌, ◌≤◌, not, Some, None, length, is_some, if◌then◌else◌};
-ghost use Rattle.fmp_machine.specs.World.{item, with_item};
-ghost use Rattle.fmp_machine.specs.Processors.{is_at};
+ghost use Rattle.fmp_rules.specs.World.{item, with_item};
+ghost use Rattle.fmp_rules.specs.Processors.{is_at};
 ghost use Rattle.fmp_spin.specs.Locks.{held_by};
 
 use crate::holder::{first_held, is_at};

@@ -1,15 +1,15 @@
 //! All spin locks.
 ghost use Rattle.std.specs.Prelude.{◌≡◌, ◌≤◌, Some, None, length, map, replicate};
 ghost use Rattle.std.specs.List.{list_any};
-ghost use Rattle.fmp_machine.specs.World.{item, with_item};
-ghost use Rattle.fmp_machine.specs.Processors.{is_at};
+ghost use Rattle.fmp_rules.specs.World.{item, with_item};
+ghost use Rattle.fmp_rules.specs.Processors.{is_at};
 ghost use Rattle.fmp_spin.specs.Locks.{freed};
 
 use crate::holder::{all_free, free_all, is_at};
 use arrayvec::ArrayVec;
 use fmp_codes::{Object, Proc};
-use fmp_parts::{Digest, Part};
-use fmp_same::{add_each, are_equal};
+use fmp_kernel_parts::{Digest, Part};
+use fmp_kernel_same::{add_each, are_equal};
 use std::marker::Model;
 
 /// The spin locks, in the order of their numbers, with the processor that holds each. There are at most 32.

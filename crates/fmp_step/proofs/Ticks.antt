@@ -4,10 +4,10 @@ use Rattle.fmp_codes.specs.declared.numbers.Proc.{Proc}
 use Rattle.fmp_codes.specs.declared.numbers.Task.{Task}
 use Rattle.fmp_codes.specs.declared.numbers.Object.{Object}
 use Rattle.fmp_codes.specs.declared.records.Answer.TheVariants as answer
-use Rattle.fmp_machine.specs.World.{World}
-use Rattle.fmp_machine.specs.Ordering.{Ordering}
-use Rattle.fmp_machine.specs.Rows.{plain}
-use Rattle.fmp_machine.specs.Tick.{tasks_expired, expired, released, alarms_due, cyclics_due, with_handlers_due, ticked}
+use Rattle.fmp_rules.specs.World.{World}
+use Rattle.fmp_rules.specs.Ordering.{Ordering}
+use Rattle.fmp_rules.specs.Rows.{plain}
+use Rattle.fmp_rules.specs.Tick.{tasks_expired, expired, released, alarms_due, cyclics_due, with_handlers_due, ticked}
 
 -- where nothing has 0 ticks left, it changes nothing and releases no task
 pub nothing_ticked : {Q : Type 0} (k : Ordering Q) (w : World Q) (p : Proc) → tasks_expired w.waits_left (k.timed w.order w.waits_left) ≡ [] →

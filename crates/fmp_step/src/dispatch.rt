@@ -1,10 +1,10 @@
 //! The end of an event: which processors run another task or are sent a request.
 ghost use Rattle.std.specs.Prelude.{◌≡◌};
-ghost use Rattle.fmp_machine.specs.Step.{is_same, is_requested, requests, latched, dispatched, settle, changed_run};
+ghost use Rattle.fmp_rules.specs.Step.{is_same, is_requested, requests, latched, dispatched, settle, changed_run};
 
 use fmp_codes::{Proc, Requests, Task};
-use fmp_machine::Processor;
-use fmp_primitives::{Overview, Tops, Words, is_held};
+use fmp_rules::Processor;
+use fmp_step_words::{Overview, Tops, Words, is_held};
 
 /// Whether both are the same task, or neither is one.
 fn is_same(a: Option<Task>, b: Option<Task>) -> bool

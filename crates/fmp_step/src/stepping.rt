@@ -1,17 +1,17 @@
 //! One step of a machine.
 ghost use Rattle.std.specs.Prelude.{◌≡◌, ◌+◌, ◌≤◌, [], if◌then◌else◌};
-ghost use Rattle.fmp_machine.specs.Effects.{TellsOnce, adding};
+ghost use Rattle.fmp_rules.specs.Effects.{TellsOnce, adding};
 ghost use Rattle.fmp_setup.specs.Setup.{has_time};
-ghost use Rattle.fmp_machine.specs.World.{processor, runner_of};
-ghost use Rattle.fmp_machine.specs.Step.{before_event, settled, unchanged, step};
+ghost use Rattle.fmp_rules.specs.World.{processor, runner_of};
+ghost use Rattle.fmp_rules.specs.Step.{before_event, settled, unchanged, step};
 ghost use Rattle.fmp_step.specs.Before.{seen};
 
 use crate::dispatch::{changed_run, settle};
 use crate::family;
 use crate::tick::tick;
 use fmp_codes::{Answer, Call, Event, Proc, Record, Requests, Task};
-use fmp_machine::{Effect, Timer};
-use fmp_primitives::{Overview, Tops, Words, is_held, runner};
+use fmp_rules::{Effect, Timer};
+use fmp_step_words::{Overview, Tops, Words, is_held, runner};
 
 /// What is remembered of the state before an event, besides what its record tells.
 #[derive(Drop)]
@@ -21,7 +21,7 @@ struct Before {
 }
 
 /// What is remembered of the state before an event on q, whose record tells the event and who could make a call.
-#[tactic(auto, unfolding(fmp_machine::specs::Step::before_event))]
+#[tactic(auto, unfolding(fmp_rules::specs::Step::before_event))]
 fn before_event<M: Overview>(machine: &M, q: Proc, told: &Record) -> Before
     requires runner { told.now.runner ≡ runner_of (M.world machine.now) q }
     ensures { seen told.now q result ≡ before_event M.ordering (M.world machine.now) told.now.event q }
@@ -33,7 +33,7 @@ fn before_event<M: Overview>(machine: &M, q: Proc, told: &Record) -> Before
 }
 
 /// The end of an event on q that did this, and ended the waits that are told already.
-#[tactic(auto, unfolding(fmp_machine::specs::Step::settled))]
+#[tactic(auto, unfolding(fmp_rules::specs::Step::settled))]
 fn settled<M: Overview>(
     machine: &mut M,
     q: Proc,
@@ -57,7 +57,7 @@ fn settled<M: Overview>(
 }
 
 /// Makes the record of an event that changes nothing. It tells the event and who could make a call already.
-#[tactic(auto, unfolding(fmp_machine::specs::Step::unchanged))]
+#[tactic(auto, unfolding(fmp_rules::specs::Step::unchanged))]
 fn unchanged<M: Words>(machine: &M, q: Proc, answer: Answer, told: &mut Record)
     requires empty { told.old.releases ≡ [] }
     requires runner { told.old.runner ≡ runner_of (M.world machine.now) q }

@@ -1,8 +1,8 @@
 -- The records of the tasks as a map, and the states of a task.
 use Rattle.std.specs.Prelude.{Bool, not, List, is_some}
 use Rattle.fmp_codes.specs.declared.numbers.Task.{Task}
-use Rattle.fmp_machine.specs.declared.machine.TaskRecord.{TaskRecord}
-use Rattle.fmp_machine.specs.World.{item, with_item, no_task}
+use Rattle.fmp_rules.specs.declared.machine.TaskRecord.{TaskRecord}
+use Rattle.fmp_rules.specs.World.{item, with_item, no_task}
 
 abbrev pub record_of : List TaskRecord → Task → TaskRecord
 record_of tasks t = item no_task tasks t.number

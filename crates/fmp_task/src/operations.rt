@@ -1,13 +1,13 @@
-//! The operations on one task, which the kernel does not call: a call's rule stands in `fmp_machine/specs`. They are this part's
+//! The operations on one task, which the kernel does not call: a call's rule stands in `fmp_rules/specs`. They are this part's
 //! own surface: how a task changes, each way under the condition that its state sets.
 ghost use Rattle.std.specs.Prelude.{◌≡◌, ◌+◌, ◌<◌, Some, None, true, false};
-ghost use Rattle.fmp_machine.specs.Ordering.{is_runnable};
-ghost use Rattle.fmp_machine.specs.Tasks.{started, ended};
+ghost use Rattle.fmp_rules.specs.Ordering.{is_runnable};
+ghost use Rattle.fmp_rules.specs.Tasks.{started, ended};
 ghost use Rattle.fmp_task.specs.States.{record_of, with_record, is_dormant, is_waiting, is_suspended};
 
 use crate::tasks::Tasks;
 use fmp_codes::{Pri, Proc, Task};
-use fmp_machine::{TaskRecord, Wait};
+use fmp_rules::{TaskRecord, Wait};
 
 impl Tasks {
     /// Starts a dormant task on a processor.

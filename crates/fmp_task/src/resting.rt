@@ -1,9 +1,9 @@
 //! Tasks before any of them is started.
 ghost use Rattle.std.specs.Prelude.{◌≡◌, ◌≤◌, length, map};
-ghost use Rattle.fmp_machine.specs.World.{resting};
+ghost use Rattle.fmp_rules.specs.World.{resting};
 
 use arrayvec::ArrayVec;
-use fmp_machine::{TaskRecord, TaskSetup};
+use fmp_rules::{TaskRecord, TaskSetup};
 
 /// The records of dormant tasks, in the order of their setups.
 pub(crate) fn all_resting(setups: &[TaskSetup]) -> ArrayVec<TaskRecord, 64>

@@ -1,13 +1,13 @@
 //! The records of all tasks.
 ghost use Rattle.std.specs.Prelude.{◌≡◌, ◌≤◌, length, map};
-ghost use Rattle.fmp_machine.specs.World.{item, with_item, no_task, resting};
+ghost use Rattle.fmp_rules.specs.World.{item, with_item, no_task, resting};
 
 use crate::resting::all_resting;
 use arrayvec::ArrayVec;
 use fmp_codes::Task;
-use fmp_machine::{TaskRecord, TaskSetup};
-use fmp_parts::{Digest, Part};
-use fmp_same::{add_each, are_equal};
+use fmp_kernel_parts::{Digest, Part};
+use fmp_kernel_same::{add_each, are_equal};
+use fmp_rules::{TaskRecord, TaskSetup};
 use std::marker::Model;
 
 /// The records of the tasks, in the order of their numbers. There are at most 64.
@@ -18,7 +18,7 @@ pub struct Tasks {
 
 impl Model for Tasks {
     ghost use Rattle.std.specs.Prelude.{◌≤◌, List, length};
-    ghost use Rattle.fmp_machine.specs.declared.machine.TaskRecord.{TaskRecord as AnyTaskRecord};
+    ghost use Rattle.fmp_rules.specs.declared.machine.TaskRecord.{TaskRecord as AnyTaskRecord};
 
     ghost Value = { List AnyTaskRecord };
 

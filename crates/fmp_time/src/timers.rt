@@ -1,5 +1,5 @@
 //! The timers. The kernel does not call `tick`, which is this part's own surface: the rule of a tick
-//! stands in `fmp_machine/specs`.
+//! stands in `fmp_rules/specs`.
 ghost use Rattle.std.specs.Prelude.{◌≡◌, None, [], false, true, filter, is_some};
 ghost use Rattle.std.specs.Option.{option_map};
 ghost use Rattle.fmp_time.specs.declared.item.Item.{Item as AnyItem};
@@ -11,8 +11,8 @@ use crate::item::Item;
 use crate::serving::{marked_objects, marked_waits, marks_of, serve_handlers, serve_waits};
 use arrayvec::ArrayVec;
 use fmp_codes::{Object, Proc, Task};
-use fmp_links::TaskList;
-use fmp_parts::{Digest, Part};
+use fmp_kernel_links::TaskList;
+use fmp_kernel_parts::{Digest, Part};
 use std::marker::Model;
 
 /// For each item that counts its processor and its ticks left, and the waits that count in the order in which they began.

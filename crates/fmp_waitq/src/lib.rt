@@ -1,5 +1,5 @@
 //! Wait queues: the tasks that wait for an object, in the order in which it serves them. The kernel calls all operations but
-//! `reorder`, which serves those of the objects: a call's rule stands in `fmp_machine/specs`.
+//! `reorder`, which serves those of the objects: a call's rule stands in `fmp_rules/specs`.
 //!
 //! Contracts see a queue as its order and a list of waiters, each a task with its rank: its priority in a queue by priority,
 //! and 0 in one by arrival. A lower rank comes first, and of equal ranks the one that joined earlier. No task waits twice in
@@ -10,16 +10,16 @@
 #![tactic(auto)]
 
 ghost use Rattle.std.specs.Prelude.{◌≡◌, ℕ, ◌-◌, false, true, Some, [], map, slice_index};
-ghost use Rattle.fmp_machine.specs.World.{first};
-ghost use Rattle.fmp_links.specs.Tasks.{AreDistinct};
+ghost use Rattle.fmp_rules.specs.World.{first};
+ghost use Rattle.fmp_kernel_links.specs.Tasks.{AreDistinct};
 ghost use Rattle.fmp_waitq.specs.Queue.{task_of, has_waiter, left_by, put_ranked, joined_by, rank_of, waiter_of};
 ghost use Rattle.fmp_waitq.specs.Kept.{spot_in, rank_in};
 
 use arrayvec::ArrayVec;
 use fmp_codes::{Pri, Task};
-use fmp_links::TaskList;
-use fmp_machine::Order;
-use fmp_parts::{Digest, Part};
+use fmp_kernel_links::TaskList;
+use fmp_kernel_parts::{Digest, Part};
+use fmp_rules::Order;
 use std::marker::Model;
 
 /// The waiters of one queue in their order. No task is there twice.

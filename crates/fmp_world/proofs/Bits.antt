@@ -9,11 +9,11 @@ use Rattle.fmp_codes.specs.declared.records.Event.TheVariants as event
 use Rattle.fmp_codes.specs.declared.records.Record.{Record}
 use Rattle.fmp_calls.specs.Arguments.{EventInBits}
 use Rattle.fmp_setup.specs.Setup.{Setup}
-use Rattle.fmp_scripts.specs.Scripts.{Steps, AreInBits}
-use Rattle.fmp_machine.specs.World.{runner_of}
-use Rattle.fmp_histories.specs.Histories.{events_of, state_after}
-use Rattle.fmp_histories.specs.Scripted.{next_call, is_asked, choice, Scripted, IsScripted}
-use Rattle.fmp_histories.proofs.Bits.{EventFits, next_fits, at_each}
+use Rattle.fmp_text_scripts.specs.Scripts.{Steps, AreInBits}
+use Rattle.fmp_rules.specs.World.{runner_of}
+use Rattle.fmp_smp_histories.specs.Histories.{events_of, state_after}
+use Rattle.fmp_smp_histories.specs.Scripted.{next_call, is_asked, choice, Scripted, IsScripted}
+use Rattle.fmp_smp_histories.proofs.Bits.{EventFits, next_fits, at_each}
 
 module _ (c : Setup) (scripts : List Steps) (all : AreInBits scripts) where
   choice_fits : (h : List Record) (p : Proc) → EventFits (choice c scripts h p)

@@ -4,20 +4,20 @@ use Rattle.std.proofs.Math.Seq.{get_or-append_seam}
 use Rattle.std.proofs.Math.ListN.{get_or-append}
 use Rattle.std.proofs.lemmas.List.{get_or-map, length-map}
 use Rattle.fmp_codes.specs.declared.records.Record.{Record}
-use Rattle.fmp_scripts.specs.Scripts.{Steps}
+use Rattle.fmp_text_scripts.specs.Scripts.{Steps}
 use Rattle.fmp_setup.specs.Setup.{Setup}
 use Rattle.fmp_world.specs.declared.finishing.Ended.{Ended}
 use Rattle.fmp_world.specs.declared.finishing.Ended.TheVariants.{Quiet}
 use Rattle.fmp_world.specs.declared.seats.Receipt.{Receipt}
 use Rattle.fmp_world.specs.Ends.{AreReceipts, AreSeats, EndsQuiet, IsSmpRun, IsWhole}
 use Rattle.fmp_setup.specs.Valid.{IsValid}
-use Rattle.fmp_machine.specs.Boot.{booted}
-use Rattle.fmp_safety.specs.Runs.{IsSafeThroughout}
-use Rattle.fmp_safety.proofs.Booted.{runs_safe}
-use Rattle.fmp_headline.specs.Headline.{HeadlineThroughout}
-use Rattle.fmp_headline.proofs.Along.{headline_throughout}
-use Rattle.fmp_histories.specs.Histories.{events_of, IsRunOf}
-use Rattle.fmp_histories.specs.Scripted.{Scripted}
+use Rattle.fmp_rules.specs.Boot.{booted}
+use Rattle.fmp_law_safety.specs.Runs.{IsSafeThroughout}
+use Rattle.fmp_law_safety.proofs.Booted.{runs_safe}
+use Rattle.fmp_law_headline.specs.Headline.{HeadlineThroughout}
+use Rattle.fmp_law_headline.proofs.Along.{headline_throughout}
+use Rattle.fmp_smp_histories.specs.Histories.{events_of, IsRunOf}
+use Rattle.fmp_smp_histories.specs.Scripted.{Scripted}
 use Rattle.fmp_world.proofs.Bits.{events_fit}
 use Rattle.fmp_world.specs.Views.{ClockSeat, History, Seat}
 use Rattle.fmp_world.proofs.Found.{no_seat}

@@ -15,10 +15,10 @@ use Rattle.fmp_codes.proofs.Counters.{set_here, set_there}
 use Rattle.fmp_world.specs.declared.findings.Findings.{Findings}
 use Rattle.fmp_world.specs.declared.seats.Receipt.{Receipt}
 use Rattle.fmp_world.specs.Ends as ends
-use Rattle.fmp_histories.specs.Counted as history
+use Rattle.fmp_smp_histories.specs.Counted as history
 use Rattle.fmp_world.specs.Ends.{is_of_cpu, receipts_from, AreSeats}
 use Rattle.fmp_world.specs.Findings.{seat_of, is_of_seat, told_of, receipts_at, told_at, receipt, is_taken_tick, counted, Begin, ArePassed, AreTaken, Finds, Takes, AllPassed}
-use Rattle.fmp_histories.specs.Histories.{events_of}
+use Rattle.fmp_smp_histories.specs.Histories.{events_of}
 use Rattle.fmp_world.specs.Views.{Seat, ClockSeat}
 use Rattle.fmp_world.proofs.Receipts.{told_too, untold, receipts_same, taken_more}
 

@@ -2,7 +2,7 @@
 use Rattle.std.proofs.Common.{◌≡◌, ℕ, ◌+◌, ◌≤◌, ◌↔◌, ◌⊎◌, Bool, true, false, ◌&&◌, nat_lt, cond, List, length, refl, arith, below_more, IsTrue, Option, Some, None, IsSome, IfSome, Decides}
 use Rattle.fmp_world.specs.declared.finishing.Ended.{Ended}
 use Rattle.fmp_world.specs.declared.finishing.Ended.TheVariants.{Quiet, Limit}
-use Rattle.fmp_scripts.specs.Scripts.{Steps}
+use Rattle.fmp_text_scripts.specs.Scripts.{Steps}
 use Rattle.fmp_codes.specs.Numbers.{as_proc}
 use Rattle.fmp_setup.specs.declared.setup.Timer.{Timer}
 use Rattle.fmp_setup.specs.Setup.{Setup, has_time}
@@ -12,7 +12,7 @@ use Rattle.std.proofs.lemmas.Bool.{and_parts}
 use Rattle.fmp_world.specs.Turns.{is_full}
 use Rattle.fmp_world.specs.Views.{Seat, ClockSeat, History}
 use Rattle.fmp_world.specs.Ends.{TicksWithin, TicksAre, EndsQuiet, AreSeats, IsWhole}
-use Rattle.fmp_histories.specs.Counted.{taken}
+use Rattle.fmp_smp_histories.specs.Counted.{taken}
 
 -- what is known of each i below n, and of n
 pub within_more : (n ticks : ℕ) (h : List Record) → TicksWithin n ticks h → taken (n + 1) h ≤ ticks → TicksWithin (n + 1) ticks h

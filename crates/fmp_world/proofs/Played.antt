@@ -7,15 +7,15 @@ use Rattle.fmp_codes.specs.Records.{processor_of}
 use Rattle.fmp_codes.specs.declared.records.Event.{Event}
 use Rattle.fmp_codes.specs.declared.records.Event.TheVariants as event
 use Rattle.fmp_codes.specs.declared.records.Record.{Record}
-use Rattle.fmp_scripts.specs.Scripts.{Steps}
+use Rattle.fmp_text_scripts.specs.Scripts.{Steps}
 use Rattle.fmp_setup.specs.Setup.{Setup}
-use Rattle.fmp_machine.specs.Arrivals.{numbered}
-use Rattle.fmp_machine.specs.Step.{step}
+use Rattle.fmp_rules.specs.Arrivals.{numbered}
+use Rattle.fmp_rules.specs.Step.{step}
 use Rattle.fmp_world.specs.declared.history.Move.{Move}
 use Rattle.fmp_world.specs.declared.history.Move.TheVariants.{Turn, Tick}
-use Rattle.fmp_histories.specs.Histories.{state_after}
+use Rattle.fmp_smp_histories.specs.Histories.{state_after}
 use Rattle.fmp_world.specs.Moves.{mover_of, moved, recorded, played_one, played_from, added_by, AreMade}
-use Rattle.fmp_histories.specs.Scripted.{IsScripted}
+use Rattle.fmp_smp_histories.specs.Scripted.{IsScripted}
 use Rattle.fmp_world.proofs.Runs.{choice_on, choice_scripted}
 
 module _ (c : Setup) (s : List Steps) where

@@ -6,7 +6,7 @@ use Rattle.fmp_codes.specs.declared.records.Event.{Event}
 use Rattle.fmp_codes.specs.declared.records.Record.{Record}
 use Rattle.fmp_world.specs.declared.seats.Receipt.{Receipt}
 use Rattle.fmp_world.specs.Ends.{receipts_from}
-use Rattle.fmp_histories.specs.Counted.{taken, is_taken_tick}
+use Rattle.fmp_smp_histories.specs.Counted.{taken, is_taken_tick}
 use Rattle.fmp_world.specs.Findings.{receipt}
 
 one_more : (b : Bool) (y : Receipt) (t z : List Receipt) → cond b (y ∷ (t ++ z)) (t ++ z) ≡ cond b (y ∷ t) t ++ z

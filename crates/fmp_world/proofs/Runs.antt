@@ -8,23 +8,23 @@ use Rattle.fmp_codes.specs.declared.records.Event.TheVariants as event
 use Rattle.fmp_codes.specs.declared.records.Record.{Record}
 use Rattle.fmp_codes.specs.declared.records.Runner.{Runner}
 use Rattle.fmp_codes.proofs.Counters.{zeros}
-use Rattle.fmp_scripts.specs.Scripts.{Steps}
+use Rattle.fmp_text_scripts.specs.Scripts.{Steps}
 use Rattle.fmp_setup.specs.Setup.{Setup}
 use Rattle.fmp_setup.specs.Valid.{IsValid}
-use Rattle.fmp_machine.specs.Arrivals.{State, numbered}
-use Rattle.fmp_machine.specs.Step.{step}
-use Rattle.fmp_machine.specs.Boot.{booted}
-use Rattle.fmp_machine.specs.World.{World}
-use Rattle.fmp_machine.proofs.Replays.{step_event}
-use Rattle.fmp_listed.specs.Queues.{Queues}
-use Rattle.fmp_refinement.specs.Stands.{Stands}
-use Rattle.fmp_histories.specs.Histories.{state_after}
-use Rattle.fmp_histories.specs.Positions.{task_position, handler_position}
-use Rattle.fmp_histories.specs.Places.{moved_tasks, moved_handlers}
-use Rattle.fmp_histories.specs.Scripted.{choice, next_call, asked_at, position_of, Scripted, IsScripted}
+use Rattle.fmp_rules.specs.Arrivals.{State, numbered}
+use Rattle.fmp_rules.specs.Step.{step}
+use Rattle.fmp_rules.specs.Boot.{booted}
+use Rattle.fmp_rules.specs.World.{World}
+use Rattle.fmp_rules.proofs.Replays.{step_event}
+use Rattle.fmp_kernel_order.specs.Queues.{Queues}
+use Rattle.fmp_law_lists.specs.Stands.{Stands}
+use Rattle.fmp_smp_histories.specs.Histories.{state_after}
+use Rattle.fmp_smp_histories.specs.Positions.{task_position, handler_position}
+use Rattle.fmp_smp_histories.specs.Places.{moved_tasks, moved_handlers}
+use Rattle.fmp_smp_histories.specs.Scripted.{choice, next_call, asked_at, position_of, Scripted, IsScripted}
 use Rattle.fmp_world.specs.Kept.{KeepsHistory}
-use Rattle.fmp_histories.proofs.Histories.{after_more, run_more}
-use Rattle.fmp_histories.proofs.Advancing.{tasks_moved, handlers_moved}
+use Rattle.fmp_smp_histories.proofs.Histories.{after_more, run_more}
+use Rattle.fmp_smp_histories.proofs.Advancing.{tasks_moved, handlers_moved}
 
 -- the empty history
 pub opening_keeps : (c : Setup) (scripts : List Steps) (k : World Queues) → IsValid c → Stands k (booted c) → KeepsHistory c scripts k (replicate 64 0) (replicate 8 0) []

@@ -5,19 +5,19 @@ use Rattle.fmp_codes.specs.declared.records.Event.{Event}
 use Rattle.fmp_codes.specs.declared.records.Event.TheVariants as event
 use Rattle.fmp_codes.specs.declared.records.Record.{Record}
 use Rattle.fmp_codes.specs.Records.{is_tick}
-use Rattle.fmp_scripts.specs.Scripts.{Steps, AreInBits}
+use Rattle.fmp_text_scripts.specs.Scripts.{Steps, AreInBits}
 use Rattle.fmp_calls.specs.Arguments.{EventInBits}
 use Rattle.fmp_setup.specs.declared.setup.Timer.{Timer}
 use Rattle.fmp_setup.specs.Setup.{Setup, has_time}
-use Rattle.fmp_machine.specs.Boot.{booted}
-use Rattle.fmp_safety.specs.Runs.{IsSafeThroughout}
-use Rattle.fmp_headline.specs.Headline.{HeadlineThroughout}
+use Rattle.fmp_rules.specs.Boot.{booted}
+use Rattle.fmp_law_safety.specs.Runs.{IsSafeThroughout}
+use Rattle.fmp_law_headline.specs.Headline.{HeadlineThroughout}
 use Rattle.fmp_world.specs.declared.seats.Receipt.{Receipt}
 use Rattle.fmp_world.specs.declared.finishing.Ended.{Ended}
 use Rattle.fmp_world.specs.declared.finishing.Ended.TheVariants.{Quiet, Limit}
-use Rattle.fmp_histories.specs.Histories.{events_of, state_after, IsRunOf, IsQuiet}
-use Rattle.fmp_histories.specs.Counted.{taken}
-use Rattle.fmp_histories.specs.Scripted.{Scripted}
+use Rattle.fmp_smp_histories.specs.Histories.{events_of, state_after, IsRunOf, IsQuiet}
+use Rattle.fmp_smp_histories.specs.Counted.{taken}
+use Rattle.fmp_smp_histories.specs.Scripted.{Scripted}
 use Rattle.fmp_world.specs.Views.{History, Seat, ClockSeat}
 
 -- a call or an interrupt of the processor of this number

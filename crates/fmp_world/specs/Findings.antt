@@ -7,7 +7,7 @@ use Rattle.fmp_codes.specs.declared.records.Record.{Record}
 use Rattle.fmp_world.specs.declared.findings.Findings.{Findings}
 use Rattle.fmp_world.specs.declared.seats.Receipt.{Receipt}
 use Rattle.fmp_world.specs.Ends as ends
-use Rattle.fmp_histories.specs.Counted as history
+use Rattle.fmp_smp_histories.specs.Counted as history
 use Rattle.fmp_world.specs.Views.{Seat, ClockSeat}
 
 -- the place of the seat that is told an event: its processor's, or behind the eight of those the clock's

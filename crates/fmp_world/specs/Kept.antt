@@ -3,16 +3,16 @@ use Rattle.std.specs.Prelude.{◌≡◌, ℕ, ◌+◌, ◌<◌, ◌≤◌, List,
 use Rattle.std.specs.Global.{Vec}
 use Rattle.std.specs.Vec.{vec_capacity}
 use Rattle.fmp_codes.specs.declared.records.Record.{Record}
-use Rattle.fmp_scripts.specs.Scripts.{Steps}
+use Rattle.fmp_text_scripts.specs.Scripts.{Steps}
 use Rattle.fmp_setup.specs.Setup.{Setup}
 use Rattle.fmp_setup.specs.Valid.{IsValid}
-use Rattle.fmp_machine.specs.World.{World}
-use Rattle.fmp_listed.specs.Queues.{Queues}
-use Rattle.fmp_refinement.specs.Stands.{Stands}
+use Rattle.fmp_rules.specs.World.{World}
+use Rattle.fmp_kernel_order.specs.Queues.{Queues}
+use Rattle.fmp_law_lists.specs.Stands.{Stands}
 use Rattle.fmp_world.specs.declared.history.Move.{Move}
-use Rattle.fmp_histories.specs.Histories.{IsRunOf, state_after}
-use Rattle.fmp_histories.specs.Counted.{TasksAre, HandlersAre}
-use Rattle.fmp_histories.specs.Scripted.{Scripted}
+use Rattle.fmp_smp_histories.specs.Histories.{IsRunOf, state_after}
+use Rattle.fmp_smp_histories.specs.Counted.{TasksAre, HandlersAre}
+use Rattle.fmp_smp_histories.specs.Scripted.{Scripted}
 use Rattle.fmp_world.specs.Views.{History}
 
 -- the history is a run of the machine, the kernel stands for its end, and its scripts made it

@@ -3,7 +3,7 @@ ghost use Rattle.std.specs.Prelude.{◌≡◌, ◌↔◌, IsTrue};
 
 use crate::seats::Receipt;
 use fmp_codes::{Answer, Code, Event, Proc};
-use fmp_scripts::is_same_call;
+use fmp_text_scripts::is_same_call;
 
 /// Whether two processors are the same.
 fn is_same_processor(one: &Proc, other: &Proc) -> bool

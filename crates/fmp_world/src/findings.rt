@@ -4,7 +4,7 @@ ghost use Rattle.std.specs.Prelude.{◌≡◌, ◌+◌, ◌≤◌, ◌<◌, ◌^
 ghost use Rattle.fmp_codes.specs.Records.{AreOn};
 ghost use Rattle.fmp_codes.specs.declared.records.Record.{Record};
 ghost use Rattle.fmp_world.specs.Views.{Seat, ClockSeat};
-ghost use Rattle.fmp_histories.specs.Histories.{events_of};
+ghost use Rattle.fmp_smp_histories.specs.Histories.{events_of};
 ghost use Rattle.fmp_world.specs.Ends.{AreSeats};
 ghost use Rattle.fmp_world.specs.Findings as spec;
 
@@ -12,7 +12,7 @@ use crate::equality::is_same;
 use crate::replay::Replay;
 use crate::seats::{Cpu, Receipt, Seats};
 use fmp_codes::{Answer, Event, Proc, Record};
-use fmp_histories::is_taken;
+use fmp_smp_histories::is_taken;
 
 /// What was found in the records so far.
 #[derive(Drop)]

@@ -14,8 +14,8 @@ use crate::seats::{Receipt, Seats};
 use crate::world::World;
 use arrayvec::ArrayVec;
 use fmp_codes::Proc;
-use fmp_machine::{Config, Timer};
-use fmp_scripts::Scripts;
+use fmp_rules::{Config, Timer};
+use fmp_text_scripts::Scripts;
 use std::alloc::Global;
 
 /// How a run ended.

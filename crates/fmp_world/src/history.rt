@@ -1,19 +1,19 @@
 //! A history that is a run of the machine, kept as the moves that made it.
 ghost use Rattle.std.specs.Prelude.{◌≡◌, ◌+◌, ◌≤◌, ◌<◌, ◌^◌, [], length, IfOk, Some, None, ℕ, IsTrue, true, ◌↔◌, is_some};
-ghost use Rattle.fmp_histories.specs.Histories.{state_after, is_idle, IsQuiet};
-ghost use Rattle.fmp_refinement.specs.Stands.{Stands};
+ghost use Rattle.fmp_smp_histories.specs.Histories.{state_after, is_idle, IsQuiet};
+ghost use Rattle.fmp_law_lists.specs.Stands.{Stands};
 ghost use Rattle.fmp_world.specs.Kept.{IsKnown};
-ghost use Rattle.fmp_histories.specs.Scripted as scripted;
+ghost use Rattle.fmp_smp_histories.specs.Scripted as scripted;
 ghost use Rattle.fmp_world.specs.Moves as moves;
 ghost use Rattle.fmp_world.specs.Turns.{AddsRecord, opening, is_full, told_after};
 
 use crate::replay::Replay;
 use crate::seats::Receipt;
 use fmp_codes::{Event, Proc, Record, Runner};
-use fmp_histories::{advance_handler, advance_task, asked_at};
 use fmp_kernel::Kernel;
-use fmp_machine::{Config, Timer};
-use fmp_scripts::Scripts;
+use fmp_rules::{Config, Timer};
+use fmp_smp_histories::{advance_handler, advance_task, asked_at};
+use fmp_text_scripts::Scripts;
 use std::alloc::{AllocError, Global};
 use std::marker::Model;
 

@@ -1,8 +1,8 @@
 //! The world: a history whose turns and ticks are told to seats.
 ghost use Rattle.std.specs.Prelude.{◌≡◌, ◌+◌, ◌≤◌, ◌<◌, [], ◌∷◌, ◌++◌, length, IfOk, Some, None, List, MatchOption, IsTrue, ◌↔◌, is_some};
 ghost use Rattle.fmp_codes.specs.declared.records.Record.{Record};
-ghost use Rattle.fmp_histories.specs.Histories.{state_after, IsQuiet};
-ghost use Rattle.fmp_histories.specs.Scripted as scripted;
+ghost use Rattle.fmp_smp_histories.specs.Histories.{state_after, IsQuiet};
+ghost use Rattle.fmp_smp_histories.specs.Scripted as scripted;
 ghost use Rattle.fmp_world.specs.Views.{Seat, ClockSeat};
 ghost use Rattle.fmp_world.specs.Turns.{Turns, Ticks, opening, IsOpening};
 
@@ -10,8 +10,8 @@ use crate::history::{History, Move};
 use crate::seats::{Clock, Cpu, Seats, Turn};
 use arrayvec::ArrayVec;
 use fmp_codes::{Answer, Event, Proc, Record};
-use fmp_machine::Config;
-use fmp_scripts::Scripts;
+use fmp_rules::Config;
+use fmp_text_scripts::Scripts;
 use std::alloc::{AllocError, Global};
 use std::marker::Model;
 

@@ -2,17 +2,17 @@
 //! or trace are read once more; the configuration was kept, since it may come from a pipe.
 use crate::lines::{tell_placed, tell_plainly};
 use crate::texts::STANDARD_INPUT;
+use fmp_cli::Paths;
+use fmp_cli_diagnostics::{LineForm, Spot};
+use fmp_cli_hints::{TextForm, question_context, text_advice, text_context, text_spot};
+use fmp_cli_hints_config::{config_context, config_spot, script_hint};
 use fmp_config::{Config, ConfigFault, MOST_BYTES as MOST_CONFIG_BYTES, read_config};
-use fmp_config_context::{config_context, config_spot, script_hint};
-use fmp_context::{TextForm, question_context, text_advice, text_context, text_spot};
-use fmp_diagnostics::{LineForm, Spot};
-use fmp_partial_check::check_partial;
-use fmp_question::QuestionFault;
-use fmp_scripts::read_scripts;
+use fmp_run_events::{ReadSource, RunFault, read_up_to};
+use fmp_search_question::QuestionFault;
 use fmp_text::{MOST_BYTES, TextFault, TextKind, read_events};
+use fmp_text_scripts::read_scripts;
 use fmp_trace::read_trace;
-use fmpsim_cli::Paths;
-use fmpsim_run::{ReadSource, RunFault, read_up_to};
+use fmp_trace_check_partial::check_partial;
 use std::alloc::Global;
 use std::io::Read;
 use std::rt::Files;

@@ -1,6 +1,6 @@
 //! The traces from which longer orders go on, each in a file of its own.
 use crate::output::Ending;
-use fmpsim_explore::Layer;
+use fmp_run_explore::Layer;
 use std::fs::OpenOptions;
 use std::io::Write;
 use std::rt::Files;

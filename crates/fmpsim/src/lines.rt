@@ -1,10 +1,10 @@
 //! The lines that tell faults, in this program's own form or in that of compilers.
-use fmp_context::question_kind;
-use fmp_diagnostics::{Diagnostic, LineForm, Spot};
-use fmp_question::QuestionFault;
-use fmpsim_cli::Paths;
-use fmpsim_explore::QuestionLine;
-use fmpsim_run::{FaultLine, RunFault};
+use fmp_cli::Paths;
+use fmp_cli_diagnostics::{Diagnostic, LineForm, Spot};
+use fmp_cli_hints::question_kind;
+use fmp_run_events::{FaultLine, RunFault};
+use fmp_run_explore::QuestionLine;
+use fmp_search_question::QuestionFault;
 
 /// Tells the line of a fault in this program's own form.
 pub fn tell_plainly<R: Eprint>(rt: &R, paths: &Paths<'_>, fault: &RunFault) {

@@ -15,19 +15,19 @@ mod texts;
 
 use beside::Telling;
 use clap::error::ErrorKind;
-use fmp_check::Verdict;
-use fmp_colour::ColourSink;
-use fmp_context::TextForm;
-use fmp_diagnostics::{LineForm, line_form, without_option};
-use fmp_explore_command::ExploreRequest;
-use fmp_shrink_command::ShrinkRequest;
-use fmp_smp_command::SmpRequest;
-use fmp_wave::run_save;
-use fmpsim_cli::{Asked, Described, Paths, Request, Told};
-use fmpsim_commands::{answer, judge, search, search_from, shrink};
-use fmpsim_explore::Progress;
-use fmpsim_list::run_list;
-use fmpsim_run::{MemSource, ReadSource, RunFault, Status, WriteSink, run_life};
+use fmp_cli::{Asked, Described, Paths, Request, Told};
+use fmp_cli_colour::ColourSink;
+use fmp_cli_diagnostics::{LineForm, line_form, without_option};
+use fmp_cli_explore::ExploreRequest;
+use fmp_cli_hints::TextForm;
+use fmp_cli_runs::{answer, judge, search, search_from, shrink};
+use fmp_cli_shrink::ShrinkRequest;
+use fmp_cli_table::SmpRequest;
+use fmp_run_events::{MemSource, ReadSource, RunFault, Status, WriteSink, run_life};
+use fmp_run_explore::Progress;
+use fmp_run_list::run_list;
+use fmp_run_wave::run_save;
+use fmp_trace_check::Verdict;
 use output::{Ending, is_coloured, kept, settled, settled_begun, settled_life, settled_search};
 use progress::ProgressLine;
 use scripts::Misfit;
@@ -351,12 +351,12 @@ fn written<R: Print>(rt: &R, text: &[u8]) -> Result<Status, Ending> {
 /// Writes what may be written in the texts, or what is told of a name.
 fn list<R: Print + Eprint + AllocGlobal>(rt: &R, name: Option<&str>) -> Result<Status, Ending> {
     let Some(name) = name else {
-        return written(rt, fmp_help::everything(rt.alloc())?.as_slice());
+        return written(rt, fmp_cli_help::everything(rt.alloc())?.as_slice());
     };
-    match fmp_help::about(rt.alloc(), name.as_bytes())? {
+    match fmp_cli_help::about(rt.alloc(), name.as_bytes())? {
         Some(text) => written(rt, text.as_slice()),
         None => {
-            let near = fmp_help::near_word(rt.alloc(), name.as_bytes())?;
+            let near = fmp_cli_help::near_word(rt.alloc(), name.as_bytes())?;
             let _ = eprintln!(rt; "fmpsim: nothing is called {name}: see fmpsim list");
             if let Some(Ok(near)) = near.map(|near| str::from_utf8(near)) {
                 let _ = eprintln!(rt; "  near: {near}");
@@ -534,7 +534,7 @@ fn execute<R: Env + Files + Input + Print + Eprint + Clock + AllocGlobal + Threa
         line,
         text: TextForm::Events,
     };
-    match fmpsim_cli::parse(rt.alloc(), words) {
+    match fmp_cli::parse(rt.alloc(), words) {
         Ok(Request::Calls(paths, told, colour)) => match is_coloured(rt, colour, is_terminal) {
             Some(coloured) => {
                 let run = calls(rt, &paths, told, coloured);

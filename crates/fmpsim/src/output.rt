@@ -1,9 +1,9 @@
 //! Standard output: whether the trace is coloured there, and what a run ends with whose output nobody reads any more.
-use fmp_question::QuestionFault;
-use fmpsim_cli::Colour;
-use fmpsim_explore::ExploreFault;
-use fmpsim_explore_from::FromFault;
-use fmpsim_run::{LifeFault, RunFault};
+use fmp_cli::Colour;
+use fmp_run_events::{LifeFault, RunFault};
+use fmp_run_explore::ExploreFault;
+use fmp_run_explore_from::FromFault;
+use fmp_search_question::QuestionFault;
 use std::alloc::AllocError;
 use std::env::VarError;
 use std::rt::Env;

@@ -1,5 +1,5 @@
 //! How far a search has come, on standard error.
-use fmpsim_explore::Progress;
+use fmp_run_explore::Progress;
 use std::rt::Clock;
 use std::time::Instant;
 

@@ -1,9 +1,9 @@
 //! The texts that a run reads: a configuration, and beside it another text, from a file or from standard input.
 use crate::output::Ending;
+use fmp_cli::Paths;
 use fmp_config::MOST_BYTES as MOST_CONFIG_BYTES;
+use fmp_run_events::{ReadSource, RunFault, read_up_to};
 use fmp_text::MOST_BYTES;
-use fmpsim_cli::Paths;
-use fmpsim_run::{ReadSource, RunFault, read_up_to};
 use std::io::{Input, Read};
 use std::rt::Files;
 use std::{fs, io};

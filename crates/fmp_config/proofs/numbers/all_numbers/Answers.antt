@@ -2,7 +2,7 @@ use Rattle.std.proofs.Common.{◌∙◌, sym}
 use Rattle.std.proofs.lemmas.Result.{err_from_is_err_and}
 use Rattle.fmp_config.specs.Numbers.{number_step}
 use Rattle.fmp_setup.specs.Parts.{setup_of}
-use Rattle.fmp_statements.proofs.Turns.{goes_on, fails, is_done}
+use Rattle.fmp_config_statements.proofs.Turns.{goes_on, fails, is_done}
 use Rattle.fmp_config.proofs.numbers.all_numbers.Goals as goal
 
 pub returns-in_err-number_step : goal.returns-in_err-number_step

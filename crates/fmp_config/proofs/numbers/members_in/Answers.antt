@@ -2,7 +2,7 @@ use Rattle.std.proofs.Common.{◌∙◌, sym}
 use Rattle.std.proofs.lemmas.Result.{err_from_is_err_and}
 use Rattle.fmp_config.specs.Numbers.{member_step}
 use Rattle.fmp_setup.specs.Parts.{setup_of}
-use Rattle.fmp_statements.proofs.Turns.{goes_on, fails, is_done}
+use Rattle.fmp_config_statements.proofs.Turns.{goes_on, fails, is_done}
 use Rattle.fmp_config.proofs.numbers.members_in.Goals as goal
 
 pub returns-in_err-members : goal.returns-in_err-members

@@ -1,7 +1,7 @@
 use Rattle.std.proofs.Common.{◌≡◌, drop}
 use Rattle.fmp_config.specs.Numbers.{member_step, members_in}
 use Rattle.fmp_setup.specs.Parts.{setup_of}
-use Rattle.fmp_statements.specs.Folds.{each}
+use Rattle.fmp_config_statements.specs.Folds.{each}
 use Rattle.fmp_config.proofs.numbers.members_in.Given as goal
 
 abbrev pub invariant-loop-word : goal.invariant-loop-word

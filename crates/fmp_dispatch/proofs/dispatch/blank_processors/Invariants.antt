@@ -1,5 +1,5 @@
 use Rattle.std.proofs.Common.{◌≡◌, replicate}
-use Rattle.fmp_machine.specs.World.{no_processor}
+use Rattle.fmp_rules.specs.World.{no_processor}
 use Rattle.fmp_dispatch.proofs.dispatch.blank_processors.Given as goal
 
 abbrev pub invariant-loop-index : goal.invariant-loop-index

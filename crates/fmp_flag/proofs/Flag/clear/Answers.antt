@@ -1,6 +1,6 @@
 use Rattle.std.proofs.Common.{sym, subst}
-use Rattle.fmp_machine.specs.World.{item}
-use Rattle.fmp_machine.proofs.Patterns.{unmet_with_fewer}
+use Rattle.fmp_rules.specs.World.{item}
+use Rattle.fmp_rules.proofs.Patterns.{unmet_with_fewer}
 use Rattle.fmp_flag.specs.Eventflags.{no_bits, WaitsUnmet}
 use Rattle.fmp_flag.proofs.Flag.clear.Goals as goal
 

@@ -1,9 +1,9 @@
 use Rattle.std.proofs.Common.{◌<◌, ◌∙◌, length, arith}
 use Rattle.std.proofs.lemmas.Grind.{common_steps}
-use Rattle.fmp_machine.specs.Arrivals.{State, numbered}
-use Rattle.fmp_machine.specs.Step.{step}
-use Rattle.fmp_safety.proofs.Booted.{runs_safe}
-use Rattle.fmp_balance.proofs.Booted.{balanced_throughout}
+use Rattle.fmp_rules.specs.Arrivals.{State, numbered}
+use Rattle.fmp_rules.specs.Step.{step}
+use Rattle.fmp_law_safety.proofs.Booted.{runs_safe}
+use Rattle.fmp_law_balance.proofs.Booted.{balanced_throughout}
 use Rattle.fmp_kernel.proofs.Histories.{answers_more, answers_end}
 use Rattle.fmp_kernel.proofs.answers.simulate.Goals as goal
 

@@ -1,9 +1,9 @@
 use Rattle.std.proofs.Common.{◌≡◌, ◌≤◌, ◌++◌, length, drop}
 use Rattle.std.specs.Vec.{vec_capacity}
-use Rattle.fmp_machine.specs.Boot.{booted}
-use Rattle.fmp_machine.specs.Arrivals.{State, numbered}
-use Rattle.fmp_machine.specs.Step.{answers}
-use Rattle.fmp_refinement.specs.Stands.{Stands}
+use Rattle.fmp_rules.specs.Boot.{booted}
+use Rattle.fmp_rules.specs.Arrivals.{State, numbered}
+use Rattle.fmp_rules.specs.Step.{answers}
+use Rattle.fmp_law_lists.specs.Stands.{Stands}
 use Rattle.fmp_kernel.proofs.answers.simulate.Given as goal
 
 -- the records so far, and those that the model tells of the events that are left, are all

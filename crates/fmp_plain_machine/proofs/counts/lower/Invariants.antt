@@ -1,6 +1,6 @@
 use Rattle.std.proofs.Common.{◌≡◌, take}
 use Rattle.fmp_setup.specs.Setup.{counts_for}
-use Rattle.fmp_machine.specs.Tick.{lowered}
+use Rattle.fmp_rules.specs.Tick.{lowered}
 use Rattle.fmp_plain_machine.proofs.counts.lower.Given as goal
 
 abbrev pub invariant-loop-index : goal.invariant-loop-index

@@ -1,8 +1,8 @@
 use Rattle.std.proofs.Common.{◌≡◌, ◌≤◌, None, filter, length, map}
 use Rattle.std.specs.List.{range_with_len}
 use Rattle.fmp_codes.specs.Numbers.{as_object}
-use Rattle.fmp_machine.specs.World.{item}
-use Rattle.fmp_machine.specs.Tick.{is_over}
+use Rattle.fmp_rules.specs.World.{item}
+use Rattle.fmp_rules.specs.Tick.{is_over}
 use Rattle.fmp_plain_machine.proofs.counts.objects_over.Given as goal
 
 abbrev pub invariant-loop-index : goal.invariant-loop-index

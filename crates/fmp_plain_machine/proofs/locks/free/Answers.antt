@@ -1,6 +1,6 @@
 use Rattle.std.proofs.Common.{◌<◌, None, Option, length, arith, if◌then◌else◌}
 use Rattle.fmp_codes.specs.declared.numbers.Proc.{Proc}
-use Rattle.fmp_machine.specs.Processors.{is_at}
+use Rattle.fmp_rules.specs.Processors.{is_at}
 use Rattle.fmp_plain_machine.proofs.Changed.{one_changed}
 use Rattle.fmp_plain_machine.proofs.locks.free.Goals as goal
 

@@ -1,5 +1,5 @@
 use Rattle.std.proofs.Common.{◌≡◌, ◌++◌, None, map, take, drop, if◌then◌else◌}
-use Rattle.fmp_machine.specs.Processors.{is_at}
+use Rattle.fmp_rules.specs.Processors.{is_at}
 use Rattle.fmp_plain_machine.proofs.locks.free.Given as goal
 
 -- those that were passed are changed

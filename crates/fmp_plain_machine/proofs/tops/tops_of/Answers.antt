@@ -1,7 +1,7 @@
 use Rattle.std.proofs.Common.{◌≡◌, ◌+◌, ◌-◌, sym, ◌∙◌, arith}
 use Rattle.std.proofs.lemmas.List.{get_or_read}
 use Rattle.fmp_codes.specs.Numbers.{as_task}
-use Rattle.fmp_machine.specs.World.{item, no_task}
+use Rattle.fmp_rules.specs.World.{item, no_task}
 use Rattle.fmp_plain_machine.proofs.EachTop.{one_ready, one_not_ready}
 use Rattle.fmp_plain_machine.proofs.tops.tops_of.Goals as goal
 use Rattle.fmp_plain_machine.proofs.tops.tops_of.Goals.{then-is_runnable, else-is_runnable}

@@ -1,6 +1,6 @@
 use Rattle.std.proofs.Common.{◌≡◌, true, false, Bool, subst, sym, ◌∙◌, length-append, arith}
 use Rattle.fmp_codes.specs.declared.numbers.Proc.{Proc}
-use Rattle.fmp_machine.specs.Step.{is_requested}
+use Rattle.fmp_rules.specs.Step.{is_requested}
 use Rattle.fmp_step.proofs.Processors.{filter-processors_to-taken, filter-processors_to-left}
 use Rattle.fmp_step.proofs.dispatch.each_requested.Goals as goal
 use Rattle.fmp_step.proofs.dispatch.each_requested.Goals.{then-is_requested, else-is_requested}

@@ -1,6 +1,6 @@
 use Rattle.std.proofs.Common.{◌≡◌, ◌≤◌, length, filter}
-use Rattle.fmp_machine.specs.World.{processors_to}
-use Rattle.fmp_machine.specs.Step.{is_requested}
+use Rattle.fmp_rules.specs.World.{processors_to}
+use Rattle.fmp_rules.specs.Step.{is_requested}
 use Rattle.fmp_step.proofs.dispatch.each_requested.Given as goal
 
 abbrev pub invariant-loop-index : goal.invariant-loop-index

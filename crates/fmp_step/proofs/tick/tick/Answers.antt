@@ -1,9 +1,9 @@
 use Rattle.std.proofs.Common.{List, ap, sym, ◌∙◌}
 use Rattle.fmp_codes.specs.declared.records.Answer.TheVariants as answer
 use Rattle.fmp_codes.specs.declared.records.Release.{Release}
-use Rattle.fmp_machine.specs.World.{World}
-use Rattle.fmp_machine.specs.Rows.{plain}
-use Rattle.fmp_machine.specs.Tick.{ticked}
+use Rattle.fmp_rules.specs.World.{World}
+use Rattle.fmp_rules.specs.Rows.{plain}
+use Rattle.fmp_rules.specs.Tick.{ticked}
 use Rattle.fmp_step.proofs.Ticks.{nothing_ticked}
 use Rattle.fmp_step.proofs.tick.tick.Goals as goal
 

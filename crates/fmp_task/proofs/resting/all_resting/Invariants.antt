@@ -1,5 +1,5 @@
 use Rattle.std.proofs.Common.{◌≡◌, map, take}
-use Rattle.fmp_machine.specs.World.{resting}
+use Rattle.fmp_rules.specs.World.{resting}
 use Rattle.fmp_task.proofs.resting.all_resting.Given as goal
 
 abbrev pub invariant-loop-setup : goal.invariant-loop-setup

@@ -1,7 +1,7 @@
 use Rattle.std.proofs.Common.{◌≡◌, ◌+◌, ◌<◌, ◌≤◌, ◌&&◌, ◌∙◌, nat_lt, slice_index, refl, ap, sym, arith}
 use Rattle.fmp_codes.specs.Numbers.{as_proc}
 use Rattle.fmp_setup.specs.Setup.{has_time}
-use Rattle.fmp_histories.specs.Counted.{taken}
+use Rattle.fmp_smp_histories.specs.Counted.{taken}
 use Rattle.fmp_world.proofs.Judging.{within_more, all_more, none_more}
 use Rattle.fmp_world.proofs.finishing.all_taken.Goals as goal
 use Rattle.fmp_world.proofs.finishing.all_taken.Goals.{then-owes, else-owes}

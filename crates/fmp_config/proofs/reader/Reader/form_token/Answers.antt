@@ -1,6 +1,6 @@
 use Rattle.fmp_config.specs.Reading.{form_read, form_token}
 use Rattle.fmp_config.proofs.Whole.{whole}
-use Rattle.fmp_statements.proofs.Promised.{step_keeps_promise}
+use Rattle.fmp_config_statements.proofs.Promised.{step_keeps_promise}
 use Rattle.fmp_config.proofs.reader.Reader.form_token.Goals as goal
 
 pub form_read-requires-clause-whole : goal.form_read-requires-clause-whole

@@ -2,7 +2,7 @@ use Rattle.std.proofs.Common.{List, ap, sym, ◌∙◌, rules}
 use Rattle.fmp_codes.specs.declared.records.Runner.{Runner}
 use Rattle.fmp_codes.specs.declared.records.Runner.TheVariants as runner
 use Rattle.fmp_codes.specs.Numbers.{as_task}
-use Rattle.fmp_machine.specs.World.{rest}
+use Rattle.fmp_rules.specs.World.{rest}
 use Rattle.fmp_dispatch.proofs.Window.{window_before_pop}
 use Rattle.fmp_dispatch.proofs.due.Due.end_first.Goals as goal
 

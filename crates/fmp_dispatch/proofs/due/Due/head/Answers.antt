@@ -1,6 +1,6 @@
 use Rattle.std.proofs.Common.{◌<◌, List, ap, sym, ◌∙◌, rules, arith}
 use Rattle.fmp_codes.specs.declared.records.Runner.{Runner}
-use Rattle.fmp_machine.specs.World.{first}
+use Rattle.fmp_rules.specs.World.{first}
 use Rattle.fmp_dispatch.proofs.Window.{window_before_pop}
 use Rattle.fmp_dispatch.proofs.due.Due.head.Goals as goal
 

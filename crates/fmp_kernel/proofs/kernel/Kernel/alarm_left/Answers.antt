@@ -1,7 +1,7 @@
 use Rattle.std.proofs.Common.{ap, ◌∙◌}
 use Rattle.std.specs.Prelude.{None}
-use Rattle.fmp_machine.specs.World.{World, item}
-use Rattle.fmp_listed.specs.Queues.{Queues}
+use Rattle.fmp_rules.specs.World.{World, item}
+use Rattle.fmp_kernel_order.specs.Queues.{Queues}
 use Rattle.fmp_kernel.proofs.kernel.Kernel.alarm_left.Goals as goal
 
 pub returns-clause-model : goal.returns-clause-model

@@ -1,8 +1,8 @@
 use Rattle.std.proofs.Common.{length, refl, ap, ◌∙◌}
-use Rattle.fmp_machine.specs.World.{World}
-use Rattle.fmp_safety.proofs.Booted.{booted_safe, count_booted}
-use Rattle.fmp_listed.specs.Queues.{Queues}
-use Rattle.fmp_refinement.proofs.Boots.{boot_stands}
+use Rattle.fmp_rules.specs.World.{World}
+use Rattle.fmp_law_safety.proofs.Booted.{booted_safe, count_booted}
+use Rattle.fmp_kernel_order.specs.Queues.{Queues}
+use Rattle.fmp_law_lists.proofs.Boots.{boot_stands}
 use Rattle.fmp_kernel.proofs.Kept.{kept_safe, kept_lists}
 use Rattle.fmp_kernel.proofs.kernel.Kernel.boot.Goals as goal
 

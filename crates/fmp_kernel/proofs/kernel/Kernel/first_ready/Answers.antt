@@ -1,6 +1,6 @@
 use Rattle.std.proofs.Common.{◌∙◌, ap}
-use Rattle.fmp_links.specs.Lists.{first_of}
-use Rattle.fmp_refinement.proofs.SafeLists.{tells_alike}
+use Rattle.fmp_kernel_links.specs.Lists.{first_of}
+use Rattle.fmp_law_lists.proofs.SafeLists.{tells_alike}
 use Rattle.fmp_kernel.proofs.kernel.Kernel.first_ready.Goals as goal
 
 pub returns-clause-model : goal.returns-clause-model

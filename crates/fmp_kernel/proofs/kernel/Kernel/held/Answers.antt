@@ -1,6 +1,6 @@
 use Rattle.std.proofs.Common.{ap, ◌∙◌}
-use Rattle.fmp_machine.specs.World.{World, is_held}
-use Rattle.fmp_listed.specs.Queues.{Queues}
+use Rattle.fmp_rules.specs.World.{World, is_held}
+use Rattle.fmp_kernel_order.specs.Queues.{Queues}
 use Rattle.fmp_kernel.proofs.kernel.Kernel.held.Goals as goal
 
 pub returns-clause-model : goal.returns-clause-model

@@ -1,8 +1,8 @@
 use Rattle.std.proofs.Common.{ap, ◌&&◌, ◌∙◌}
 use Rattle.std.specs.Prelude.{is_none}
 use Rattle.std.specs.List.{list_all}
-use Rattle.fmp_machine.specs.World.{World}
-use Rattle.fmp_listed.specs.Queues.{Queues}
+use Rattle.fmp_rules.specs.World.{World}
+use Rattle.fmp_kernel_order.specs.Queues.{Queues}
 use Rattle.fmp_kernel.proofs.Kept.{kept_timed}
 use Rattle.fmp_kernel.proofs.kernel.Kernel.is_untimed.Goals as goal
 

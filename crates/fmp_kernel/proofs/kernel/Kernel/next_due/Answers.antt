@@ -1,7 +1,7 @@
 use Rattle.std.proofs.Common.{subst}
-use Rattle.fmp_machine.specs.Due.{IsNextDue}
-use Rattle.fmp_machine.specs.World.{World}
-use Rattle.fmp_listed.specs.Queues.{Queues}
+use Rattle.fmp_rules.specs.Due.{IsNextDue}
+use Rattle.fmp_rules.specs.World.{World}
+use Rattle.fmp_kernel_order.specs.Queues.{Queues}
 use Rattle.fmp_kernel.proofs.Kept.{kept_timed}
 use Rattle.fmp_kernel.proofs.kernel.Kernel.next_due.Goals as goal
 

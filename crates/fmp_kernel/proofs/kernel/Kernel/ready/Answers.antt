@@ -1,5 +1,5 @@
 use Rattle.std.proofs.Common.{◌∙◌}
-use Rattle.fmp_refinement.proofs.SafeLists.{tells_alike}
+use Rattle.fmp_law_lists.proofs.SafeLists.{tells_alike}
 use Rattle.fmp_kernel.proofs.kernel.Kernel.ready.Goals as goal
 
 pub returns-clause-model : goal.returns-clause-model

@@ -1,7 +1,7 @@
 use Rattle.std.proofs.Common.{◌≤◌, length, sym, subst}
-use Rattle.fmp_machine.specs.World.{World}
-use Rattle.fmp_safety.specs.Runs.{processor_of}
-use Rattle.fmp_listed.specs.Queues.{Queues}
+use Rattle.fmp_rules.specs.World.{World}
+use Rattle.fmp_law_safety.specs.Runs.{processor_of}
+use Rattle.fmp_kernel_order.specs.Queues.{Queues}
 use Rattle.fmp_kernel.proofs.Kept.{stands_after, record_after, count_after, kept_after, kept_safe, kept_lists, nothing_after, taken_after, top_after}
 use Rattle.fmp_kernel.proofs.kernel.Kernel.step_into.Goals as goal
 

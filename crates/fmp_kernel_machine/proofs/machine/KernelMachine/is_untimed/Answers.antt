@@ -1,8 +1,8 @@
 use Rattle.std.proofs.Common.{◌≡◌, ◌≤◌, true, length, sym, subst}
 use Rattle.fmp_codes.specs.declared.numbers.Task.{Task}
-use Rattle.fmp_links.specs.Tasks.{has_task}
-use Rattle.fmp_machine.specs.World.{World}
-use Rattle.fmp_listed.specs.Queues.{Queues}
+use Rattle.fmp_kernel_links.specs.Tasks.{has_task}
+use Rattle.fmp_rules.specs.World.{World}
+use Rattle.fmp_kernel_order.specs.Queues.{Queues}
 use Rattle.fmp_kernel_machine.proofs.machine.KernelMachine.is_untimed.Goals as goal
 
 pub is_untimed-requires : goal.is_untimed-requires

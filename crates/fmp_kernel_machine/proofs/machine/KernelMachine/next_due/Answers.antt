@@ -1,9 +1,9 @@
 use Rattle.std.proofs.Common.{◌≡◌, ◌≤◌, true, length, sym, subst}
 use Rattle.fmp_codes.specs.declared.numbers.Task.{Task}
-use Rattle.fmp_links.specs.Tasks.{has_task}
-use Rattle.fmp_machine.specs.Due.{IsNextDue}
-use Rattle.fmp_machine.specs.World.{World}
-use Rattle.fmp_listed.specs.Queues.{Queues}
+use Rattle.fmp_kernel_links.specs.Tasks.{has_task}
+use Rattle.fmp_rules.specs.Due.{IsNextDue}
+use Rattle.fmp_rules.specs.World.{World}
+use Rattle.fmp_kernel_order.specs.Queues.{Queues}
 use Rattle.fmp_kernel_machine.proofs.machine.KernelMachine.next_due.Goals as goal
 
 pub next_due-requires : goal.next_due-requires

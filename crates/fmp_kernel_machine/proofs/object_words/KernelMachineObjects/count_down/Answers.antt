@@ -1,4 +1,4 @@
-use Rattle.fmp_machine.specs.Tick.{counted_down}
+use Rattle.fmp_rules.specs.Tick.{counted_down}
 use Rattle.fmp_kernel_machine.proofs.object_words.KernelMachineObjects.count_down.Goals as goal
 
 pub returns-clause-state : goal.returns-clause-state

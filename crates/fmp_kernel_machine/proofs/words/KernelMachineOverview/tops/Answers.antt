@@ -1,8 +1,8 @@
 use Rattle.std.proofs.Common.{length, ap, ◌∙◌}
 use Rattle.fmp_codes.specs.Numbers.{task_number}
-use Rattle.fmp_machine.specs.World.{World}
+use Rattle.fmp_rules.specs.World.{World}
 use Rattle.fmp_ready.specs.Queues.{top_at}
-use Rattle.fmp_listed.specs.Queues.{Queues}
+use Rattle.fmp_kernel_order.specs.Queues.{Queues}
 use Rattle.fmp_kernel_machine.proofs.Topping.{small_each, tops_told}
 use Rattle.fmp_kernel_machine.proofs.words.KernelMachineOverview.tops.Goals as goal
 

@@ -1,4 +1,4 @@
-use Rattle.fmp_safety.proofs.Booted.{booted_safe}
+use Rattle.fmp_law_safety.proofs.Booted.{booted_safe}
 use Rattle.fmp_plain.proofs.plain.Plain.boot.Goals as goal
 
 pub returns-clause-safe : goal.returns-clause-safe

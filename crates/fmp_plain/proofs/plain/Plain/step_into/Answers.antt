@@ -1,6 +1,6 @@
-use Rattle.fmp_machine.specs.Arrivals.{numbered}
-use Rattle.fmp_safety.proofs.Interrupts.{made_nothing, made_taken, made_top}
-use Rattle.fmp_safety.proofs.Listed.{numbered_lists}
+use Rattle.fmp_rules.specs.Arrivals.{numbered}
+use Rattle.fmp_law_safety.proofs.Interrupts.{made_nothing, made_taken, made_top}
+use Rattle.fmp_law_safety.proofs.Listed.{numbered_lists}
 use Rattle.fmp_plain.proofs.plain.Plain.step_into.Goals as goal
 
 pub returns-clause-nothing : goal.returns-clause-nothing

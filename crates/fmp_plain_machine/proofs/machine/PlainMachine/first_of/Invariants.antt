@@ -1,6 +1,6 @@
 use Rattle.std.proofs.Common.{◌≡◌}
-use Rattle.fmp_machine.specs.World.{first}
-use Rattle.fmp_machine.specs.Arrivals.{in_order}
+use Rattle.fmp_rules.specs.World.{first}
+use Rattle.fmp_rules.specs.Arrivals.{in_order}
 use Rattle.fmp_plain_machine.specs.Groups.{is_member, precedes, rule_of}
 use Rattle.fmp_plain_machine.proofs.machine.PlainMachine.first_of.Given as goal
 

@@ -1,5 +1,5 @@
 use Rattle.std.proofs.Common.{◌≡◌, ◌≤◌, length}
-use Rattle.fmp_machine.specs.Arrivals.{in_order}
+use Rattle.fmp_rules.specs.Arrivals.{in_order}
 use Rattle.fmp_plain_machine.specs.Groups.{is_member, precedes, rule_of}
 use Rattle.fmp_plain_machine.proofs.machine.PlainMachine.members.Given as goal
 

@@ -1,5 +1,5 @@
 use Rattle.std.proofs.Common.{◌≡◌, ◌++◌, take, drop}
-use Rattle.fmp_machine.specs.Arrivals.{inserted}
+use Rattle.fmp_rules.specs.Arrivals.{inserted}
 use Rattle.fmp_plain_machine.specs.Groups.{precedes}
 use Rattle.fmp_plain_machine.proofs.machine.PlainMachine.place_of.Given as goal
 

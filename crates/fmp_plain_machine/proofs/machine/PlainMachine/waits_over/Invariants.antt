@@ -1,8 +1,8 @@
 use Rattle.std.proofs.Common.{◌≡◌, ◌≤◌, None, length}
 use Rattle.fmp_setup.specs.declared.setup.Order.TheVariants as order
-use Rattle.fmp_machine.specs.Arrivals.{in_order}
-use Rattle.fmp_machine.specs.Tick.{is_over}
-use Rattle.fmp_machine.specs.World.{item}
+use Rattle.fmp_rules.specs.Arrivals.{in_order}
+use Rattle.fmp_rules.specs.Tick.{is_over}
+use Rattle.fmp_rules.specs.World.{item}
 use Rattle.fmp_plain_machine.specs.Groups.{precedes}
 use Rattle.fmp_plain_machine.specs.declared.groups.Rule.TheVariants as rule
 use Rattle.fmp_plain_machine.proofs.machine.PlainMachine.waits_over.Given as goal

@@ -1,5 +1,5 @@
 use Rattle.std.proofs.Common.{◌≡◌, refl, sym, ap, ◌∙◌}
-use Rattle.fmp_machine.specs.World.{item, no_task}
+use Rattle.fmp_rules.specs.World.{item, no_task}
 use Rattle.fmp_plain_machine.specs.Tops.{rank_of}
 use Rattle.fmp_plain_machine.proofs.Raised.{set_renewed}
 use Rattle.fmp_plain_machine.proofs.Signed.{signed}

@@ -1,7 +1,7 @@
 use Rattle.std.proofs.Common.{◌≡◌, ◌+◌, ◌∙◌, [], ◌∷◌, ◌++◌, length, rules, refl, ap, sym, arith, length-append}
 use Rattle.std.proofs.lemmas.List.{append_assoc}
 use Rattle.std.proofs.lemmas.List.Sums.{count_by-le-length}
-use Rattle.fmp_histories.specs.Counted as history
+use Rattle.fmp_smp_histories.specs.Counted as history
 use Rattle.fmp_world.specs.Findings.{is_of_seat}
 use Rattle.fmp_world.proofs.Found.{finds_more}
 use Rattle.fmp_world.proofs.Receipts.{few_receipts}

@@ -2,14 +2,14 @@ use Rattle.std.proofs.Common.{◌≡◌, ◌+◌, ◌<◌, ◌≤◌, ◌∙◌,
 use Rattle.fmp_codes.specs.Records.{processor_of}
 use Rattle.fmp_codes.specs.declared.numbers.Proc.{Proc}
 use Rattle.fmp_codes.specs.declared.records.Record.{Record}
-use Rattle.fmp_machine.specs.Arrivals.{numbered}
-use Rattle.fmp_machine.specs.Step.{step}
-use Rattle.fmp_histories.specs.Histories.{state_after}
+use Rattle.fmp_rules.specs.Arrivals.{numbered}
+use Rattle.fmp_rules.specs.Step.{step}
+use Rattle.fmp_smp_histories.specs.Histories.{state_after}
 use Rattle.fmp_world.specs.Moves.{played}
-use Rattle.fmp_histories.specs.Scripted.{IsScripted}
+use Rattle.fmp_smp_histories.specs.Scripted.{IsScripted}
 use Rattle.fmp_world.specs.Views.{History}
-use Rattle.fmp_histories.proofs.Advancing.{task_position_le, handler_position_le}
-use Rattle.fmp_histories.proofs.Histories.{stands_count}
+use Rattle.fmp_smp_histories.proofs.Advancing.{task_position_le, handler_position_le}
+use Rattle.fmp_smp_histories.proofs.Histories.{stands_count}
 use Rattle.fmp_world.proofs.Played.{moved_on, moved_scripted, made_count, made_more, played_more, played_event}
 use Rattle.fmp_world.proofs.Runs.{keeps_more}
 use Rattle.fmp_world.proofs.history.History.make.Goals as goal

@@ -1,7 +1,7 @@
 use Rattle.std.proofs.Common.{◌≡◌, ◌∙◌, Some, ap, sym}
-use Rattle.fmp_machine.proofs.Replays.{step_event}
+use Rattle.fmp_rules.proofs.Replays.{step_event}
 use Rattle.fmp_codes.specs.declared.records.Record.{Record}
-use Rattle.fmp_histories.specs.Histories.{state_after}
+use Rattle.fmp_smp_histories.specs.Histories.{state_after}
 use Rattle.fmp_world.specs.Turns.{told_after}
 use Rattle.fmp_world.proofs.history.History.play.Goals as goal
 

@@ -1,9 +1,9 @@
 use Rattle.std.proofs.Common.{◌≡◌, ◌∙◌, List, [], ◌∷◌, rules, refl, ap, sym}
 use Rattle.std.proofs.lemmas.List.{nil_from_length}
 use Rattle.fmp_codes.specs.declared.records.Record.{Record}
-use Rattle.fmp_machine.specs.Arrivals.{numbered}
-use Rattle.fmp_machine.specs.Step.{step}
-use Rattle.fmp_histories.specs.Histories.{state_after}
+use Rattle.fmp_rules.specs.Arrivals.{numbered}
+use Rattle.fmp_rules.specs.Step.{step}
+use Rattle.fmp_smp_histories.specs.Histories.{state_after}
 use Rattle.fmp_world.specs.Moves.{played_one, added_by}
 use Rattle.fmp_world.specs.Views.{History}
 use Rattle.fmp_world.proofs.Played.{added_none, added_next}

@@ -1,7 +1,7 @@
 use Rattle.std.proofs.Common.{◌≤◌, length, refl, subst}
 use Rattle.fmp_setup.specs.Valid.{IsValid}
-use Rattle.fmp_histories.specs.Histories.{IsRunOf}
-use Rattle.fmp_histories.specs.Scripted.{Scripted}
+use Rattle.fmp_smp_histories.specs.Histories.{IsRunOf}
+use Rattle.fmp_smp_histories.specs.Scripted.{Scripted}
 use Rattle.fmp_world.proofs.Finished.{run_of}
 use Rattle.fmp_world.proofs.world.World.finish.Goals as goal
 

@@ -1,5 +1,0 @@
-use Rattle.fmp_check.proofs.FittingAnswers.{answers-fit}
-use Rattle.fmp_check.proofs.laws.answers_fit_the_names.Goals as goal
-
-pub returns : goal.returns
-returns c = answers-fit

@@ -1,5 +1,0 @@
-use Rattle.fmp_check.proofs.Patched.{patched_own}
-use Rattle.fmp_check.proofs.laws.differences_patch.Goals as goal
-
-pub returns : goal.returns
-returns c = patched_own

@@ -1,0 +1,137 @@
+-- The command lines of the program, and what their words ask for.
+use Rattle.std.specs.Prelude.{◌≡◌, ℕ, Bool, false, true, List, [], ◌∷◌, IsSomeAnd, Option, None, Some, codes, if◌then◌else◌, option_map, unwrap_or}
+use Rattle.std.specs.Bool.{then_some}
+use Rattle.std.specs.Borrow.{Bor}
+use Rattle.clap.specs.Words.{App, Row, Text, first_of, one_of}
+use Rattle.fmp_cli_hints.specs.declared.text.TextForm.{TextForm}
+use Rattle.fmp_cli_hints.specs.declared.text.TextForm.TheVariants as form
+use Rattle.fmp_cli_table.specs.Found.{IsFlag, found_by, text_of}
+use Rattle.fmp_cli_table.specs.Parts.{choice_rule, flag_rule, line_of, name_rule, path_rule, value_rule}
+use Rattle.fmp_cli_table.specs.Smp.{Asks, colour_by, found_in}
+use Rattle.fmp_cli_table.specs.declared.colours.Colour.{Colour}
+use Rattle.fmp_cli_explore.specs.Explore as explore
+use Rattle.fmp_cli_shrink.specs.Shrink as shrink
+use Rattle.fmp_cli.specs.declared.Asked.{Asked}
+use Rattle.fmp_cli.specs.declared.Asked.TheVariants.{Waveform}
+use Rattle.fmp_cli.specs.declared.Paths.{Paths}
+use Rattle.fmp_cli.specs.declared.Request.{Request}
+use Rattle.fmp_cli.specs.declared.Request.TheVariants as request
+use Rattle.fmp_cli.specs.declared.Subcommand.{Subcommand}
+use Rattle.fmp_cli.specs.declared.Subcommand.TheVariants as subcommand
+use Rattle.fmp_cli.specs.declared.Told.{Told}
+use Rattle.fmp_cli.specs.Flags.{told_by, asked_by, form_by, is_path, page_by, subcommand_by}
+
+-- each command line, as a parse reads it
+abbrev pub calls_line : App
+calls_line = line_of (codes "calls") (
+    path_rule (codes "CFG") ∷ path_rule (codes "EVENTS") ∷ choice_rule (codes "state") ∷ value_rule (codes "of") ∷ flag_rule (codes "context")
+    ∷ value_rule (codes "color") ∷ [])
+
+abbrev pub check_line : App
+check_line = line_of (codes "check") (
+    path_rule (codes "CFG") ∷ path_rule (codes "TRACE") ∷ choice_rule (codes "show") ∷ choice_rule (codes "all") ∷ choice_rule (codes "partial")
+    ∷ flag_rule (codes "context") ∷ [])
+
+abbrev pub wave_line : App
+wave_line = line_of (codes "wave") (
+    path_rule (codes "CFG") ∷ path_rule (codes "TRACE") ∷ choice_rule (codes "gtkw") ∷ flag_rule (codes "context") ∷ [])
+
+abbrev pub view_line : App
+view_line = line_of (codes "view") (
+    path_rule (codes "CFG") ∷ path_rule (codes "TRACE") ∷ flag_rule (codes "differences") ∷ flag_rule (codes "context") ∷ [])
+
+abbrev pub list_line : App
+list_line = line_of (codes "list") (name_rule (codes "NAME") ∷ flag_rule (codes "context") ∷ [])
+
+-- the configuration is that of CFG, the other text that of this id, and it is shown beside a fault where that is asked for
+pub record NamesPaths (rows : List Row) (id : Text) (text_form : TextForm) (p : Paths) : Type 0 where
+  pub config : p.config.now ≡ text_of (codes "CFG") rows
+  pub text : p.text.now ≡ text_of id rows
+  pub context : (b : Bool) × IsFlag (one_of (codes "context") rows) b × (p.context ≡ then_some b text_form)
+
+-- the state is told where that is asked for, and the trace coloured as the word says
+pub record AsksCalls (rows : List Row) (p : Paths) (t : Told) (c : Colour) : Type 0 where
+  pub paths : NamesPaths rows (codes "EVENTS") form.Events p
+  pub names : first_of (codes "of") rows ≡ None
+  pub told : (b : Bool) × IsFlag (one_of (codes "state") rows) b × (t ≡ told_by b)
+  pub colour : c ≡ colour_by (first_of (codes "color") rows)
+
+-- of the things with these names it is told what changes, and the lines are coloured as the word says
+pub record AsksLife (rows : List Row) (p : Paths) (things : Bor (List ℕ)) (c : Colour) : Type 0 where
+  pub paths : NamesPaths rows (codes "EVENTS") form.Events p
+  pub names : first_of (codes "of") rows ≡ Some things.now
+  pub colour : c ≡ colour_by (first_of (codes "color") rows)
+
+-- what is asked is what the flags say
+pub record AsksCheck (rows : List Row) (p : Paths) (a : Asked) : Type 0 where
+  pub partial : Bool
+  pub show : Bool
+  pub all : Bool
+  pub partial_flag : IsFlag (one_of (codes "partial") rows) partial
+  pub show_flag : IsFlag (one_of (codes "show") rows) show
+  pub all_flag : IsFlag (one_of (codes "all") rows) all
+  pub paths : NamesPaths rows (codes "TRACE") (form_by partial) p
+  pub asked : a ≡ asked_by partial show all
+
+-- the waveform is asked for
+pub record AsksWave (rows : List Row) (p : Paths) (a : Asked) : Type 0 where
+  pub paths : NamesPaths rows (codes "TRACE") form.Trace p
+  pub drawn : IsFlag (one_of (codes "gtkw") rows) false
+  pub asked : a ≡ Waveform
+
+-- the save file is asked for
+pub record AsksSave (rows : List Row) (p : Paths) : Type 0 where
+  pub paths : NamesPaths rows (codes "TRACE") form.Trace p
+  pub saved : IsFlag (one_of (codes "gtkw") rows) true
+
+-- the page is asked for, with the lines that differ where the flag stands
+pub record AsksView (rows : List Row) (p : Paths) (a : Asked) : Type 0 where
+  pub paths : NamesPaths rows (codes "TRACE") form.Trace p
+  pub asked : (b : Bool) × IsFlag (one_of (codes "differences") rows) b × (a ≡ page_by b)
+
+-- what the word behind `list` asks for, if there is one: of a path what was read of that configuration, with what stands beside a fault
+-- where the flag asks for it, and else what is called so, or all that may be written
+abbrev pub IsListedBy : Option Text → Bool → Request → Type 0
+IsListedBy word context (request.List id) = (option_map (λ s. s.now) id ≡ word) × (unwrap_or (option_map is_path word) false ≡ false)
+IsListedBy word context (request.Describe d) = (word ≡ Some d.config.now) × (is_path d.config.now ≡ true) × (d.context ≡ context)
+IsListedBy word context _ = ⊥
+
+abbrev pub AsksList : List Row → Request → Type 0
+AsksList rows r = (b : Bool) × IsFlag (one_of (codes "context") rows) b × IsListedBy (first_of (codes "NAME") rows) b r
+
+-- what is asked for by what clap found in the words of one subcommand
+abbrev pub IsCalls : List Row → Request → Type 0
+IsCalls rows (request.Calls p t c) = AsksCalls rows p t c
+IsCalls rows (request.Life p names c) = AsksLife rows p names c
+IsCalls rows _ = ⊥
+
+abbrev pub IsCheck : List Row → Request → Type 0
+IsCheck rows (request.Trace p a) = AsksCheck rows p a
+IsCheck rows _ = ⊥
+
+abbrev pub IsWave : List Row → Request → Type 0
+IsWave rows (request.Trace p a) = AsksWave rows p a
+IsWave rows (request.Save p) = AsksSave rows p
+IsWave rows _ = ⊥
+
+abbrev pub IsView : List Row → Request → Type 0
+IsView rows (request.Trace p a) = AsksView rows p a
+IsView rows _ = ⊥
+
+-- what is asked for by the words of each, its name among them
+abbrev pub IsAsked : Subcommand → List Text → Request → Type 0
+IsAsked subcommand.Calls words r = IsCalls (found_by calls_line words) r
+IsAsked subcommand.Check words r = IsCheck (found_by check_line words) r
+IsAsked subcommand.Wave words r = IsWave (found_by wave_line words) r
+IsAsked subcommand.View words r = IsView (found_by view_line words) r
+IsAsked subcommand.Smp words (request.Smp r) = Asks (found_in words) r
+IsAsked subcommand.Smp words _ = ⊥
+IsAsked subcommand.Explore words (request.Explore r) = explore.Asks (explore.found_in words) r
+IsAsked subcommand.Explore words _ = ⊥
+IsAsked subcommand.Shrink words (request.Shrink r) = shrink.Asks (shrink.found_in words) r
+IsAsked subcommand.Shrink words _ = ⊥
+IsAsked subcommand.List words r = AsksList (found_by list_line words) r
+
+-- what is asked for by the words behind the program's name, of which the first names the subcommand
+abbrev pub AsksFor : Option Text → List Text → Request → Type 0
+AsksFor name words r = IsSomeAnd (subcommand_by name) (λ s. IsAsked s words r)

@@ -1,0 +1,56 @@
+-- What the words and the flags of a command line ask for.
+use Rattle.std.specs.Prelude.{ℕ, ◌==◌, ◌||◌, Bool, true, false, if◌then◌else◌, List, Option, None, Some, codes}
+use Rattle.std.specs.List.{list_any}
+use Rattle.std.specs.Str.{bytes_eq}
+use Rattle.fmp_bytes.specs.Bytes.{slash}
+use Rattle.fmp_trace_check.specs.declared.comparing.Shown.TheVariants.{First, Each}
+use Rattle.fmp_cli_hints.specs.declared.text.TextForm.{TextForm}
+use Rattle.fmp_cli_hints.specs.declared.text.TextForm.TheVariants as form
+use Rattle.clap.specs.Words.{Text}
+use Rattle.fmp_cli.specs.declared.Asked.{Asked}
+use Rattle.fmp_cli.specs.declared.Asked.TheVariants.{Verdict, Partial, Differences, Page, DifferencesPage}
+use Rattle.fmp_cli.specs.declared.Subcommand.{Subcommand}
+use Rattle.fmp_cli.specs.declared.Subcommand.TheVariants as subcommand
+use Rattle.fmp_cli.specs.declared.Told.{Told}
+use Rattle.fmp_cli.specs.declared.Told.TheVariants as told
+
+abbrev pub full_stop : ℕ
+full_stop = 46
+
+-- what is told of each event, by the flag
+abbrev pub told_by : Bool → Told
+told_by state = if state then told.State else told.Line
+
+-- what is asked of a trace, by the flags: a verdict on what is written, or else the first line that differs, or else all of them,
+-- or else the verdict on whole lines alone
+abbrev pub asked_by : Bool → Bool → Bool → Asked
+asked_by true show all = Partial
+asked_by false true all = Differences First
+asked_by false false true = Differences Each
+asked_by false false false = Verdict
+
+-- which page is asked for, by the flag
+abbrev pub page_by : Bool → Asked
+page_by differences = if differences then DifferencesPage else Page
+
+-- what the text of `check` is, by the flag
+abbrev pub form_by : Bool → TextForm
+form_by partial = if partial then form.Partial else form.Trace
+
+-- a word behind `list` is the path of a configuration: a `.` or a `/` is in it
+abbrev pub is_path : List ℕ → Bool
+is_path word = list_any (λ b. (b == full_stop) || (b == slash)) word
+
+-- the subcommand that a word names, if it names one
+abbrev pub subcommand_by : Option Text → Option Subcommand
+subcommand_by None = None
+subcommand_by (Some word) =
+    if bytes_eq word (codes "calls") then Some subcommand.Calls
+    else if bytes_eq word (codes "check") then Some subcommand.Check
+    else if bytes_eq word (codes "wave") then Some subcommand.Wave
+    else if bytes_eq word (codes "view") then Some subcommand.View
+    else if bytes_eq word (codes "smp") then Some subcommand.Smp
+    else if bytes_eq word (codes "explore") then Some subcommand.Explore
+    else if bytes_eq word (codes "shrink") then Some subcommand.Shrink
+    else if bytes_eq word (codes "list") then Some subcommand.List
+    else None

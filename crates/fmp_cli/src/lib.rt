@@ -1,0 +1,717 @@
+//! The command line of the program: which words ask for what. [`parse`] says it by what clap finds in the words under each
+//! name, a function of the words that clap's contracts give for such command lines. How the help and the texts of errors read,
+//! and which words are refused but for those of `smp`, is run by tests/program.
+#![tactic(auto)]
+
+ghost use Rattle.std.specs.Prelude.{◌≡◌, ◌≤◌, IfOk, IsErr, codes, drop, false, length, map, option_map, slice_get, true};
+ghost use Rattle.fmp_cli_table.specs.Found.{found_by, rows_in};
+ghost use Rattle.fmp_cli.specs.Cli.{AsksFor, AsksList, IsAsked, IsCalls, IsCheck, IsListedBy, IsView, IsWave, NamesPaths};
+ghost use Rattle.fmp_cli.specs.Cli.{calls_line, check_line, list_line, view_line, wave_line};
+ghost use Rattle.fmp_cli.specs.Flags.{asked_by, form_by, is_path, page_by, told_by, subcommand_by};
+
+use clap::error::ErrorKind;
+use clap::{Arg, ArgAction, ArgMatches, Command, Error};
+use fmp_cli_explore::{ExploreRequest, explore_command, parse_explore};
+use fmp_cli_hints::TextForm;
+use fmp_cli_shrink::{ShrinkRequest, parse_shrink, shrink_command};
+pub use fmp_cli_table::Colour;
+use fmp_cli_table::{
+    COLOUR_PART, CONFIG_PART, CONTEXT_PART, EVENTS_PART, Form, Part, SmpRequest, Title, colour_of,
+    flag_in, line, matched, option_in, parse_smp, smp_command, text_in,
+};
+use fmp_trace_check::Shown;
+use std::alloc::{AllocError, Global};
+
+const ABOUT: &str = "Simulates a multiprocessor real-time kernel in the manner of TOPPERS/FMP";
+
+const CALLS_ABOUT: &str = "Writes the trace of a configuration over a list of events";
+
+const CALLS_HELP: &str = "\
+CFG is a configuration in the static API:
+
+  PROCESSORS(2);
+  DEF_CLASS(C1, 1, {1, 2});
+  CLASS(C1) {
+    CRE_TSK(T1, {TA_ACT, 0, main1, 10, 4096, NULL});
+    CRE_TSK(T2, {TA_NULL, 0, main2, 5, 4096, NULL});
+  }
+
+EVENTS has one event a line, a service call, a tick or an interrupt of a processor. It may
+be `-`, which stands for standard input:
+
+  P1 act_tsk(T2)
+  P2 ipi
+  P1 tick
+
+The trace, on standard output, has one line for each event: its number, its processor,
+who made the call, the event, the answer, and what it changed:
+
+  1 P1 T1 act_tsk(T2) E_OK run=T2
+
+Each line is written as its event comes. Where a text has a fault, the trace of the events
+before it is written.
+
+With --state the state of the machine at boot comes first, and the state after its event follows
+each line: what each processor runs, the other ready tasks there in their precedence, the tasks
+that wait or are suspended, what else is not as it was at boot, and a line that ends it:
+
+  1 P1 T1 act_tsk(T2) E_OK run=T2
+    P1 run=T2 ready=T1
+    P2 run=-
+    T3 waits sem S1 left=10
+    S2 count=1
+    end
+
+With --of the life of some tasks, handlers and objects is told: what each of them is at boot, and
+then each line whose event changes that, and below it those of them that changed. That ticks
+count down is no change. This is --of=T2,S1:
+
+  T2 dormant
+  S1 count=1
+  1 P1 T1 act_tsk(T2) E_OK run=T2
+    T2 running P1
+  2 P1 T2 wai_sem(S1) E_OK
+    S1 count=0
+
+With --color the trace is coloured: a refused answer red, a release green, a dispatch cyan. It is
+so at a terminal, where NO_COLOR is not set, and nowhere else but with --color=always.
+
+Exit status:
+  0  done
+  1  a fault in a text, told on standard error with its line
+  2  the command line is wrong, or nothing in CFG has a name of --of
+  3  a file could not be read, or the output not be written
+  4  want of memory";
+
+const STATE: &str = "state";
+
+const OF: &str = "of";
+
+const CHECK_ABOUT: &str = "Says whether a trace is what the machine answers to its events";
+
+const CHECK_HELP: &str = "\
+CFG is a configuration, and TRACE a trace as `fmpsim calls` writes it: one line for each
+event, with its number, its processor, who made the call, the event, the answer, and what
+it changed:
+
+  1 P1 T1 act_tsk(T2) E_OK run=T2
+
+The machine of the configuration answers the events of the trace. The verdict, on standard
+output, is `yes` where these answers are the trace, and else `no` and the number of the
+first line that differs.
+
+With --show the machine's state before that line stands under the verdict, then the line, and
+below it the machine's own:
+
+  no 57
+    P1 run=T1
+    end
+  - 57 P1 T1 act_tsk(T2) E_OK
+  + 57 P1 T1 act_tsk(T2) E_OK run=T2
+
+With --all there is a unified diff in place of the verdict, which `patch TRACE` reads. It has
+every line that differs; behind one the machine goes on with its own answers. Where none does
+it is empty.
+
+With --partial each line may leave out its number, who made the call, and each field behind its
+answer: what is not written is not judged, and what is written is judged exactly:
+
+  P1 act_tsk(T2) E_OK
+
+Exit status:
+  0  yes
+  1  a fault in a text, told on standard error with its line
+  2  the command line is wrong
+  3  a file could not be read, or the output not be written
+  4  want of memory
+  5  no";
+
+const WAVE_ABOUT: &str = "Writes the waveform of a trace, for GTKWave and other viewers";
+
+const WAVE_HELP: &str = "\
+CFG is a configuration, and TRACE a trace as `fmpsim calls` or `fmpsim smp` writes it. The machine
+of the configuration answers the events of the trace, and what its processors and tasks did
+is written to standard output as a Value Change Dump (IEEE 1364). Each event is a unit of
+time: line 57 of the trace is drawn at 57.
+
+  fmpsim wave machine.cfg trace.txt > trace.vcd
+  fmpsim wave machine.cfg --gtkw > trace.gtkw
+  gtkwave trace.vcd trace.gtkw
+
+For each processor there are the task that runs, the last call with its answer, whether it is
+locked or its dispatching disabled, its latch, the handler that is due, and its ticks; for each
+task its state and what it waits for; and for each semaphore, eventflag, data queue and pool its
+count, its pattern, how many values it has, and how many blocks are free. Of a trace that is not
+the machine's own nothing is written.
+
+With --gtkw TRACE is left out, and GTKWave's save file for the configuration is written, by which
+it shows all these signals at once.
+
+Exit status:
+  0  done
+  1  a fault in a text, told on standard error with its line
+  2  the command line is wrong
+  3  a file could not be read, or the output not be written
+  4  want of memory
+  5  the trace is not the machine's own: the first line that differs is told on standard error";
+
+const VIEW_ABOUT: &str = "Writes a page that shows a trace in a browser";
+
+const VIEW_HELP: &str = "\
+CFG is a configuration, and TRACE a trace as `fmpsim calls` or `fmpsim smp` writes it. The machine
+of the configuration answers the events of the trace, and one HTML file is written to
+standard output, which a browser opens from the disk, without a network:
+
+  fmpsim view machine.cfg trace.txt > timeline.html
+
+The page has lanes of processors, tasks and objects over the lines of the trace, and beside them
+what each line changed, why it could happen and what came of it. It holds the trace, so that
+who gets the page can save and replay it. Of a trace that is not the machine's own nothing is
+written.
+
+With --differences any trace is shown as the machine would have it, with each line of TRACE
+that is not the machine's own in red below the machine's: a log of a target, say. Behind such
+a line the machine goes on with its own answers.
+
+Exit status:
+  0  done
+  1  a fault in a text, told on standard error with its line
+  2  the command line is wrong
+  3  a file could not be read, or the output not be written
+  4  want of memory
+  5  the trace is not the machine's own: the first line that differs is told, or with --differences all";
+
+const LIST_ABOUT: &str = "Lists the calls, statements and faults, or what a configuration says";
+
+const LIST_HELP: &str = "\
+Without a name: each service call with its arguments, each statement of a configuration with
+its fields, and each fault with its number and words. With a name, such as `act_tsk`,
+`CRE_TSK` or `E4`: that call with what may be written for its arguments, what it does and what
+it answers, that statement with its attributes and the ranges of its numbers on the greatest
+machine, or that fault with what to do about it. An answer, a word of a trace, an attribute or
+a constant, such as `E_QOVR`, `held` or `TA_TPRI`: what it means.
+
+With a name that has a `.` or a `/` in it, the path of a configuration: what was read of it, in
+a line each. An object has its number there, its name, and the fields of its statement:
+
+  processors 2
+  timer local
+  limits wupcnt 1 pri 16
+  class C1 initial P1 processors P1 P2
+  task 1 T1 class C1 attr TA_ACT main main1 itskpri 10
+  task 2 T2 class C1 attr TA_NULL main main2 itskpri 5
+  function 1 main1
+  function 2 main2
+
+Exit status:
+  0  done
+  1  a fault in a text, told on standard error with its line
+  2  the command line is wrong, or nothing is called so
+  3  a file could not be read, or the output not be written
+  4  want of memory";
+
+const SHOW: &str = "show";
+
+const ALL: &str = "all";
+
+const PARTIAL: &str = "partial";
+
+const GTKW: &str = "gtkw";
+
+const DIFFERENCES: &str = "differences";
+
+const CONTEXT: &str = "context";
+
+const TRACE: &str = "TRACE";
+
+const NAME: &str = "NAME";
+
+const CALLS: Title<'static> = Title {
+    name: "calls",
+    bin_name: "fmpsim calls",
+    about: CALLS_ABOUT,
+    help: CALLS_HELP,
+};
+
+const CALLS_PARTS: &[Part<'static>] = &[
+    CONFIG_PART,
+    EVENTS_PART,
+    Part {
+        id: STATE,
+        form: Form::Choice(OF),
+        about: "Also writes the state at boot and after each event",
+    },
+    Part {
+        id: OF,
+        form: Form::Value("NAMES"),
+        about: "Writes only what changes these: names of tasks, handlers and objects, with commas between",
+    },
+    CONTEXT_PART,
+    COLOUR_PART,
+];
+
+const CHECK: Title<'static> = Title {
+    name: "check",
+    bin_name: "fmpsim check",
+    about: CHECK_ABOUT,
+    help: CHECK_HELP,
+};
+
+const CHECK_PARTS: &[Part<'static>] = &[
+    CONFIG_PART,
+    TRACE_PART,
+    Part {
+        id: SHOW,
+        form: Form::Choice(ALL),
+        about: "Also shows the first line that differs",
+    },
+    Part {
+        id: ALL,
+        form: Form::Choice(PARTIAL),
+        about: "Shows each line that differs, as a unified diff",
+    },
+    Part {
+        id: PARTIAL,
+        form: Form::Choice(SHOW),
+        about: "Judges only what is written of each line",
+    },
+    CONTEXT_PART,
+];
+
+const WAVE: Title<'static> = Title {
+    name: "wave",
+    bin_name: "fmpsim wave",
+    about: WAVE_ABOUT,
+    help: WAVE_HELP,
+};
+
+const WAVE_PARTS: &[Part<'static>] = &[
+    CONFIG_PART,
+    TRACE_PART,
+    Part {
+        id: GTKW,
+        form: Form::Choice(TRACE),
+        about: "Writes GTKWave's save file for CFG, without TRACE",
+    },
+    CONTEXT_PART,
+];
+
+const VIEW: Title<'static> = Title {
+    name: "view",
+    bin_name: "fmpsim view",
+    about: VIEW_ABOUT,
+    help: VIEW_HELP,
+};
+
+const VIEW_PARTS: &[Part<'static>] = &[
+    CONFIG_PART,
+    TRACE_PART,
+    Part {
+        id: DIFFERENCES,
+        form: Form::Flag,
+        about: "Shows any trace, with each line that differs from the machine",
+    },
+    CONTEXT_PART,
+];
+
+const LIST: Title<'static> = Title {
+    name: "list",
+    bin_name: "fmpsim list",
+    about: LIST_ABOUT,
+    help: LIST_HELP,
+};
+
+const LIST_PARTS: &[Part<'static>] = &[
+    Part {
+        id: NAME,
+        form: Form::Name,
+        about: "A call, a statement, the number of a fault, or the path of a configuration",
+    },
+    CONTEXT_PART,
+];
+
+const TRACE_PART: Part<'static> = Part {
+    id: TRACE,
+    form: Form::Path,
+    about: "Path of the trace",
+};
+
+/// The subcommands.
+#[derive(Clone, Copy)]
+pub enum Subcommand {
+    Calls,
+    Check,
+    Wave,
+    View,
+    Smp,
+    Explore,
+    Shrink,
+    List,
+}
+
+const SUBCOMMANDS: &[Subcommand] = &[
+    Subcommand::Calls,
+    Subcommand::Check,
+    Subcommand::Wave,
+    Subcommand::View,
+    Subcommand::Smp,
+    Subcommand::Explore,
+    Subcommand::Shrink,
+    Subcommand::List,
+];
+
+/// The paths of a configuration and of the other text.
+#[derive(Clone, Copy)]
+pub struct Paths<'a> {
+    pub config: &'a str,
+    pub text: &'a str,
+    /// What the other text is, where what stands beside a fault is to be shown.
+    pub context: Option<TextForm>,
+}
+
+/// What is written of each event.
+#[derive(Clone, Copy, PartialEq, Eq)]
+pub enum Told {
+    /// Its line of the trace.
+    Line,
+    /// That, and the state after it.
+    State,
+}
+
+/// What is asked of a trace.
+#[derive(Clone, Copy, PartialEq, Eq)]
+pub enum Asked {
+    /// Whether it is the machine's.
+    Verdict,
+    /// Whether it is the machine's, where each line may leave out its number, its runner and the fields behind its answer.
+    Partial,
+    /// Where it is not the machine's.
+    Differences(Shown),
+    /// Its waveform.
+    Waveform,
+    /// A page that shows it in a browser.
+    Page,
+    /// A page that shows it as the machine would have it, beside its lines that are not the machine's.
+    DifferencesPage,
+}
+
+/// A configuration of which is listed what was read.
+#[derive(Clone, Copy)]
+pub struct Described<'a> {
+    /// Its path.
+    pub config: &'a str,
+    /// Whether what stands beside a fault is to be shown.
+    pub context: bool,
+}
+
+/// What the command line asks for.
+#[derive(Clone, Copy)]
+pub enum Request<'a> {
+    /// What a configuration answers to a list of events.
+    Calls(Paths<'a>, Told, Colour),
+    /// What of the things with these names, between commas, the events change.
+    Life(Paths<'a>, &'a str, Colour),
+    /// What is asked of a trace.
+    Trace(Paths<'a>, Asked),
+    /// GTKWave's save file for a configuration. There is no other text.
+    Save(Paths<'a>),
+    /// The trace of processors that follow scripts.
+    Smp(SmpRequest<'a>),
+    /// What every order of what scripts ask shows.
+    Explore(ExploreRequest<'a>),
+    /// The events that are needed to show something.
+    Shrink(ShrinkRequest<'a>),
+    /// What may be written: all of it, or what is called so.
+    List(Option<&'a str>),
+    /// What was read of a configuration.
+    Describe(Described<'a>),
+}
+
+/// The option for the form of fault lines, which goes with every command and is taken from the words before these are parsed.
+fn diagnostics<'a>(alloc: Global) -> Arg<'a> {
+    Arg::new(alloc, "diagnostics")
+        .long("diagnostics")
+        .value_name("FORM")
+        .action(ArgAction::Set)
+        .help("How each command tells faults, plain or gcc, by which editors jump to the place")
+}
+
+/// The command of a subcommand, for its help and for what is wrong in it.
+fn command_of<'a>(alloc: Global, subcommand: Subcommand) -> Result<Command<'a>, AllocError> {
+    match subcommand {
+        Subcommand::Calls => line(alloc, CALLS, CALLS_PARTS),
+        Subcommand::Check => line(alloc, CHECK, CHECK_PARTS),
+        Subcommand::Wave => line(alloc, WAVE, WAVE_PARTS),
+        Subcommand::View => line(alloc, VIEW, VIEW_PARTS),
+        Subcommand::Smp => smp_command(alloc),
+        Subcommand::Explore => explore_command(alloc),
+        Subcommand::Shrink => shrink_command(alloc),
+        Subcommand::List => line(alloc, LIST, LIST_PARTS),
+    }
+}
+
+/// The program's command without its subcommands.
+fn program<'a>(alloc: Global) -> Result<Command<'a>, AllocError> {
+    Command::new(alloc, "fmpsim")
+        .about(ABOUT)
+        .version("0.1.0")
+        .subcommand_required(true)
+        .arg_required_else_help(true)
+        .arg(diagnostics(alloc))
+}
+
+/// The whole command line, for its help and for what is wrong in it.
+fn whole_command<'a>(alloc: Global) -> Result<Command<'a>, AllocError> {
+    let mut whole = program(alloc)?;
+    for subcommand in SUBCOMMANDS {
+        whole = whole.subcommand(command_of(alloc, *subcommand)?)?;
+    }
+    Ok(whole)
+}
+
+/// The two paths that the words behind a subcommand name.
+fn named_paths<'a>(matches: &ArgMatches<'a>, text: &str, form: TextForm) -> Paths<'a>
+    ensures { NamesPaths (rows_in matches.now) text.now form result }
+{
+    let config = text_in(matches, "CFG");
+    let named = text_in(matches, text);
+    let context = flag_in(matches, CONTEXT).then_some(form);
+    Paths {
+        config,
+        text: named,
+        context,
+    }
+}
+
+/// What is told of each event.
+fn told_for(state: bool) -> Told
+    ensures { result ≡ told_by state }
+{
+    if state { Told::State } else { Told::Line }
+}
+
+/// What is asked of a trace by these flags.
+fn asked_for(partial: bool, show: bool, all: bool) -> Asked
+    ensures { result ≡ asked_by partial show all }
+{
+    match (partial, show, all) {
+        (true, _, _) => Asked::Partial,
+        (false, true, _) => Asked::Differences(Shown::First),
+        (false, false, true) => Asked::Differences(Shown::Each),
+        (false, false, false) => Asked::Verdict,
+    }
+}
+
+/// What `calls` is asked for: what of some things changes where `--of` stands, and the state too where `--state` does.
+fn calls_in<'a>(matches: &ArgMatches<'a>) -> Request<'a>
+    ensures { IsCalls (rows_in matches.now) result }
+{
+    let paths = named_paths(matches, "EVENTS", TextForm::Events);
+    let told = told_for(flag_in(matches, STATE));
+    let colour = colour_of(matches);
+    match option_in(matches, OF) {
+        Some(names) => Request::Life(paths, names, colour),
+        None => Request::Calls(paths, told, colour),
+    }
+}
+
+/// What the text of `check` is.
+fn checked_form(partial: bool) -> TextForm
+    ensures { result ≡ form_by partial }
+{
+    if partial {
+        TextForm::Partial
+    } else {
+        TextForm::Trace
+    }
+}
+
+/// What `check` is asked for: by `--partial`, by `--show`, by `--all`, or by none of them.
+fn check_in<'a>(matches: &ArgMatches<'a>) -> Request<'a>
+    ensures { IsCheck (rows_in matches.now) result }
+{
+    let partial = flag_in(matches, PARTIAL);
+    let paths = named_paths(matches, TRACE, checked_form(partial));
+    let show = flag_in(matches, SHOW);
+    let all = flag_in(matches, ALL);
+    Request::Trace(paths, asked_for(partial, show, all))
+}
+
+/// What `wave` is asked for: the save file where `--gtkw` stands, and else the waveform.
+fn wave_in<'a>(matches: &ArgMatches<'a>) -> Request<'a>
+    ensures { IsWave (rows_in matches.now) result }
+{
+    let paths = named_paths(matches, TRACE, TextForm::Trace);
+    if flag_in(matches, GTKW) {
+        Request::Save(paths)
+    } else {
+        Request::Trace(paths, Asked::Waveform)
+    }
+}
+
+/// Which page is asked for, by the flag.
+fn page_for(differences: bool) -> Asked
+    ensures { result ≡ page_by differences }
+{
+    if differences {
+        Asked::DifferencesPage
+    } else {
+        Asked::Page
+    }
+}
+
+/// What `view` is asked for: the lines that differ too where `--differences` stands.
+fn view_in<'a>(matches: &ArgMatches<'a>) -> Request<'a>
+    ensures { IsView (rows_in matches.now) result }
+{
+    let paths = named_paths(matches, TRACE, TextForm::Trace);
+    let differences = flag_in(matches, DIFFERENCES);
+    Request::Trace(paths, page_for(differences))
+}
+
+/// Whether a word behind `list` is the path of a configuration: it has a `.` or a `/` in it, as nothing has that is called so.
+fn is_path(word: &str) -> bool
+    ensures { result ≡ is_path word.entry.now }
+{
+    word.as_bytes()
+        .iter()
+        .any(|byte| *byte == b'.' || *byte == b'/')
+}
+
+/// What `list` is asked for by the word behind it, if there is one, and by the flag.
+fn listed<'a>(name: Option<&'a str>, context: bool) -> Request<'a>
+    ensures { IsListedBy (option_map (λ s. s.now) name.entry) context result }
+{
+    let Some(word) = name else {
+        return Request::List(None);
+    };
+    if is_path(word) {
+        Request::Describe(Described {
+            config: word,
+            context,
+        })
+    } else {
+        Request::List(Some(word))
+    }
+}
+
+/// What `list` is asked for: what was read of a configuration where a path stands behind it, and else what may be written.
+fn list_in<'a>(matches: &ArgMatches<'a>) -> Request<'a>
+    ensures { AsksList (rows_in matches.now) result }
+{
+    let context = flag_in(matches, CONTEXT);
+    listed(option_in(matches, NAME), context)
+}
+
+/// What the words of `calls` ask for.
+fn parse_calls<'a>(alloc: Global, words: &'a [String]) -> Result<Request<'a>, Error>
+    ensures { IfOk result (IsCalls (found_by calls_line (map (λ w. w.bytes.items) words.now))) }
+{
+    let matches = matched(alloc, CALLS, CALLS_PARTS, words)?;
+    Ok(calls_in(&matches))
+}
+
+/// What the words of `check` ask for.
+fn parse_check<'a>(alloc: Global, words: &'a [String]) -> Result<Request<'a>, Error>
+    ensures { IfOk result (IsCheck (found_by check_line (map (λ w. w.bytes.items) words.now))) }
+{
+    let matches = matched(alloc, CHECK, CHECK_PARTS, words)?;
+    Ok(check_in(&matches))
+}
+
+/// What the words of `wave` ask for.
+fn parse_wave<'a>(alloc: Global, words: &'a [String]) -> Result<Request<'a>, Error>
+    ensures { IfOk result (IsWave (found_by wave_line (map (λ w. w.bytes.items) words.now))) }
+{
+    let matches = matched(alloc, WAVE, WAVE_PARTS, words)?;
+    Ok(wave_in(&matches))
+}
+
+/// What the words of `view` ask for.
+fn parse_view<'a>(alloc: Global, words: &'a [String]) -> Result<Request<'a>, Error>
+    ensures { IfOk result (IsView (found_by view_line (map (λ w. w.bytes.items) words.now))) }
+{
+    let matches = matched(alloc, VIEW, VIEW_PARTS, words)?;
+    Ok(view_in(&matches))
+}
+
+/// What the words of `list` ask for.
+fn parse_list<'a>(alloc: Global, words: &'a [String]) -> Result<Request<'a>, Error>
+    ensures { IfOk result (AsksList (found_by list_line (map (λ w. w.bytes.items) words.now))) }
+{
+    let matches = matched(alloc, LIST, LIST_PARTS, words)?;
+    Ok(list_in(&matches))
+}
+
+/// What the words behind the program's name ask for, of which the first names the subcommand.
+fn parse_as<'a>(
+    alloc: Global,
+    subcommand: Subcommand,
+    words: &'a [String],
+) -> Result<Request<'a>, Error>
+    ensures { IfOk result (IsAsked subcommand (map (λ w. w.bytes.items) words.now)) }
+{
+    match subcommand {
+        Subcommand::Calls => parse_calls(alloc, words),
+        Subcommand::Check => parse_check(alloc, words),
+        Subcommand::Wave => parse_wave(alloc, words),
+        Subcommand::View => parse_view(alloc, words),
+        Subcommand::Smp => Ok(Request::Smp(parse_smp(alloc, words)?)),
+        Subcommand::Explore => Ok(Request::Explore(parse_explore(alloc, words)?)),
+        Subcommand::Shrink => Ok(Request::Shrink(parse_shrink(alloc, words)?)),
+        Subcommand::List => parse_list(alloc, words),
+    }
+}
+
+/// The word behind the program's name, which names the command.
+fn command_word<'a>(words: &'a [String]) -> Option<&'a str>
+    ensures { option_map (λ w. w.now) result ≡ option_map (λ w. w.bytes.items) (slice_get words.now 1) }
+{
+    words.get(1).map(|word| word.as_str())
+}
+
+/// The subcommand that a word names, if it names one.
+fn subcommand_for(word: Option<&str>) -> Option<Subcommand>
+    ensures { result ≡ subcommand_by (option_map (λ w. w.now) word.entry) }
+{
+    match word {
+        Some("calls") => Some(Subcommand::Calls),
+        Some("check") => Some(Subcommand::Check),
+        Some("wave") => Some(Subcommand::Wave),
+        Some("view") => Some(Subcommand::View),
+        Some("smp") => Some(Subcommand::Smp),
+        Some("explore") => Some(Subcommand::Explore),
+        Some("shrink") => Some(Subcommand::Shrink),
+        Some("list") => Some(Subcommand::List),
+        _ => None,
+    }
+}
+
+/// The words behind the program's name.
+fn behind<'a>(words: &'a [String]) -> &'a [String]
+    requires { 1 ≤ length words.now }
+    ensures { result.now ≡ drop 1 words.now }
+{
+    &words[1..]
+}
+
+/// What is wrong in a command line that names no subcommand.
+fn refuse<'a>(alloc: Global, words: &'a [String]) -> Result<Request<'a>, Error>
+    ensures { IsErr result }
+{
+    let mut whole = whole_command(alloc)?;
+    whole.try_get_matches_from_mut(words)?;
+    Err(whole.error(ErrorKind::MissingSubcommand, "a subcommand is wanted")?)
+}
+
+/// What the words of the command line ask for: the word behind the program's name says which command, and each part of the
+/// request is what clap finds in that word and those behind it under one name of that command.
+pub fn parse<'a>(alloc: Global, words: &'a [String]) -> Result<Request<'a>, Error>
+    ensures { IfOk result (AsksFor (option_map (λ w. w.bytes.items) (slice_get words.now 1))
+        (map (λ w. w.bytes.items) (drop 1 words.now))) }
+{
+    match subcommand_for(command_word(words)) {
+        Some(subcommand) => parse_as(alloc, subcommand, behind(words)),
+        None => refuse(alloc, words),
+    }
+}

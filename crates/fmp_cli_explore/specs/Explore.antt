@@ -1,0 +1,54 @@
+-- The command line of a search through all orders, and what it gives.
+use Rattle.std.specs.Prelude.{◌≡◌, ◌≤◌, ℕ, List, [], ◌∷◌, Option, Some, None, codes, option_map}
+use Rattle.std.specs.Option.{SomeIff}
+use Rattle.std.specs.Str.Parse.{IsNumeral, without_leading_plus}
+use Rattle.clap.specs.Words.{App, Row, Text, first_of, matches_of, one_of}
+use Rattle.fmp_cli_table.specs.Found.{IsFlag, text_of}
+use Rattle.fmp_cli_table.specs.Numbers.{number_of}
+use Rattle.fmp_cli_table.specs.Parts.{flag_rule, line_of, path_rule, value_rule, wanted_rule}
+use Rattle.fmp_cli_explore.specs.declared.ExploreRequest.{ExploreRequest}
+
+-- the whole command line, as a parse reads it
+abbrev pub explore_line : App
+explore_line = line_of (codes "explore") (
+    path_rule (codes "CFG") ∷ path_rule (codes "SCRIPTS") ∷ wanted_rule (codes "ticks") ∷ wanted_rule (codes "turns") ∷ wanted_rule (codes "find")
+    ∷ flag_rule (codes "prompt") ∷ value_rule (codes "drift") ∷ value_rule (codes "places") ∷ value_rule (codes "from") ∷ value_rule (codes "layer")
+    ∷ flag_rule (codes "context") ∷ [])
+
+-- what clap finds in the words of that command line, by the ids of the arguments
+unfoldable pub found_in : List Text → List Row
+found_in words = matches_of explore_line words
+
+-- the number that a text writes, where it is one within these limits
+abbrev pub IsNumberWithin : ℕ → ℕ → Text → Option ℕ → Type 0
+IsNumberWithin low high t n =
+    SomeIff n (IsNumeral 10 (without_leading_plus t) × (low ≤ number_of t) × (number_of t ≤ high)) (number_of t)
+
+-- no limit for `any`, or the number of a text
+abbrev pub IsTicks : Text → Option ℕ → Type 0
+IsTicks t None = t ≡ codes "any"
+IsTicks t (Some n) = IsNumberWithin 0 1000000 t (Some n)
+
+-- no limit without a text, or its number
+abbrev pub IsDrift : Option Text → Option ℕ → Type 0
+IsDrift None n = n ≡ None
+IsDrift (Some t) n = (k : ℕ) × (n ≡ Some k) × IsNumberWithin 1 1000000 t (Some k)
+
+-- 1,000,000 without a text, or its number
+abbrev pub IsPlaces : Option Text → ℕ → Type 0
+IsPlaces None n = n ≡ 1000000
+IsPlaces (Some t) n = IsNumberWithin 1 100000000 t (Some n)
+
+-- the request is what was found: each of its parts is that of one id
+pub record Asks (rows : List Row) (r : ExploreRequest) : Type 0 where
+  pub config : r.config.now ≡ text_of (codes "CFG") rows
+  pub scripts : r.scripts.now ≡ text_of (codes "SCRIPTS") rows
+  pub question : r.question.now ≡ text_of (codes "find") rows
+  pub ticks : IsTicks (text_of (codes "ticks") rows) r.ticks
+  pub prompt : IsFlag (one_of (codes "prompt") rows) r.prompt
+  pub drift : IsDrift (first_of (codes "drift") rows) r.drift
+  pub turns : IsNumberWithin 1 1000000 (text_of (codes "turns") rows) (Some r.bounds.turns)
+  pub places : IsPlaces (first_of (codes "places") rows) r.bounds.places
+  pub from : option_map (λ t. t.now) r.from ≡ first_of (codes "from") rows
+  pub layer : option_map (λ t. t.now) r.layer ≡ first_of (codes "layer") rows
+  pub context : IsFlag (one_of (codes "context") rows) r.context

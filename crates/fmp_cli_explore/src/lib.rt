@@ -1,0 +1,221 @@
+//! The command line of `fmpsim explore`.
+//!
+//! [`parse_explore`] says which part of a request is what clap finds under which name in the words of a command line (`specs/Explore`). Its
+//! numbers are read here, since `--ticks` takes a word too; they are in their ranges by the request's type. How the help and the texts
+//! of errors read is tested in `fmpsim`.
+#![tactic(auto)]
+
+ghost use Rattle.std.specs.Prelude.{◌≡◌, IfOk, IfSome, Some, codes, map};
+ghost use Rattle.clap.specs.Words.{app_of, first_of};
+ghost use Rattle.fmp_cli_table.specs.Found.{rows_in, text_of};
+ghost use Rattle.fmp_cli_explore.specs.Explore.{Asks, IsNumberWithin, IsPlaces, explore_line, found_in};
+
+mod bounds;
+mod numbers;
+
+use crate::numbers::{drift_in, number_in, places_in, ticks_in};
+pub use bounds::Bounds;
+use clap::error::ErrorKind;
+use clap::{ArgMatches, Command, Error};
+use fmp_cli_table::{
+    CONFIG_PART, CONTEXT_PART, Form, Part, SCRIPTS_PART, Title, flag_in, line, option_in, text_in,
+};
+use std::alloc::{AllocError, Global};
+
+const ABOUT: &str = "Goes through every order of what scripts ask, and answers a question";
+
+const HELP: &str = "\
+CFG is a configuration, and SCRIPTS says what the tasks and handlers of a function do, as for
+`fmpsim smp`. It may be `-`, which stands for standard input.
+
+What may happen next on a processor is the next call of its due handler or else of its running
+task, its interrupt where a request is pending and nothing holds it back, and a tick. Every order
+of these is gone through, the shortest first, until one shows what QUESTION asks:
+
+  can two tasks wait for each other       --find 'end & waits sem'
+  can a value be lost                     --find 'lost=*'
+  can a call answer an error              --find 'LOGGER snd_dtq(LOG, *) E_CTX'
+  can A come before B                     --find 'A without B'
+  can B come after A with no C between    --find 'A then B without C'
+  can it take three ticks                 --find 'A then 3 times P1 tick taken without B'
+
+A pattern is words that stand one behind the other in one line of an event: its line of the trace
+without the number, the lines that `fmpsim calls --state` writes below it, and `end` where nothing
+can change any more. In a word * is any number of bytes. `&` stands between patterns that have to
+be there at one event.
+
+With `--ticks any` there is no limit and no count, so that there are fewer places: try it first.
+Where it says `never`, no order of any length shows it.
+
+With `--from TRACE` only the orders are gone through that go on from those lines of a trace, which
+have to be lines of an order of these scripts. Lines count from 1 with those of TRACE, also for
+--turns, and the trace that is written begins with them.
+
+With `--layer DIR` a search that ends at its --turns leaves there what is to be gone on from, each
+in a trace of its own: DIR/1.trace, DIR/2.trace and so on. An order shows it only where one that
+goes on from one of them does, by no more lines: so several machines may search, each --from some
+of them, and where all say `never`, no order does.
+
+On standard output is the trace of a shortest order that shows it, `never`, or `not within N`: no
+order of at most N lines does.
+
+Exit status:
+  0  never
+  1  a fault in a text, in the question or in TRACE, told on standard error with its place
+  2  the command line is wrong
+  3  a file could not be read, or the output not be written
+  4  want of memory
+  5  an order shows it; its trace was written
+  6  not within so many lines: --turns or --places did not do for more";
+
+const WRONG_NUMBER: &str =
+    "--ticks is `any` or a number from 0 to 1000000, --turns and --drift are numbers from 1 to 1000000, and --places is one from 1 to 100000000";
+
+const TWO_BEGINNINGS: &str = "--layer writes traces for --from, and does not go with it";
+
+const TITLE: Title<'static> = Title {
+    name: "explore",
+    bin_name: "fmpsim explore",
+    about: ABOUT,
+    help: HELP,
+};
+
+const PARTS: &[Part<'static>] = &[
+    CONFIG_PART,
+    SCRIPTS_PART,
+    Part {
+        id: "ticks",
+        form: Form::Wanted("N"),
+        about: "How many ticks each processor takes at most, 0 to 1000000, or any",
+    },
+    Part {
+        id: "turns",
+        form: Form::Wanted("N"),
+        about: "How many lines the orders have at most, 1 to 1000000",
+    },
+    Part {
+        id: "find",
+        form: Form::Wanted("QUESTION"),
+        about: "What is looked for in the orders",
+    },
+    Part {
+        id: "prompt",
+        form: Form::Flag,
+        about: "Takes each interrupt before the next call of its processor, as smp does",
+    },
+    Part {
+        id: "drift",
+        form: Form::Value("N"),
+        about: "How many ticks more than another a processor may have taken, 1 to 1000000",
+    },
+    Part {
+        id: "places",
+        form: Form::Value("N"),
+        about: "For how many places there is room, 1 to 100000000, or else for 1000000",
+    },
+    Part {
+        id: "from",
+        form: Form::Value("TRACE"),
+        about: "Begins where this trace ends, and not at boot",
+    },
+    Part {
+        id: "layer",
+        form: Form::Value("DIR"),
+        about: "Writes there the traces from which longer orders go on, one a file",
+    },
+    CONTEXT_PART,
+];
+
+/// What the command line of `fmpsim explore` asks for.
+#[derive(Clone, Copy)]
+pub struct ExploreRequest<'a> {
+    /// The path of the configuration.
+    pub config: &'a str,
+    /// The path of the scripts.
+    pub scripts: &'a str,
+    pub question: &'a str,
+    /// How many ticks each processor takes at most. Without it any number.
+    pub ticks: Option<u32>,
+    /// Whether a request that nothing holds back is taken before its processor's next call.
+    pub prompt: bool,
+    /// How many ticks more than another a processor may have taken. Without it any number.
+    pub drift: Option<u32>,
+    pub bounds: Bounds,
+    /// The path of the trace where the orders begin. Without it they begin at boot.
+    pub from: Option<&'a str>,
+    /// The path of the folder for the traces from which to go on. Without it none are written.
+    pub layer: Option<&'a str>,
+    /// Whether what stands beside a fault is to be shown.
+    pub context: bool,
+}
+
+/// The command, for its help and for what is wrong in it.
+pub fn explore_command<'a>(alloc: Global) -> Result<Command<'a>, AllocError>
+    ensures { IfOk result (λ c. app_of c ≡ explore_line) }
+{
+    line(alloc, TITLE, PARTS)
+}
+
+/// How far the search goes, if the numbers are within their ranges.
+fn bounds_of<'a>(matches: &ArgMatches<'a>) -> Option<Bounds>
+    ensures turns { IfSome result (λ b. IsNumberWithin 1 1000000 (text_of (codes "turns") (rows_in matches.now)) (Some b.turns)) }
+    ensures places { IfSome result (λ b. IsPlaces (first_of (codes "places") (rows_in matches.now)) b.places) }
+{
+    let turns = number_in(text_in(matches, "turns"), 1, 1_000_000)?;
+    let places = places_in(option_in(matches, "places"))?;
+    Some(Bounds { turns, places })
+}
+
+/// The request that the matches are, if its numbers are within their ranges: each of its parts is what they have under one name.
+fn request_of<'a>(matches: &ArgMatches<'a>) -> Option<ExploreRequest<'a>>
+    ensures { IfSome result (Asks (rows_in matches.now)) }
+{
+    let config = text_in(matches, "CFG");
+    let scripts = text_in(matches, "SCRIPTS");
+    let question = text_in(matches, "find");
+    let ticks = ticks_in(text_in(matches, "ticks"))?;
+    let prompt = flag_in(matches, "prompt");
+    let drift = drift_in(option_in(matches, "drift"))?;
+    let bounds = bounds_of(matches)?;
+    let from = option_in(matches, "from");
+    let layer = option_in(matches, "layer");
+    let context = flag_in(matches, "context");
+    Some(ExploreRequest {
+        config,
+        scripts,
+        question,
+        ticks,
+        prompt,
+        drift,
+        bounds,
+        from,
+        layer,
+        context,
+    })
+}
+
+/// The request that the matches of a command are, or what is wrong with it.
+fn request_from<'a>(
+    command: &mut Command<'a>,
+    matches: &ArgMatches<'a>,
+) -> Result<ExploreRequest<'a>, Error>
+    ensures { IfOk result (Asks (rows_in matches.now)) }
+{
+    let Some(request) = request_of(matches) else {
+        return Err(command.error(ErrorKind::ValueValidation, WRONG_NUMBER)?);
+    };
+    if request.from.is_some() && request.layer.is_some() {
+        return Err(command.error(ErrorKind::ArgumentConflict, TWO_BEGINNINGS)?);
+    }
+    Ok(request)
+}
+
+/// What the words of the command line ask for, from `explore` on. Each part of the request is what clap finds in these words under one
+/// name. Otherwise the error says what is wrong, or that memory ran out.
+pub fn parse_explore<'a>(alloc: Global, words: &'a [String]) -> Result<ExploreRequest<'a>, Error>
+    ensures { IfOk result (Asks (found_in (map (λ w. w.bytes.items) words.now))) }
+{
+    let mut command = explore_command(alloc)?;
+    let matches = command.try_get_matches_from_mut(words)?;
+    request_from(&mut command, &matches)
+}

@@ -1,0 +1,43 @@
+//! The numbers of the command line, by their texts.
+ghost use Rattle.std.specs.Prelude.{◌≡◌, ◌≤◌, codes, None, IfSome, option_map};
+ghost use Rattle.fmp_cli_explore.specs.Explore.{IsNumberWithin, IsTicks, IsDrift, IsPlaces};
+
+/// The number from low to high that a text writes, if it is one.
+pub(crate) fn number_in(text: &str, low: u32, high: u32) -> Option<u32>
+    ensures { IsNumberWithin low high text.now result }
+{
+    match text.parse::<u32>() {
+        Ok(number) if low <= number && number <= high => Some(number),
+        _ => None,
+    }
+}
+
+/// How many ticks a processor takes at most: `any`, which sets no limit, or a number.
+pub(crate) fn ticks_in(text: &str) -> Option<Option<u32>>
+    ensures { IfSome result (IsTicks text.now) }
+{
+    if text == "any" {
+        return Some(None);
+    }
+    Some(Some(number_in(text, 0, 1_000_000)?))
+}
+
+/// How many ticks more than another a processor may have taken. Without a text there is no limit.
+pub(crate) fn drift_in(text: Option<&str>) -> Option<Option<u32>>
+    ensures { IfSome result (IsDrift (option_map (λ t. t.now) text.entry)) }
+{
+    match text {
+        None => Some(None),
+        Some(text) => Some(Some(number_in(text, 1, 1_000_000)?)),
+    }
+}
+
+/// For how many places there is room: 1,000,000 without a text.
+pub(crate) fn places_in(text: Option<&str>) -> Option<u32>
+    ensures { IfSome result (IsPlaces (option_map (λ t. t.now) text.entry)) }
+{
+    match text {
+        None => Some(1_000_000),
+        Some(text) => number_in(text, 1, 100_000_000),
+    }
+}

@@ -1,0 +1,247 @@
+//! The service calls with their arguments.
+ghost use Rattle.std.specs.Prelude.{◌≡◌, ◌++◌, OnOk};
+ghost use Rattle.fmp_codes.specs.declared.calls.Call.TheVariants as families;
+ghost use Rattle.fmp_cli_help.specs.Calls as spec;
+
+use crate::deeds::deed;
+use fmp_calls::{
+    ArgumentKind, BUFFER_CALLS, ObjectKind, SPIN_CALLS, SYNC_CALLS, SYSTEM_CALLS, TASK_CALLS,
+    TIME_CALLS, form,
+};
+use fmp_codes::{BufferCall, Call, SpinCall, SyncCall, SystemCall, TaskCall, TimeCall};
+use std::alloc::AllocError;
+
+/// What an argument of a kind is called.
+fn word_of(kind: ArgumentKind) -> &'static [u8]
+    ensures { result.now ≡ spec.word_of kind }
+{
+    match kind {
+        ArgumentKind::Object(ObjectKind::Task) => b"task",
+        ArgumentKind::Object(ObjectKind::Semaphore) => b"semaphore",
+        ArgumentKind::Object(ObjectKind::Eventflag) => b"eventflag",
+        ArgumentKind::Object(ObjectKind::DataQueue) => b"data queue",
+        ArgumentKind::Object(ObjectKind::Pool) => b"pool",
+        ArgumentKind::Object(ObjectKind::Cyclic) => b"cyclic",
+        ArgumentKind::Object(ObjectKind::Alarm) => b"alarm",
+        ArgumentKind::Object(ObjectKind::SpinLock) => b"spin lock",
+        ArgumentKind::Priority => b"priority",
+        ArgumentKind::Processor => b"processor",
+        ArgumentKind::Time => b"time",
+        ArgumentKind::Timeout => b"timeout",
+        ArgumentKind::Pattern => b"pattern",
+        ArgumentKind::Data => b"data",
+        ArgumentKind::Mode => b"mode",
+        ArgumentKind::Block => b"block",
+    }
+}
+
+/// What may be written for an argument of a kind.
+fn written(kind: ArgumentKind) -> &'static [u8]
+    ensures { result.now ≡ spec.written kind }
+{
+    match kind {
+        ArgumentKind::Object(ObjectKind::Task) => {
+            b"its name, TSK_SELF for 0, or a number of 32 bits with a sign"
+        }
+        ArgumentKind::Object(_) => b"its name, or a number of 32 bits with a sign",
+        ArgumentKind::Priority => {
+            b"a number of 32 bits with a sign, TPRI_SELF for 0, or TPRI_INI for 0"
+        }
+        ArgumentKind::Processor => b"a number of 32 bits with a sign, or TPRC_INI for 0",
+        ArgumentKind::Time | ArgumentKind::Block => b"a number of 32 bits with a sign",
+        ArgumentKind::Timeout => {
+            b"a number of 32 bits with a sign, TMO_POL for 0, or TMO_FEVR for -1"
+        }
+        ArgumentKind::Pattern => b"a number from 0 to 4294967295",
+        ArgumentKind::Data => b"a number of 64 bits with a sign",
+        ArgumentKind::Mode => b"TWF_ANDW for all bits of the pattern, or TWF_ORW for one of them",
+    }
+}
+
+/// Adds the kinds of a call's arguments, with commas between them.
+fn put_kinds(out: &mut Vec<u8>, kinds: &[ArgumentKind]) -> Result<(), AllocError>
+    ensures { OnOk result (out.new.items ≡ out.old.items ++ spec.kinds_from 0 kinds.now) }
+{
+    for (index, kind) in kinds.iter().enumerate() {
+        if index > 0 {
+            out.extend_from_slice(b", ")?;
+        }
+        out.extend_from_slice(word_of(*kind))?;
+    }
+    Ok(())
+}
+
+/// Adds a call as it is written, with the kinds of its arguments.
+#[tactic(auto, unfolding(crate::specs::Calls::line_of))]
+pub fn put_call(out: &mut Vec<u8>, call: Call) -> Result<(), AllocError>
+    ensures { OnOk result (out.new.items ≡ out.old.items ++ spec.line_of call) }
+{
+    let form = form(call);
+    out.extend_from_slice(form.text)?;
+    if !form.bare {
+        out.push(b'(')?;
+        put_kinds(out, form.kinds)?;
+        out.push(b')')?;
+    }
+    out.extend_from_slice(b"\n")
+}
+
+/// Adds what may be written for an argument of a kind.
+#[tactic(auto, unfolding(crate::specs::Calls::argument_of))]
+pub fn put_argument(out: &mut Vec<u8>, kind: ArgumentKind) -> Result<(), AllocError>
+    ensures { OnOk result (out.new.items ≡ out.old.items ++ spec.argument_of kind) }
+{
+    out.extend_from_slice(b"  ")?;
+    out.extend_from_slice(word_of(kind))?;
+    out.extend_from_slice(b": ")?;
+    out.extend_from_slice(written(kind))?;
+    out.extend_from_slice(b"\n")
+}
+
+/// Adds for each of these kinds of arguments what may be written.
+fn put_arguments(out: &mut Vec<u8>, kinds: &[ArgumentKind]) -> Result<(), AllocError>
+    ensures { OnOk result (out.new.items ≡ out.old.items ++ spec.arguments_of kinds.now) }
+{
+    for kind in kinds {
+        put_argument(out, *kind)?;
+    }
+    Ok(())
+}
+
+/// Adds a call, and for each of its arguments what may be written.
+#[tactic(auto, unfolding(crate::specs::Calls::about))]
+pub(crate) fn put_about(out: &mut Vec<u8>, call: Call) -> Result<(), AllocError>
+    ensures { OnOk result (out.new.items ≡ out.old.items ++ spec.about call) }
+{
+    put_call(out, call)?;
+    put_arguments(out, form(call).kinds)?;
+    out.extend_from_slice(deed(call))
+}
+
+/// Adds a line for each of these calls on tasks.
+#[tactic(auto, unfolding(crate::specs::Calls::lines_of))]
+fn put_task_lines(out: &mut Vec<u8>, calls: &[TaskCall]) -> Result<(), AllocError>
+    ensures { OnOk result (out.new.items ≡ out.old.items ++ spec.lines_of families.Task calls.now) }
+{
+    for call in calls {
+        put_call(out, Call::Task(*call))?;
+    }
+    Ok(())
+}
+
+/// Adds a line for each of these calls on semaphores and eventflags.
+#[tactic(auto, unfolding(crate::specs::Calls::lines_of))]
+fn put_sync_lines(out: &mut Vec<u8>, calls: &[SyncCall]) -> Result<(), AllocError>
+    ensures { OnOk result (out.new.items ≡ out.old.items ++ spec.lines_of families.Sync calls.now) }
+{
+    for call in calls {
+        put_call(out, Call::Sync(*call))?;
+    }
+    Ok(())
+}
+
+/// Adds a line for each of these calls on data queues and pools.
+#[tactic(auto, unfolding(crate::specs::Calls::lines_of))]
+fn put_buffer_lines(out: &mut Vec<u8>, calls: &[BufferCall]) -> Result<(), AllocError>
+    ensures { OnOk result (out.new.items ≡ out.old.items ++ spec.lines_of families.Buffer calls.now) }
+{
+    for call in calls {
+        put_call(out, Call::Buffer(*call))?;
+    }
+    Ok(())
+}
+
+/// Adds a line for each of these calls on cyclic handlers and alarms.
+#[tactic(auto, unfolding(crate::specs::Calls::lines_of))]
+fn put_time_lines(out: &mut Vec<u8>, calls: &[TimeCall]) -> Result<(), AllocError>
+    ensures { OnOk result (out.new.items ≡ out.old.items ++ spec.lines_of families.Time calls.now) }
+{
+    for call in calls {
+        put_call(out, Call::Time(*call))?;
+    }
+    Ok(())
+}
+
+/// Adds a line for each of these calls on the processors and the state of dispatching.
+#[tactic(auto, unfolding(crate::specs::Calls::lines_of))]
+fn put_system_lines(out: &mut Vec<u8>, calls: &[SystemCall]) -> Result<(), AllocError>
+    ensures { OnOk result (out.new.items ≡ out.old.items ++ spec.lines_of families.System calls.now) }
+{
+    for call in calls {
+        put_call(out, Call::System(*call))?;
+    }
+    Ok(())
+}
+
+/// Adds a line for each of these calls on spin locks.
+#[tactic(auto, unfolding(crate::specs::Calls::lines_of))]
+fn put_spin_lines(out: &mut Vec<u8>, calls: &[SpinCall]) -> Result<(), AllocError>
+    ensures { OnOk result (out.new.items ≡ out.old.items ++ spec.lines_of families.Spin calls.now) }
+{
+    for call in calls {
+        put_call(out, Call::Spin(*call))?;
+    }
+    Ok(())
+}
+
+/// Adds a line for each call on tasks.
+#[tactic(auto, unfolding(crate::specs::Calls::task_calls))]
+fn put_task_calls(out: &mut Vec<u8>) -> Result<(), AllocError>
+    ensures { OnOk result (out.new.items ≡ out.old.items ++ spec.task_calls) }
+{
+    put_task_lines(out, TASK_CALLS)
+}
+
+/// Adds a line for each call on semaphores and eventflags.
+#[tactic(auto, unfolding(crate::specs::Calls::sync_calls))]
+fn put_sync_calls(out: &mut Vec<u8>) -> Result<(), AllocError>
+    ensures { OnOk result (out.new.items ≡ out.old.items ++ spec.sync_calls) }
+{
+    put_sync_lines(out, SYNC_CALLS)
+}
+
+/// Adds a line for each call on data queues and pools.
+#[tactic(auto, unfolding(crate::specs::Calls::buffer_calls))]
+fn put_buffer_calls(out: &mut Vec<u8>) -> Result<(), AllocError>
+    ensures { OnOk result (out.new.items ≡ out.old.items ++ spec.buffer_calls) }
+{
+    put_buffer_lines(out, BUFFER_CALLS)
+}
+
+/// Adds a line for each call on cyclic handlers and alarms.
+#[tactic(auto, unfolding(crate::specs::Calls::time_calls))]
+fn put_time_calls(out: &mut Vec<u8>) -> Result<(), AllocError>
+    ensures { OnOk result (out.new.items ≡ out.old.items ++ spec.time_calls) }
+{
+    put_time_lines(out, TIME_CALLS)
+}
+
+/// Adds a line for each call on the processors and the state of dispatching.
+#[tactic(auto, unfolding(crate::specs::Calls::system_calls))]
+fn put_system_calls(out: &mut Vec<u8>) -> Result<(), AllocError>
+    ensures { OnOk result (out.new.items ≡ out.old.items ++ spec.system_calls) }
+{
+    put_system_lines(out, SYSTEM_CALLS)
+}
+
+/// Adds a line for each call on spin locks.
+#[tactic(auto, unfolding(crate::specs::Calls::spin_calls))]
+fn put_spin_calls(out: &mut Vec<u8>) -> Result<(), AllocError>
+    ensures { OnOk result (out.new.items ≡ out.old.items ++ spec.spin_calls) }
+{
+    put_spin_lines(out, SPIN_CALLS)
+}
+
+/// Adds a line for each call.
+#[tactic(auto, unfolding(crate::specs::Calls::all_calls))]
+pub fn put_calls(out: &mut Vec<u8>) -> Result<(), AllocError>
+    ensures { OnOk result (out.new.items ≡ out.old.items ++ spec.all_calls) }
+{
+    put_task_calls(out)?;
+    put_sync_calls(out)?;
+    put_buffer_calls(out)?;
+    put_time_calls(out)?;
+    put_system_calls(out)?;
+    put_spin_calls(out)?;
+    put_call(out, Call::RetHdr)
+}

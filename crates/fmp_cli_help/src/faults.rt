@@ -1,0 +1,212 @@
+//! The faults of texts, and what to do about them.
+ghost use Rattle.std.specs.Prelude.{◌≡◌, ◌++◌, OnOk, find};
+ghost use Rattle.std.specs.Str.{bytes_eq};
+ghost use Rattle.fmp_config_statements.specs.Faults as config;
+ghost use Rattle.fmp_text.specs.Faults as text;
+ghost use Rattle.fmp_cli_help.specs.Faults as spec;
+
+use fmp_config_statements::ConfigKind;
+use fmp_text::TextKind;
+use std::alloc::AllocError;
+
+/// The faults of a configuration.
+pub(crate) const CONFIG_KINDS: [ConfigKind; 13] = [
+    ConfigKind::Syntax,
+    ConfigKind::CutShort,
+    ConfigKind::Unsupported,
+    ConfigKind::OutsideClass,
+    ConfigKind::UnknownClass,
+    ConfigKind::NameTaken,
+    ConfigKind::OutOfRange,
+    ConfigKind::BadAttribute,
+    ConfigKind::TooMany,
+    ConfigKind::NoProcessors,
+    ConfigKind::BadClass,
+    ConfigKind::Memory,
+    ConfigKind::ForeignHandler,
+];
+
+/// The faults of events, scripts and traces.
+pub(crate) const TEXT_KINDS: [TextKind; 8] = [
+    TextKind::BadByte,
+    TextKind::BadWord,
+    TextKind::UnknownName,
+    TextKind::WrongArguments,
+    TextKind::NumberOutOfRange,
+    TextKind::CutShort,
+    TextKind::TooMany,
+    TextKind::Memory,
+];
+
+/// What to do about a fault of a configuration.
+fn config_advice(kind: ConfigKind) -> &'static [u8]
+    ensures { result.now ≡ spec.config_advice kind }
+{
+    match kind {
+        ConfigKind::Syntax =>
+            b"Compare the statement with its form: `fmpsim list CRE_TSK`. The word is the token that does not fit.",
+        ConfigKind::CutShort =>
+            b"Close the comment, string, statement or class that begins in this line.",
+        ConfigKind::Unsupported =>
+            b"Leave this statement out: `fmpsim list` has those that are read.",
+        ConfigKind::OutsideClass => b"Put the statement into a `CLASS(..) { .. }`.",
+        ConfigKind::UnknownClass =>
+            b"Define the class before it is used: `DEF_CLASS(name, 1, {1, 2});`.",
+        ConfigKind::NameTaken =>
+            b"Choose another name: all classes, objects and defined names share one name space, and some words are reserved.",
+        ConfigKind::OutOfRange =>
+            b"Give a number within the range that `fmpsim list` tells, without leading zeros, or a name defined before.",
+        ConfigKind::BadAttribute =>
+            b"Give one of the attributes that `fmpsim list` tells for this statement.",
+        ConfigKind::TooMany =>
+            b"There may be 64 tasks, 32 classes, 32 objects of each other kind, 1024 defined names, 1048576 bytes, and one of each other statement.",
+        ConfigKind::NoProcessors => b"Begin with `PROCESSORS(n);`.",
+        ConfigKind::BadClass =>
+            b"Name only processors of the machine in the class, the initial one among them.",
+        ConfigKind::Memory => b"Give the program more memory.",
+        ConfigKind::ForeignHandler =>
+            b"Under `TIMER(GLOBAL, p);` create handlers in a class whose only processor is p.",
+    }
+}
+
+/// What to do about a fault of events, scripts or a trace.
+fn text_advice(kind: TextKind) -> &'static [u8]
+    ensures { result.now ≡ spec.text_advice kind }
+{
+    match kind {
+        TextKind::BadByte =>
+            b"Write only letters, digits, `_`, `-`, `(`, `)`, `,` and blanks. A comment has a line of its own that begins with `#`.",
+        TextKind::BadWord =>
+            b"Begin with `P` and a processor, then `tick`, `ipi`, `ret_hdr` or a call: `fmpsim list` has them. In a trace, write the line exactly as it is printed.",
+        TextKind::UnknownName => b"Use the name of an object of the configuration, or a constant.",
+        TextKind::WrongArguments =>
+            b"Compare the arguments with the call's: `fmpsim list act_tsk`.",
+        TextKind::NumberOutOfRange =>
+            b"Give a number within its range, without leading zeros, and a processor that the machine has.",
+        TextKind::CutShort =>
+            b"End the last line with a line feed, and the last script with `end`.",
+        TextKind::TooMany =>
+            b"There may be 1000000 events, 1073741824 bytes, and 256 steps in a script.",
+        TextKind::Memory => b"Give the program more memory.",
+    }
+}
+
+/// Adds the line of a fault of a configuration: its number and its words.
+#[tactic(auto, unfolding(crate::specs::Faults::config_line))]
+fn put_config_line(out: &mut Vec<u8>, kind: ConfigKind) -> Result<(), AllocError>
+    ensures { OnOk result (out.new.items ≡ out.old.items ++ spec.config_line kind) }
+{
+    out.extend_from_slice(kind.code().as_bytes())?;
+    out.push(b' ')?;
+    out.extend_from_slice(kind.words().as_bytes())?;
+    out.extend_from_slice(b"\n")
+}
+
+/// Adds the line of a fault of events, scripts or a trace: its number and its words.
+#[tactic(auto, unfolding(crate::specs::Faults::text_line))]
+fn put_text_line(out: &mut Vec<u8>, kind: TextKind) -> Result<(), AllocError>
+    ensures { OnOk result (out.new.items ≡ out.old.items ++ spec.text_line kind) }
+{
+    out.extend_from_slice(kind.code().as_bytes())?;
+    out.push(b' ')?;
+    out.extend_from_slice(kind.words().as_bytes())?;
+    out.extend_from_slice(b"\n")
+}
+
+/// Adds the line of what to do about a fault.
+#[tactic(auto, unfolding(crate::specs::Faults::advice_line))]
+fn put_advice(out: &mut Vec<u8>, advice: &[u8]) -> Result<(), AllocError>
+    ensures { OnOk result (out.new.items ≡ out.old.items ++ spec.advice_line advice.now) }
+{
+    out.extend_from_slice(b"  ")?;
+    out.extend_from_slice(advice)?;
+    out.extend_from_slice(b"\n")
+}
+
+/// Adds what to do about a fault of a configuration.
+pub fn put_config_advice(out: &mut Vec<u8>, kind: ConfigKind) -> Result<(), AllocError>
+    ensures { OnOk result (out.new.items ≡ out.old.items ++ spec.advice_line (spec.config_advice kind)) }
+{
+    put_advice(out, config_advice(kind))
+}
+
+/// Adds a fault of a configuration, and what to do about it.
+#[tactic(auto, unfolding(crate::specs::Faults::about_config))]
+pub(crate) fn put_about_config(out: &mut Vec<u8>, kind: ConfigKind) -> Result<(), AllocError>
+    ensures { OnOk result (out.new.items ≡ out.old.items ++ spec.about_config kind) }
+{
+    put_config_line(out, kind)?;
+    put_advice(out, config_advice(kind))
+}
+
+/// Adds what to do about a fault of events, scripts or a trace.
+pub fn put_text_advice(out: &mut Vec<u8>, kind: TextKind) -> Result<(), AllocError>
+    ensures { OnOk result (out.new.items ≡ out.old.items ++ spec.advice_line (spec.text_advice kind)) }
+{
+    put_advice(out, text_advice(kind))
+}
+
+/// Adds a fault of events, scripts or a trace, and what to do about it.
+#[tactic(auto, unfolding(crate::specs::Faults::about_text))]
+pub(crate) fn put_about_text(out: &mut Vec<u8>, kind: TextKind) -> Result<(), AllocError>
+    ensures { OnOk result (out.new.items ≡ out.old.items ++ spec.about_text kind) }
+{
+    put_text_line(out, kind)?;
+    put_advice(out, text_advice(kind))
+}
+
+/// Adds a line for each of these faults of a configuration.
+fn put_config_lines(out: &mut Vec<u8>, kinds: &[ConfigKind]) -> Result<(), AllocError>
+    ensures { OnOk result (out.new.items ≡ out.old.items ++ spec.config_lines kinds.now) }
+{
+    for kind in kinds {
+        put_config_line(out, *kind)?;
+    }
+    Ok(())
+}
+
+/// Adds a line for each fault of a configuration.
+#[tactic(auto, unfolding(crate::specs::Faults::all_of_config))]
+pub(crate) fn put_config_faults(out: &mut Vec<u8>) -> Result<(), AllocError>
+    ensures { OnOk result (out.new.items ≡ out.old.items ++ spec.all_of_config) }
+{
+    put_config_lines(out, &CONFIG_KINDS)
+}
+
+/// Adds a line for each of these faults of events, scripts or a trace.
+fn put_text_lines(out: &mut Vec<u8>, kinds: &[TextKind]) -> Result<(), AllocError>
+    ensures { OnOk result (out.new.items ≡ out.old.items ++ spec.text_lines kinds.now) }
+{
+    for kind in kinds {
+        put_text_line(out, *kind)?;
+    }
+    Ok(())
+}
+
+/// Adds a line for each fault of events, scripts and traces.
+#[tactic(auto, unfolding(crate::specs::Faults::all_of_texts))]
+pub(crate) fn put_text_faults(out: &mut Vec<u8>) -> Result<(), AllocError>
+    ensures { OnOk result (out.new.items ≡ out.old.items ++ spec.all_of_texts) }
+{
+    put_text_lines(out, &TEXT_KINDS)
+}
+
+/// The fault of a configuration with this number, such as `F7`.
+pub(crate) fn find_config_kind(word: &[u8]) -> Option<ConfigKind>
+    ensures { result ≡ find (λ kind. bytes_eq (config.code_of kind) word.now) spec.config_kinds }
+{
+    CONFIG_KINDS
+        .iter()
+        .copied()
+        .find(|kind| kind.code().as_bytes() == word)
+}
+
+/// The fault of events, scripts and traces with this number, such as `E4`.
+pub(crate) fn find_text_kind(word: &[u8]) -> Option<TextKind>
+    ensures { result ≡ find (λ kind. bytes_eq (text.code_of kind) word.now) spec.text_kinds }
+{
+    TEXT_KINDS
+        .iter()
+        .copied()
+        .find(|kind| kind.code().as_bytes() == word)
+}

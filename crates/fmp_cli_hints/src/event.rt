@@ -1,0 +1,131 @@
+//! The first byte of an event's line that is at fault.
+ghost use Rattle.std.specs.Prelude.{◌≡◌, ◌≢◌, ◌↔◌, Err, IsTrue, IfOk, None, option_map};
+ghost use Rattle.fmp_text.specs.Lines.{line_event};
+ghost use Rattle.fmp_cli_hints.specs.Contexts as contexts;
+ghost use Rattle.fmp_cli_hints.specs.Places as spec;
+
+use crate::excerpt::put_excerpt;
+use crate::hints::put_hint;
+use crate::walk::{Walk, behind_name, ending};
+use crate::wanted::{Wanted, put_wanted};
+use fmp_bytes::{Class, all_of, skip, split_prefix};
+use fmp_calls::find_call;
+use fmp_text::{Names, TextKind, is_skipped, line_event, processor_in, without_return};
+use std::alloc::{AllocError, Global};
+
+/// What happens on a processor.
+#[tactic(auto, unfolding(crate::specs::Places::happening))]
+fn happening<'a>(names: &Names, text: &'a [u8]) -> Walk<'a>
+    ensures { result ≡ spec.happening names.now text.now }
+{
+    let (word, rest) = split_prefix(Class::Word, text);
+    if word == b"tick".as_slice() || word == b"ipi".as_slice() {
+        return ending(Wanted::LineEnd, Walk::going(rest));
+    }
+    match find_call(word) {
+        Some(call) => behind_name(names, call, rest),
+        None => Walk::stuck(text, Wanted::Happening),
+    }
+}
+
+/// A processor, and what happens on it.
+#[tactic(auto, unfolding(crate::specs::Places::on_processor))]
+fn on_processor<'a>(names: &Names, text: &'a [u8]) -> Walk<'a>
+    ensures { result ≡ spec.on_processor names.now text.now }
+{
+    let (word, rest) = split_prefix(Class::Word, text);
+    if processor_in(names, word).is_err() {
+        return Walk::stuck(text, Wanted::Processor);
+    }
+    happening(names, skip(Class::Blank, rest))
+}
+
+/// What is wanted in place of a byte that may not stand in a line, which begins the text.
+fn byte_wanted(text: &[u8]) -> Wanted
+    ensures { result ≡ spec.byte_wanted text.now }
+{
+    match text {
+        [b';', ..] => Wanted::NoStop,
+        [b'#' | b'/', ..] => Wanted::NoComment,
+        _ => Wanted::LineByte,
+    }
+}
+
+/// Reading ends before a byte that may not stand in a line.
+#[tactic(auto, unfolding(crate::specs::Places::barred))]
+pub(crate) fn barred<'a>(text: &'a [u8]) -> Walk<'a>
+    ensures { result ≡ spec.barred text.now }
+{
+    Walk::stuck(text, byte_wanted(text))
+}
+
+/// How far a line of an event text fits, without its line feed: where it does not, its rest begins with the first byte at fault.
+/// A carriage return at its end is no part of it.
+#[tactic(auto, unfolding(crate::specs::Places::event_place))]
+pub fn event_place<'a>(names: &Names, line: &'a [u8]) -> Walk<'a>
+    ensures { result ≡ spec.event_place names.now line.now }
+{
+    let line = without_return(line);
+    if is_skipped(line) {
+        return Walk::going(&[]);
+    }
+    if all_of(Class::Line, line) {
+        on_processor(names, skip(Class::Blank, line))
+    } else {
+        barred(skip(Class::Line, line))
+    }
+}
+
+/// Whether the line of an event text has a fault of this kind.
+fn has_fault(names: &Names, line: &[u8], kind: TextKind) -> bool
+    ensures { IsTrue result ↔ (line_event names.now line.now ≡ Err kind) }
+{
+    match line_event(names, line) {
+        Ok(_) => false,
+        Err(found) => found == kind,
+    }
+}
+
+/// What stands beside a line: the line, a caret under the place, and what is wanted there, if anything is, with what is told of the word
+/// that stands there.
+#[tactic(auto, unfolding(crate::specs::Contexts::context_at))]
+pub(crate) fn context_at(
+    alloc: Global,
+    names: &Names,
+    line: &[u8],
+    walk: &Walk<'_>,
+) -> Result<Option<Vec<u8>>, AllocError>
+    ensures { IfOk result (λ found. option_map (λ text. text.items) found ≡ contexts.context_at names.now line.now walk.now) }
+{
+    let Some(wanted) = walk.wanted() else {
+        return Ok(None);
+    };
+    let mut out = Vec::new(alloc);
+    put_excerpt(&mut out, line, line.len().saturating_sub(walk.rest().len()))?;
+    put_wanted(&mut out, names, wanted)?;
+    put_hint(alloc, &mut out, names, wanted, walk.rest())?;
+    Ok(Some(out))
+}
+
+/// What stands beside a fault in a line of an event text, which comes without its line feed: the line, a caret under the first
+/// byte at fault, and what is wanted there. There is nothing where the line has no fault of this kind.
+pub fn event_context(
+    alloc: Global,
+    names: &Names,
+    line: &[u8],
+    kind: TextKind,
+) -> Result<Option<Vec<u8>>, AllocError>
+    ensures fault { line_event names.now line.now ≡ Err kind
+        → IfOk result (λ found. option_map (λ text. text.items) found ≡ contexts.event_context names.now line.now) }
+    ensures none { line_event names.now line.now ≢ Err kind → IfOk result (λ found. found ≡ None) }
+{
+    if !has_fault(names, line, kind) {
+        return Ok(None);
+    }
+    context_at(
+        alloc,
+        names,
+        without_return(line),
+        &event_place(names, line),
+    )
+}

@@ -1,0 +1,123 @@
+//! A line as it is shown, with a caret under one of its bytes.
+ghost use Rattle.std.specs.Prelude.{◌≡◌, ◌++◌, ◌≤◌, length, replicate, OnOk};
+ghost use Rattle.fmp_cli_hints.specs.Excerpts as spec;
+
+use fmp_bytes::Class;
+use std::alloc::AllocError;
+
+/// The most bytes of a line that are shown.
+const MOST_SHOWN: usize = 200;
+
+/// How many bytes of a longer line are shown before the caret.
+const BEFORE: usize = 100;
+
+/// A byte as it is shown: a tab is a blank, and what is not printed is `?`.
+#[tactic(auto, unfolding(crate::specs::Excerpts::shown_byte))]
+fn shown_byte(byte: u8) -> u8
+    ensures { result ≡ spec.shown_byte byte }
+{
+    if byte == b'\t' {
+        b' '
+    } else if Class::Printed.has(byte) {
+        byte
+    } else {
+        b'?'
+    }
+}
+
+/// Adds bytes as they are shown.
+fn put_shown(out: &mut Vec<u8>, bytes: &[u8]) -> Result<(), AllocError>
+    ensures { OnOk result (out.new.items ≡ out.old.items ++ spec.shown_bytes bytes.now) }
+{
+    for byte in bytes {
+        out.push(shown_byte(*byte))?;
+    }
+    Ok(())
+}
+
+/// Adds so many blanks.
+fn put_blanks(out: &mut Vec<u8>, count: usize) -> Result<(), AllocError>
+    ensures { OnOk result (out.new.items ≡ out.old.items ++ replicate count 32) }
+{
+    for _step in 0..count {
+        out.push(b' ')?;
+    }
+    Ok(())
+}
+
+/// What stands before a line, whether or not its beginning is cut off.
+fn margin(cut: bool) -> &'static [u8]
+    ensures { result.now ≡ spec.margin cut }
+{
+    if cut { b".." } else { b"  " }
+}
+
+/// What stands behind a line, whether or not its end is cut off.
+fn tail(cut: bool) -> &'static [u8]
+    ensures { result.now ≡ spec.tail cut }
+{
+    if cut { b"..\n" } else { b"\n" }
+}
+
+/// The first byte that is shown.
+#[tactic(auto, unfolding(crate::specs::Excerpts::start_of))]
+fn start_of(length: usize, column: usize) -> usize
+    requires { column ≤ length }
+    ensures start { result ≡ spec.start_of length column }
+    ensures within { result ≤ length }
+    ensures before { result ≤ column }
+{
+    if length <= MOST_SHOWN {
+        0
+    } else {
+        column.saturating_sub(BEFORE)
+    }
+}
+
+/// The byte behind those that are shown.
+#[tactic(auto, unfolding(crate::specs::Excerpts::end_of))]
+fn end_of(length: usize, start: usize) -> usize
+    requires { start ≤ length }
+    ensures end { result ≡ spec.end_of length start }
+    ensures within { result ≤ length }
+    ensures behind { start ≤ result }
+{
+    if length - start <= MOST_SHOWN {
+        length
+    } else {
+        start + MOST_SHOWN
+    }
+}
+
+/// Adds a line as it is shown from its byte `start` on: at most 200 bytes, with `..` where some are cut off.
+#[tactic(auto, unfolding(crate::specs::Excerpts::line_shown))]
+pub fn put_line(out: &mut Vec<u8>, line: &[u8], start: usize) -> Result<(), AllocError>
+    requires { start ≤ length line.now }
+    ensures { OnOk result (out.new.items ≡ out.old.items ++ spec.line_shown line.now start) }
+{
+    let end = end_of(line.len(), start);
+    out.extend_from_slice(margin(0 < start))?;
+    put_shown(out, &line[start..end])?;
+    out.extend_from_slice(tail(end < line.len()))
+}
+
+/// Adds the line of a caret, under the shown byte that has so many before it.
+#[tactic(auto, unfolding(crate::specs::Excerpts::caret_line))]
+fn put_caret(out: &mut Vec<u8>, count: usize) -> Result<(), AllocError>
+    ensures { OnOk result (out.new.items ≡ out.old.items ++ spec.caret_line count) }
+{
+    out.extend_from_slice(b"  ")?;
+    put_blanks(out, count)?;
+    out.extend_from_slice(b"^\n")
+}
+
+/// Adds a line as it is shown, and a caret under the byte of this column, which counts from 0.
+#[tactic(auto, unfolding(crate::specs::Excerpts::excerpt))]
+pub fn put_excerpt(out: &mut Vec<u8>, line: &[u8], column: usize) -> Result<(), AllocError>
+    requires { column ≤ length line.now }
+    ensures { OnOk result (out.new.items ≡ out.old.items ++ spec.excerpt line.now column) }
+{
+    let start = start_of(line.len(), column);
+    put_line(out, line, start)?;
+    put_caret(out, column - start)
+}

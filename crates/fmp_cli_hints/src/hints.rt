@@ -1,0 +1,254 @@
+//! What is told of the word at fault, beside what is wanted in its place.
+ghost use Rattle.std.specs.Prelude.{◌≡◌, ◌++◌, [], ◌∷◌, None, OnOk, IfOk};
+ghost use Rattle.std.specs.Option.{option_copied};
+ghost use Rattle.fmp_calls.specs.declared.kinds.NameKind.TheVariants.{Object};
+ghost use Rattle.fmp_cli_hints.specs.Hints as spec;
+ghost use Rattle.fmp_cli_help.specs.Near.{nearest};
+ghost use Rattle.fmp_names.specs.Names.{names_of};
+
+use crate::wanted::Wanted;
+use fmp_bytes::{Class, spelled_number, split_prefix};
+use fmp_calls::{ArgumentKind, NameKind, ObjectKind, find_call};
+use fmp_cli_help::{is_left_out, near_call, nearer, put_left_out};
+use fmp_text::{Names, is_name, value_at};
+use itoa::Buffer;
+use std::alloc::{AllocError, Global};
+
+/// Adds the name that may be meant, if there is one.
+pub fn put_near(out: &mut Vec<u8>, name: Option<&[u8]>) -> Result<(), AllocError>
+    ensures { OnOk result (out.new.items ≡ out.old.items ++ spec.near_line (option_copied name.entry)) }
+{
+    let Some(name) = name else {
+        return Ok(());
+    };
+    out.extend_from_slice(b"  near: ")?;
+    out.extend_from_slice(name)?;
+    out.extend_from_slice(b"\n")
+}
+
+/// Adds that a call is left out, or the nearest one to a word that is none.
+#[tactic(auto, unfolding(crate::specs::Hints::call_hint))]
+fn put_call_hint(alloc: Global, out: &mut Vec<u8>, word: &[u8]) -> Result<(), AllocError>
+    ensures { OnOk result (out.new.items ≡ out.old.items ++ spec.call_hint word.now) }
+{
+    if is_left_out(word) {
+        out.extend_from_slice(b"  ")?;
+        return put_left_out(out, word);
+    }
+    if is_name(word) && find_call(word).is_none() {
+        return put_near(out, near_call(alloc, word)?);
+    }
+    Ok(())
+}
+
+/// The nearest object of a kind.
+fn near_object<'a>(
+    alloc: Global,
+    names: &'a Names,
+    kind: ObjectKind,
+    word: &[u8],
+) -> Result<Option<&'a [u8]>, AllocError>
+    ensures { IfOk result (λ found. option_copied found ≡ nearest word.now None (names_of names.now (Object kind))) }
+{
+    names.validity();
+    let mut best = None;
+    let mut index = 0;
+    while let Some(name) = names.name(NameKind::Object(kind), index + 1) {
+        best = nearer(alloc, word, best, name)?;
+        index += 1;
+    }
+    Ok(best)
+}
+
+/// The nearest object of an argument's kind, where that is a kind of objects.
+fn near_named<'a>(
+    alloc: Global,
+    names: &'a Names,
+    kind: ArgumentKind,
+    word: &[u8],
+) -> Result<Option<&'a [u8]>, AllocError>
+    ensures { IfOk result (λ found. option_copied found ≡ nearest word.now None (spec.objects_of names.now kind)) }
+{
+    match kind {
+        ArgumentKind::Object(kind) => near_object(alloc, names, kind, word),
+        _ => Ok(None),
+    }
+}
+
+/// The nearer of two constants and the best name before them.
+fn near_both<'a>(
+    alloc: Global,
+    word: &[u8],
+    best: Option<&'a [u8]>,
+    first: &'static [u8],
+    second: &'static [u8],
+) -> Result<Option<&'a [u8]>, AllocError>
+    ensures { IfOk result (λ found. option_copied found ≡ nearest word.now (option_copied best.entry) (first.now ∷ second.now ∷ [])) }
+{
+    let best = nearer(alloc, word, best, first)?;
+    nearer(alloc, word, best, second)
+}
+
+/// The nearest of the constants of a kind and the best name before them.
+fn near_constant<'a>(
+    alloc: Global,
+    kind: ArgumentKind,
+    word: &[u8],
+    best: Option<&'a [u8]>,
+) -> Result<Option<&'a [u8]>, AllocError>
+    ensures { IfOk result (λ found. option_copied found ≡ nearest word.now (option_copied best.entry) (spec.constants_of kind)) }
+{
+    match kind {
+        ArgumentKind::Object(ObjectKind::Task) => nearer(alloc, word, best, b"TSK_SELF"),
+        ArgumentKind::Priority => near_both(alloc, word, best, b"TPRI_SELF", b"TPRI_INI"),
+        ArgumentKind::Processor => nearer(alloc, word, best, b"TPRC_INI"),
+        ArgumentKind::Timeout => near_both(alloc, word, best, b"TMO_POL", b"TMO_FEVR"),
+        ArgumentKind::Mode => near_both(alloc, word, best, b"TWF_ANDW", b"TWF_ORW"),
+        _ => Ok(best),
+    }
+}
+
+/// The nearest object or constant.
+#[tactic(auto, unfolding(crate::specs::Hints::near_argument))]
+fn near_argument<'a>(
+    alloc: Global,
+    names: &'a Names,
+    kind: ArgumentKind,
+    word: &[u8],
+) -> Result<Option<&'a [u8]>, AllocError>
+    ensures { IfOk result (λ found. option_copied found ≡ spec.near_argument names.now kind word.now) }
+{
+    let best = near_named(alloc, names, kind, word)?;
+    near_constant(alloc, kind, word, best)
+}
+
+/// Adds that a number has no leading zero, where the word is one that has.
+fn put_zero_hint(out: &mut Vec<u8>, word: &[u8]) -> Result<(), AllocError>
+    ensures { OnOk result (out.new.items ≡ out.old.items ++ spec.zero_hint word.now) }
+{
+    match spelled_number(word) {
+        Some(number) if number.zero_led => {
+            out.extend_from_slice(b"  a number has no leading zero\n")
+        }
+        _ => Ok(()),
+    }
+}
+
+/// What is told of a name that the configuration defines, behind it.
+#[tactic(auto, unfolding(crate::specs::Hints::defined_words))]
+fn defined_words() -> &'static [u8]
+    ensures { result.now ≡ spec.defined_words }
+{
+    b" is a `#define` of the configuration, which is read there alone"
+}
+
+/// Adds the number to write in place of a name that stands for it, where that may stand there, and the end of the line.
+fn put_number_to_write(out: &mut Vec<u8>, fits: bool, digits: &[u8]) -> Result<(), AllocError>
+    ensures { OnOk result (out.new.items ≡ out.old.items ++ spec.number_to_write fits digits.now) }
+{
+    if !fits {
+        return out.extend_from_slice(b"\n");
+    }
+    out.extend_from_slice(b": write ")?;
+    out.extend_from_slice(digits)?;
+    out.extend_from_slice(b"\n")
+}
+
+/// Adds that a name in the place of an argument of this kind is one that the configuration defines to stand for a number.
+#[tactic(auto, unfolding(crate::specs::Hints::defined_hint))]
+fn put_defined_hint(
+    out: &mut Vec<u8>,
+    names: &Names,
+    kind: ArgumentKind,
+    word: &[u8],
+    number: u32,
+) -> Result<(), AllocError>
+    ensures { OnOk result (out.new.items ≡ out.old.items ++ spec.defined_hint names.now kind word.now number) }
+{
+    let mut buffer = Buffer::new();
+    let digits = buffer.format(number).as_bytes();
+    out.extend_from_slice(b"  ")?;
+    out.extend_from_slice(word)?;
+    out.extend_from_slice(defined_words())?;
+    put_number_to_write(out, value_at(names, kind, digits).is_ok(), digits)
+}
+
+/// Adds what is told of a name in the place of an argument of this kind: that the configuration defines it, or the nearest that may be
+/// meant.
+#[tactic(auto, unfolding(crate::specs::Hints::name_hint))]
+fn put_name_hint(
+    alloc: Global,
+    out: &mut Vec<u8>,
+    names: &Names,
+    kind: ArgumentKind,
+    word: &[u8],
+) -> Result<(), AllocError>
+    ensures { OnOk result (out.new.items ≡ out.old.items ++ spec.name_hint names.now kind word.now) }
+{
+    match names.defined(word) {
+        Some(number) => put_defined_hint(out, names, kind, word, number),
+        None => put_near(out, near_argument(alloc, names, kind, word)?),
+    }
+}
+
+/// Adds what is told of a word in the place of an argument of this kind.
+#[tactic(auto, unfolding(crate::specs::Hints::argument_hint))]
+fn put_argument_hint(
+    alloc: Global,
+    out: &mut Vec<u8>,
+    names: &Names,
+    kind: ArgumentKind,
+    word: &[u8],
+) -> Result<(), AllocError>
+    ensures { OnOk result (out.new.items ≡ out.old.items ++ spec.argument_hint names.now kind word.now) }
+{
+    if is_name(word) {
+        put_name_hint(alloc, out, names, kind, word)
+    } else {
+        put_zero_hint(out, word)
+    }
+}
+
+/// What is told of an object in the place of a function, behind its name.
+#[tactic(auto, unfolding(crate::specs::Hints::object_words))]
+fn object_words() -> &'static [u8]
+    ensures { result.now ≡ spec.object_words }
+{
+    b" is an object. A script is named by the function that stands in the object's statement.\n"
+}
+
+/// Adds that an object stands in the place of a function.
+#[tactic(auto, unfolding(crate::specs::Hints::function_hint))]
+fn put_function_hint(out: &mut Vec<u8>, names: &Names, word: &[u8]) -> Result<(), AllocError>
+    ensures { OnOk result (out.new.items ≡ out.old.items ++ spec.function_hint names.now word.now) }
+{
+    if !names.contains_object(word) {
+        return Ok(());
+    }
+    out.extend_from_slice(b"  ")?;
+    out.extend_from_slice(word)?;
+    out.extend_from_slice(object_words())
+}
+
+/// Adds what is told of the word that begins the text at a place, where this is wanted.
+#[tactic(auto, unfolding(crate::specs::Hints::hint))]
+pub(crate) fn put_hint(
+    alloc: Global,
+    out: &mut Vec<u8>,
+    names: &Names,
+    wanted: Wanted,
+    text: &[u8],
+) -> Result<(), AllocError>
+    ensures { OnOk result (out.new.items ≡ out.old.items ++ spec.hint names.now wanted text.now) }
+{
+    let (word, _rest) = split_prefix(Class::Word, text);
+    match wanted {
+        Wanted::Happening | Wanted::Step => put_call_hint(alloc, out, word),
+        Wanted::Argument(_, kind) => {
+            let (word, _rest) = split_prefix(Class::Argument, text);
+            put_argument_hint(alloc, out, names, kind, word)
+        }
+        Wanted::Function => put_function_hint(out, names, word),
+        _ => Ok(()),
+    }
+}

@@ -1,0 +1,35 @@
+//! What stands beside a fault line: the line of the text, a caret under the first byte at fault, and what is wanted there.
+//!
+//! A [`Walk`] goes over a line as its reader does, and stops where the reader refuses. Each contract is one equation with a
+//! definition: of a line of events (`specs/Places`), of scripts (`specs/Texts`), of a trace (`specs/Traces`), of what is told of the word
+//! at fault (`specs/Hints`), and of a line that looks like one of another text (`specs/Likeness`). The law
+//! `places_are_in_their_lines` says that the place of a line of events is in that line.
+//!
+//! [`text_spot`] is the place of the caret as numbers.
+//!
+//! That the caret is where the reader refuses is only tested. Begin at [`event_context`], [`text_context`] and
+//! [`question_context`]. What stands beside a fault of a configuration is `fmp_cli_hints_config`.
+#![tactic(auto)]
+
+mod event;
+mod excerpt;
+mod hints;
+mod laws;
+mod likeness;
+mod line;
+mod question;
+mod text;
+mod trace;
+mod walk;
+mod wanted;
+
+pub use event::{event_context, event_place};
+pub use excerpt::{put_excerpt, put_line};
+pub use hints::put_near;
+pub use laws::places_are_in_their_lines;
+pub use likeness::{Likeness, put_config_likeness, without_mark};
+pub use line::line_behind;
+pub use question::{question_context, question_kind};
+pub use text::{TextForm, function_at, text_advice, text_context, text_spot};
+pub use walk::Walk;
+pub use wanted::{Wanted, label, put_mark};

@@ -1,0 +1,155 @@
+//! What kind of text a line looks like one of.
+ghost use Rattle.std.specs.Prelude.{◌≡◌, ◌++◌, OnOk};
+ghost use Rattle.std.specs.Option.{option_copied};
+ghost use Rattle.fmp_cli_hints.specs.Likeness as spec;
+
+use crate::text::TextForm;
+use fmp_bytes::{Class, are_digits, behind, skip, split_prefix};
+use fmp_config_statements::{ConfigKind, find_statement};
+use fmp_names::is_processor_word;
+use fmp_text::TextKind;
+use std::alloc::AllocError;
+
+/// What a line looks like.
+#[derive(Clone, Copy, PartialEq, Eq)]
+pub enum Likeness {
+    /// The first line of a text with a byte order mark before it.
+    Marked,
+    Configuration,
+    Events,
+    Scripts,
+    Trace,
+}
+
+/// What follows a byte order mark in UTF-8, where the line begins with one.
+#[tactic(auto, unfolding(crate::specs::Likeness::behind_mark))]
+fn behind_mark(line: &[u8]) -> Option<&[u8]>
+    ensures { option_copied result ≡ spec.behind_mark line.now }
+{
+    behind(0xBF, behind(0xBB, behind(0xEF, line)?)?)
+}
+
+/// A line without the byte order mark before it, if it has one.
+pub fn without_mark(line: &[u8]) -> &[u8]
+    ensures { result.now ≡ spec.without_mark line.now }
+{
+    behind_mark(line).unwrap_or(line)
+}
+
+/// What a line with these first two words looks like, if anything.
+fn likeness_by(first: &[u8], second: &[u8]) -> Option<Likeness>
+    ensures { result ≡ spec.likeness_by first.now second.now }
+{
+    if is_processor_word(first) {
+        Some(Likeness::Events)
+    } else if are_digits(10, first) && is_processor_word(second) {
+        Some(Likeness::Trace)
+    } else if first == b"script".as_slice() {
+        Some(Likeness::Scripts)
+    } else if find_statement(first).is_some() {
+        Some(Likeness::Configuration)
+    } else {
+        None
+    }
+}
+
+/// What a line looks like, if anything: by a byte order mark before it, or by its first words.
+#[tactic(auto, unfolding(crate::specs::Likeness::looks_like))]
+fn looks_like(line: &[u8]) -> Option<Likeness>
+    ensures { result ≡ spec.looks_like line.now }
+{
+    if behind_mark(line).is_some() {
+        return Some(Likeness::Marked);
+    }
+    let (first, rest) = split_prefix(Class::Word, skip(Class::Blank, line));
+    let (second, _rest) = split_prefix(Class::Word, skip(Class::Blank, rest));
+    likeness_by(first, second)
+}
+
+/// What is told of a line that looks so.
+fn told(likeness: Likeness) -> &'static [u8]
+    ensures { result.now ≡ spec.told likeness }
+{
+    match likeness {
+        Likeness::Marked => {
+            b"  A byte order mark stands before the line: save the text without it.\n"
+        }
+        Likeness::Configuration => {
+            b"  This looks like a configuration, which is the first of the two texts.\n"
+        }
+        Likeness::Events => {
+            b"  This looks like events, which `fmpsim calls` and `fmpsim shrink` read as the second of the two texts.\n"
+        }
+        Likeness::Scripts => {
+            b"  This looks like scripts, which `fmpsim smp` and `fmpsim explore` read as the second of the two texts.\n"
+        }
+        Likeness::Trace => {
+            b"  This looks like a trace, which `fmpsim check` reads as the second of the two texts. `tools/from-trace` makes events of one.\n"
+        }
+    }
+}
+
+/// Whether such lines are among those of a text of this form.
+fn is_own(form: TextForm, likeness: Likeness) -> bool
+    ensures { result ≡ spec.is_own form likeness }
+{
+    matches!(
+        (form, likeness),
+        (TextForm::Events | TextForm::Partial, Likeness::Events)
+            | (TextForm::Scripts, Likeness::Scripts)
+            | (TextForm::Trace | TextForm::Partial, Likeness::Trace)
+    )
+}
+
+/// Whether a text with such a fault may be one of another form.
+fn may_be_foreign(kind: TextKind) -> bool
+    ensures { result ≡ spec.may_be_foreign kind }
+{
+    matches!(kind, TextKind::BadByte | TextKind::BadWord)
+}
+
+/// Adds what a line of a text with such a fault looks like, where it looks like one of another text.
+#[tactic(auto, unfolding(crate::specs::Likeness::text_likeness))]
+pub(crate) fn put_text_likeness(
+    out: &mut Vec<u8>,
+    form: TextForm,
+    kind: TextKind,
+    line: &[u8],
+) -> Result<(), AllocError>
+    ensures { OnOk result (out.new.items ≡ out.old.items ++ spec.text_likeness form kind line.now) }
+{
+    if !may_be_foreign(kind) {
+        return Ok(());
+    }
+    match looks_like(line) {
+        Some(found) if !is_own(form, found) => out.extend_from_slice(told(found)),
+        _ => Ok(()),
+    }
+}
+
+/// Whether a configuration with such a fault may be another text.
+fn may_be_no_statement(kind: ConfigKind) -> bool
+    ensures { result ≡ spec.may_be_no_statement kind }
+{
+    matches!(kind, ConfigKind::Syntax | ConfigKind::Unsupported)
+}
+
+/// Adds what a line of a configuration with such a fault looks like, where it looks like one of another text.
+#[tactic(auto, unfolding(crate::specs::Likeness::config_likeness))]
+pub fn put_config_likeness(
+    out: &mut Vec<u8>,
+    kind: ConfigKind,
+    line: &[u8],
+) -> Result<(), AllocError>
+    ensures { OnOk result (out.new.items ≡ out.old.items ++ spec.config_likeness kind line.now) }
+{
+    if !may_be_no_statement(kind) {
+        return Ok(());
+    }
+    match looks_like(line) {
+        Some(found) if !matches!(found, Likeness::Configuration) => {
+            out.extend_from_slice(told(found))
+        }
+        _ => Ok(()),
+    }
+}

@@ -1,0 +1,273 @@
+//! What stands beside a fault line of events, scripts or a trace.
+ghost use Rattle.std.specs.Prelude.{◌≡◌, IfOk};
+ghost use Rattle.std.specs.Option.{option_copied};
+ghost use Rattle.fmp_cli_hints.specs.Texts as spec;
+
+use crate::event::{barred, context_at, event_place};
+use crate::excerpt::put_excerpt;
+use crate::likeness::{put_text_likeness, without_mark};
+use crate::line::line_behind;
+use crate::trace::{partial_place, trace_place};
+use crate::walk::{Walk, behind_name, ending};
+use crate::wanted::Wanted;
+use fmp_bytes::{Class, all_of, is_identifier, skip, split_prefix};
+use fmp_calls::find_call;
+use fmp_cli_diagnostics::Spot;
+use fmp_cli_help::put_text_advice;
+use fmp_text::{Names, TextFault, TextKind, without_return};
+use std::alloc::{AllocError, Global};
+
+/// The texts that are read beside a configuration.
+#[derive(Clone, Copy, PartialEq, Eq)]
+pub enum TextForm {
+    Events,
+    Scripts,
+    Trace,
+    /// A trace whose lines may leave out parts.
+    Partial,
+}
+
+/// A function's name, or what stands behind it.
+#[tactic(auto, unfolding(crate::specs::Texts::function_place))]
+fn function_place<'a>(text: &'a [u8]) -> Walk<'a>
+    ensures { result ≡ spec.function_place text.now }
+{
+    let (name, rest) = split_prefix(Class::Word, text);
+    if is_identifier(name) && !all_of(Class::Blank, rest) {
+        Walk::stuck(skip(Class::Blank, rest), Wanted::LineEnd)
+    } else {
+        Walk::stuck(text, Wanted::Function)
+    }
+}
+
+/// How far a line of a script fits, by its first word.
+#[tactic(auto, unfolding(crate::specs::Texts::step_place))]
+fn step_place<'a>(names: &Names, text: &'a [u8]) -> Walk<'a>
+    ensures { result ≡ spec.step_place names.now text.now }
+{
+    let (word, rest) = split_prefix(Class::Word, text);
+    if word == b"script".as_slice() {
+        return function_place(skip(Class::Blank, rest));
+    }
+    if word == b"end".as_slice() {
+        return ending(Wanted::LineEnd, Walk::going(rest));
+    }
+    match find_call(word) {
+        Some(call) => behind_name(names, call, rest),
+        None => Walk::stuck(text, Wanted::Step),
+    }
+}
+
+/// Where a line of a script text is at fault, by the kind of the fault.
+fn script_place<'a>(names: &Names, line: &'a [u8], kind: TextKind) -> Walk<'a>
+    ensures { result ≡ spec.script_kind_place names.now line.now kind }
+{
+    match kind {
+        TextKind::BadByte => barred(skip(Class::Line, line)),
+        TextKind::UnknownName | TextKind::WrongArguments | TextKind::NumberOutOfRange => {
+            step_place(names, skip(Class::Blank, line))
+        }
+        TextKind::BadWord => Walk::stuck(skip(Class::Blank, line), Wanted::Step),
+        TextKind::CutShort | TextKind::TooMany | TextKind::Memory => {
+            Walk::going(skip(Class::Blank, line))
+        }
+    }
+}
+
+/// Where a line with this fault is at fault that ends with a line feed.
+fn whole_place<'a>(
+    alloc: Global,
+    names: &Names,
+    form: TextForm,
+    line: &'a [u8],
+    fault: TextFault,
+) -> Result<Walk<'a>, AllocError>
+    ensures { IfOk result (λ walk. walk ≡ spec.whole_place names.now form fault.line line.now fault.kind) }
+{
+    match (form, fault.kind) {
+        (TextForm::Events, TextKind::TooMany) => Ok(Walk::going(skip(Class::Blank, line))),
+        (TextForm::Events, _) => Ok(event_place(names, line)),
+        (TextForm::Scripts, kind) => Ok(script_place(names, line, kind)),
+        (TextForm::Trace, kind) => trace_place(alloc, names, fault.line, line, kind),
+        (TextForm::Partial, kind) => Ok(partial_place(line, kind)),
+    }
+}
+
+/// Where a line with this fault is at fault, with what follows its line feed, if it has one.
+fn place<'a>(
+    alloc: Global,
+    names: &Names,
+    form: TextForm,
+    line: &'a [u8],
+    after: Option<&[u8]>,
+    fault: TextFault,
+) -> Result<Walk<'a>, AllocError>
+    ensures { IfOk result (λ walk. walk ≡ spec.place names.now form fault.line line.now (option_copied after.entry) fault.kind) }
+{
+    match after {
+        None => Ok(Walk::going(&[])),
+        Some(_) => whole_place(alloc, names, form, line, fault),
+    }
+}
+
+/// The line with a caret, and what to do about such a fault.
+#[tactic(auto, unfolding(crate::specs::Texts::advised))]
+fn advised(
+    alloc: Global,
+    line: &[u8],
+    walk: &Walk<'_>,
+    kind: TextKind,
+) -> Result<Vec<u8>, AllocError>
+    ensures { IfOk result (λ out. out.items ≡ spec.advised line.now walk.now kind) }
+{
+    let mut out = Vec::new(alloc);
+    put_excerpt(&mut out, line, line.len().saturating_sub(walk.rest().len()))?;
+    put_text_advice(&mut out, kind)?;
+    Ok(out)
+}
+
+/// The line with a caret, and what is wanted there, or else what to do about such a fault.
+#[tactic(auto, unfolding(crate::specs::Texts::told))]
+fn told(
+    alloc: Global,
+    names: &Names,
+    line: &[u8],
+    walk: &Walk<'_>,
+    kind: TextKind,
+) -> Result<Vec<u8>, AllocError>
+    ensures { IfOk result (λ out. out.items ≡ spec.told names.now line.now walk.now kind) }
+{
+    match context_at(alloc, names, line, walk)? {
+        Some(text) => Ok(text),
+        None => advised(alloc, line, walk, kind),
+    }
+}
+
+/// What is told of a line with this fault, with what follows its line feed, if it has one.
+#[tactic(auto, unfolding(crate::specs::Texts::told_line))]
+fn told_line(
+    alloc: Global,
+    names: &Names,
+    form: TextForm,
+    fault: TextFault,
+    line: &[u8],
+    after: Option<&[u8]>,
+) -> Result<Vec<u8>, AllocError>
+    ensures { IfOk result (λ out. out.items ≡ spec.told_line names.now form fault line.now (option_copied after.entry)) }
+{
+    let whole = without_return(line);
+    let walk = place(alloc, names, form, whole, after, fault)?;
+    let mut out = told(alloc, names, without_mark(whole), &walk, fault.kind)?;
+    put_text_likeness(&mut out, form, fault.kind, line)?;
+    Ok(out)
+}
+
+/// What to do about a fault of events, scripts or a trace: what stands beside a fault whose line cannot be shown.
+pub fn text_advice(alloc: Global, kind: TextKind) -> Result<Vec<u8>, AllocError>
+    ensures { IfOk result (λ out. out.items ≡ spec.advice kind) }
+{
+    let mut out = Vec::new(alloc);
+    put_text_advice(&mut out, kind)?;
+    Ok(out)
+}
+
+/// What stands beside a fault of this text: the line, a caret under the first byte at fault, and what is wanted there or what to do
+/// about such a fault. Where the fault has no line in the text, what to do about it alone. That the text has the fault is taken
+/// from the caller.
+#[tactic(auto, unfolding(crate::specs::Texts::text_context))]
+pub fn text_context(
+    alloc: Global,
+    names: &Names,
+    form: TextForm,
+    text: &[u8],
+    fault: TextFault,
+) -> Result<Vec<u8>, AllocError>
+    ensures { IfOk result (λ out. out.items ≡ spec.text_context names.now form text.now fault) }
+{
+    if fault.line == 0 {
+        return text_advice(alloc, fault.kind);
+    }
+    match line_behind(fault.line - 1, text) {
+        Some((line, after)) => told_line(alloc, names, form, fault, line, after),
+        None => text_advice(alloc, fault.kind),
+    }
+}
+
+/// Where a line with this fault is at fault, with what follows its line feed, if it has one: under the caret that is shown.
+#[tactic(auto, unfolding(crate::specs::Texts::line_spot))]
+fn line_spot(
+    alloc: Global,
+    names: &Names,
+    form: TextForm,
+    fault: TextFault,
+    line: &[u8],
+    after: Option<&[u8]>,
+) -> Result<Spot, AllocError>
+    ensures { IfOk result (λ spot. spot ≡ spec.line_spot names.now form fault line.now (option_copied after.entry)) }
+{
+    let whole = without_return(line);
+    let walk = place(alloc, names, form, whole, after, fault)?;
+    let column = without_mark(whole).len().saturating_sub(walk.rest().len());
+    Ok(Spot::Column(fault.line as usize, column + 1))
+}
+
+/// Where the fault of this text is, as far as that is known: in its line at the byte that has the caret, as [`text_context`] shows it. Where
+/// the fault has no line in the text, no column is known. That the text has the fault is taken from the caller.
+#[tactic(auto, unfolding(crate::specs::Texts::text_spot))]
+pub fn text_spot(
+    alloc: Global,
+    names: &Names,
+    form: TextForm,
+    text: &[u8],
+    fault: TextFault,
+) -> Result<Spot, AllocError>
+    ensures { IfOk result (λ spot. spot ≡ spec.text_spot names.now form text.now fault) }
+{
+    if fault.line == 0 {
+        return Ok(Spot::Nowhere);
+    }
+    match line_behind(fault.line - 1, text) {
+        Some((line, after)) => line_spot(alloc, names, form, fault, line, after),
+        None => Ok(Spot::Line(fault.line as usize)),
+    }
+}
+
+/// The word that stands where a function is wanted.
+fn word_for_function<'a>(walk: Walk<'a>) -> Option<&'a [u8]>
+    ensures { option_copied result ≡ spec.word_for_function walk.entry }
+{
+    match walk.wanted() {
+        Some(Wanted::Function) => {
+            let (word, _rest) = split_prefix(Class::Word, walk.rest());
+            Some(word)
+        }
+        _ => None,
+    }
+}
+
+/// The word that stands where a function is wanted, where this fault of scripts is there.
+#[tactic(auto, unfolding(crate::specs::Texts::function_at))]
+pub fn function_at<'a>(
+    alloc: Global,
+    names: &Names,
+    text: &'a [u8],
+    fault: TextFault,
+) -> Result<Option<&'a [u8]>, AllocError>
+    ensures { IfOk result (λ word. option_copied word ≡ spec.function_at names.now text.now fault) }
+{
+    if fault.line == 0 {
+        return Ok(None);
+    }
+    let Some((line, after)) = line_behind(fault.line - 1, text) else {
+        return Ok(None);
+    };
+    let walk = place(
+        alloc,
+        names,
+        TextForm::Scripts,
+        without_return(line),
+        after,
+        fault,
+    )?;
+    Ok(word_for_function(walk))
+}

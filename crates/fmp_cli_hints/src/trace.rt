@@ -1,0 +1,361 @@
+//! The first part of a trace's line that is not printed so.
+ghost use Rattle.std.specs.Prelude.{◌≡◌, ◌≤◌, ◌+◌, ◌++◌, length, IfOk, OnOk};
+ghost use Rattle.std.specs.Option.{option_copied, option_map_or};
+ghost use Rattle.fmp_bytes.specs.Bytes.{cut_at, pieces_of};
+ghost use Rattle.fmp_text.specs.Reading.{call_in};
+ghost use Rattle.fmp_cli_hints.specs.declared.wanted.Wanted.TheVariants.{Answer as WantsAnswer};
+ghost use Rattle.fmp_cli_hints.specs.Traces as spec;
+
+use crate::walk::{Walk, behind_name};
+use crate::wanted::Wanted;
+use fmp_bytes::{Class, behind, cut, skip, split_prefix};
+use fmp_calls::{NameKind, ObjectKind, find_call, form};
+use fmp_codes::{Call, Event, Proc, Record};
+use fmp_text::{Names, TextKind, processor_in, read_call};
+use fmp_trace::{
+    guess_event, put_answer, put_event, put_lost, put_releases, put_requests, put_run_change,
+};
+use itoa::Buffer;
+use std::alloc::{AllocError, Global};
+
+/// What stands before the first such byte, and what follows it. Both, and the byte, are the whole text.
+#[tactic(auto, using(crate::proofs::Words::cut_lengths))]
+fn cut_whole(byte: u8, text: &[u8]) -> (&[u8], Option<&[u8]>)
+    ensures prefix { result.0.now ≡ (cut_at byte text.now).0 }
+    ensures rest { option_copied result.1 ≡ (cut_at byte text.now).1 }
+    ensures lengths { length result.0.now + option_map_or (λ r. length r + 1) (option_copied result.1) 0 ≡ length text.now }
+{
+    cut(byte, text)
+}
+
+/// Goes on over a word, up to the next blank, where it passes.
+fn passed<'a>(passes: bool, wanted: Wanted, text: &'a [u8]) -> Walk<'a>
+    ensures { result ≡ spec.passed passes wanted text.now }
+{
+    if passes {
+        let (word, _after) = cut_whole(b' ', text);
+        Walk::going(&text[word.len()..])
+    } else {
+        Walk::stuck(text, wanted)
+    }
+}
+
+/// Goes on over one blank.
+fn spaced<'a>(wanted: Wanted, text: &'a [u8]) -> Walk<'a>
+    ensures { result ≡ spec.spaced wanted text.now }
+{
+    match behind(b' ', text) {
+        Some(rest) => Walk::going(rest),
+        None => Walk::stuck(text, wanted),
+    }
+}
+
+/// The number of the line.
+#[tactic(auto, unfolding(crate::specs::Traces::numbered))]
+fn numbered<'a>(n: u32, line: &'a [u8]) -> Walk<'a>
+    ensures { result ≡ spec.numbered n line.now }
+{
+    let mut buffer = Buffer::new();
+    let number = buffer.format(n).as_bytes();
+    let (word, _after) = cut(b' ', line);
+    passed(word == number, Wanted::LineNumber(n), line)
+}
+
+/// Goes on over a blank and a processor of the machine.
+#[tactic(auto, unfolding(crate::specs::Traces::placed_on))]
+fn placed_on<'a>(names: &Names, walk: Walk<'a>) -> Walk<'a>
+    ensures { result ≡ spec.placed_on names.now walk.entry }
+{
+    if walk.wanted().is_some() {
+        return walk;
+    }
+    let walk = spaced(Wanted::Processor, walk.rest());
+    if walk.wanted().is_some() {
+        return walk;
+    }
+    let text = walk.rest();
+    let (word, _after) = cut(b' ', text);
+    passed(processor_in(names, word).is_ok(), Wanted::Processor, text)
+}
+
+/// Whether a word is the name of an object of this kind.
+fn is_object(names: &Names, kind: ObjectKind, word: &[u8]) -> bool
+    ensures { result ≡ spec.is_object names.now kind word.now }
+{
+    names.number(NameKind::Object(kind), word).is_some()
+}
+
+/// Whether a word tells who runs: the name of a task or a handler, or a sign for nobody.
+#[tactic(auto, unfolding(crate::specs::Traces::is_runner))]
+fn is_runner(names: &Names, word: &[u8]) -> bool
+    ensures { result ≡ spec.is_runner names.now word.now }
+{
+    word == b"-".as_slice()
+        || is_object(names, ObjectKind::Task, word)
+        || is_object(names, ObjectKind::Alarm, word)
+        || is_object(names, ObjectKind::Cyclic, word)
+}
+
+/// Goes on over a blank and the word that tells who runs.
+#[tactic(auto, unfolding(crate::specs::Traces::run_by))]
+fn run_by<'a>(names: &Names, walk: Walk<'a>) -> Walk<'a>
+    ensures { result ≡ spec.run_by names.now walk.entry }
+{
+    if walk.wanted().is_some() {
+        return walk;
+    }
+    let walk = spaced(Wanted::Runner, walk.rest());
+    if walk.wanted().is_some() {
+        return walk;
+    }
+    let text = walk.rest();
+    let (word, _after) = cut(b' ', text);
+    passed(is_runner(names, word), Wanted::Runner, text)
+}
+
+/// Goes on over all that stands before the event in the line of this number, with the blank behind it.
+#[tactic(auto, unfolding(crate::specs::Traces::headed))]
+fn headed<'a>(names: &Names, n: u32, line: &'a [u8]) -> Walk<'a>
+    ensures { result ≡ spec.headed names.now n line.now }
+{
+    let walk = run_by(names, placed_on(names, numbered(n, line)));
+    if walk.wanted().is_some() {
+        return walk;
+    }
+    spaced(Wanted::Happening, walk.rest())
+}
+
+/// How many bytes from the first on are the same. A call as it is printed has few.
+fn agreeing(a: &[u8], b: &[u8]) -> usize
+    ensures count { result ≡ spec.agreeing a.now b.now }
+    ensures within { result ≤ length a.now }
+{
+    match a {
+        [] => 0,
+        [first, a @ ..] => match b {
+            [] => 0,
+            [second, b @ ..] if first == second => agreeing(a, b) + 1,
+            _ => 0,
+        },
+    }
+}
+
+/// A text up to its first closing parenthesis, or all of it.
+#[tactic(auto, unfolding(crate::specs::Traces::call_part))]
+fn call_part(text: &[u8]) -> &[u8]
+    ensures part { result.now ≡ spec.call_part text.now }
+    ensures within { length result.now ≤ length text.now }
+{
+    let (inner, after) = cut_whole(b')', text);
+    match after {
+        Some(_) => &text[..inner.len() + 1],
+        None => text,
+    }
+}
+
+/// Goes on over a written call, where it is printed so, else up to the first byte that is not.
+#[tactic(auto, unfolding(crate::specs::Traces::compared))]
+fn compared<'a>(printed: &[u8], call: Call, written: &[u8], text: &'a [u8]) -> Walk<'a>
+    requires { length written.now ≤ length text.now }
+    ensures walk { result ≡ spec.compared printed.now call written.now text.now }
+    ensures within { length result.rest ≤ length text.now }
+{
+    if printed == written {
+        Walk::going(&text[written.len()..])
+    } else {
+        Walk::stuck(&text[agreeing(written, printed)..], Wanted::Printed(call))
+    }
+}
+
+/// Goes on over a written call that can be read, where it is printed so.
+fn read_so<'a>(
+    alloc: Global,
+    names: &Names,
+    written: &[u8],
+    text: &'a [u8],
+) -> Result<Walk<'a>, AllocError>
+    requires { length written.now ≤ length text.now }
+    ensures walk { IfOk result (λ w. w ≡ spec.read_so names.now (call_in names.now written.now) written.now text.now) }
+    ensures within { IfOk result (λ w. length w.rest ≤ length text.now) }
+{
+    let Ok(call) = read_call(written, names) else {
+        return Ok(Walk::stuck(text, Wanted::Happening));
+    };
+    let mut printed = Vec::new(alloc);
+    put_event(&mut printed, names, Event::Call(Proc::new(1), call))?;
+    Ok(compared(printed.as_slice(), call, written, text))
+}
+
+/// Goes on over a call that has arguments, where it can be read and is printed so.
+#[tactic(auto, unfolding(crate::specs::Traces::called))]
+fn called<'a>(
+    alloc: Global,
+    names: &Names,
+    call: Call,
+    text: &'a [u8],
+) -> Result<Walk<'a>, AllocError>
+    ensures walk { IfOk result (λ w. w ≡ spec.called names.now call text.now) }
+    ensures within { IfOk result (λ w. length w.rest ≤ length text.now) }
+{
+    let written = call_part(text);
+    let walk = behind_name(names, call, skip(Class::Word, written));
+    match walk.wanted() {
+        Some(wanted) => {
+            let place = written.len().saturating_sub(walk.rest().len());
+            Ok(Walk::stuck(&text[place..], wanted))
+        }
+        None => read_so(alloc, names, written, text),
+    }
+}
+
+/// Goes on over what happens.
+#[tactic(auto, unfolding(crate::specs::Traces::happened))]
+fn happened<'a>(alloc: Global, names: &Names, text: &'a [u8]) -> Result<Walk<'a>, AllocError>
+    ensures walk { IfOk result (λ w. w ≡ spec.happened names.now text.now) }
+    ensures within { IfOk result (λ w. length w.rest ≤ length text.now) }
+{
+    let (word, rest) = split_prefix(Class::Word, text);
+    if word == b"tick".as_slice() || word == b"ipi".as_slice() {
+        return Ok(Walk::going(rest));
+    }
+    match find_call(word) {
+        Some(call) if form(call).bare => Ok(Walk::going(rest)),
+        Some(call) => called(alloc, names, call, text),
+        None => Ok(Walk::stuck(text, Wanted::Happening)),
+    }
+}
+
+/// Adds what is printed from the event on.
+#[tactic(auto, unfolding(crate::specs::Traces::told_from_event, fmp_trace::specs::Lines::tail_text))]
+fn put_from_event(out: &mut Vec<u8>, names: &Names, entry: &Record) -> Result<(), AllocError>
+    ensures { OnOk result (out.new.items ≡ out.old.items ++ spec.told_from_event names.now entry.now) }
+{
+    put_event(out, names, entry.event)?;
+    out.push(b' ')?;
+    put_answer(out, entry.answer)?;
+    put_releases(out, names, &entry.releases)?;
+    put_lost(out, entry.lost)?;
+    put_run_change(out, names, entry.run_change)?;
+    put_requests(out, entry.requests.as_slice())
+}
+
+/// Whether a text is printed so from the event on, on whatever processor and whoever runs there.
+#[tactic(auto, unfolding(crate::specs::Traces::is_printed))]
+fn is_printed(alloc: Global, names: &Names, text: &[u8]) -> Result<bool, AllocError>
+    ensures { IfOk result (λ same. same ≡ spec.is_printed names.now text.now) }
+{
+    let Some(entry) = guess_event(names, None, Proc::new(1), text) else {
+        return Ok(false);
+    };
+    let mut printed = Vec::new(alloc);
+    put_from_event(&mut printed, names, &entry)?;
+    Ok(printed.as_slice() == text)
+}
+
+/// Goes on over words, each behind a blank, that follow so many bytes from the event on: up to the first with which that is not
+/// printed so.
+fn words_from<'a>(
+    alloc: Global,
+    names: &Names,
+    text: &'a [u8],
+    start: usize,
+    words: &[u8],
+) -> Result<Walk<'a>, AllocError>
+    requires { start + 1 + length words.now ≤ length text.now }
+    ensures { IfOk result (λ w. w ≡ spec.words_from names.now text.now start WantsAnswer (pieces_of 32 words.now)) }
+{
+    let mut count = start;
+    let mut wanted = Wanted::Answer;
+    let mut rest = Some(words);
+    while let Some(words) = rest {
+        let (word, after) = cut_whole(b' ', words);
+        let end = count + 1 + word.len();
+        let printed = is_printed(alloc, names, &text[..end])?;
+        if !printed {
+            return Ok(Walk::stuck(&text[count + 1..], wanted));
+        }
+        count = end;
+        wanted = Wanted::Tail;
+        rest = after;
+    }
+    Ok(Walk::going(&[]))
+}
+
+/// Goes on over what follows the event in a text that begins with it.
+#[tactic(auto, unfolding(crate::specs::Traces::answered, fmp_bytes::specs::Bytes::behind))]
+fn answered<'a>(
+    alloc: Global,
+    names: &Names,
+    text: &'a [u8],
+    rest: &'a [u8],
+) -> Result<Walk<'a>, AllocError>
+    requires { length rest.now ≤ length text.now }
+    ensures { IfOk result (λ w. w ≡ spec.answered names.now text.now rest.now) }
+{
+    match rest {
+        [b' ', words @ ..] => words_from(alloc, names, text, text.len() - rest.len(), words),
+        _ => Ok(Walk::stuck(rest, Wanted::Answer)),
+    }
+}
+
+/// How far the line of this number is printed so.
+#[tactic(auto, unfolding(crate::specs::Traces::printed_place))]
+fn printed_place<'a>(
+    alloc: Global,
+    names: &Names,
+    n: u32,
+    line: &'a [u8],
+) -> Result<Walk<'a>, AllocError>
+    ensures { IfOk result (λ w. w ≡ spec.printed_place names.now n line.now) }
+{
+    let head = headed(names, n, line);
+    if head.wanted().is_some() {
+        return Ok(head);
+    }
+    let text = head.rest();
+    let event = happened(alloc, names, text)?;
+    if event.wanted().is_some() {
+        return Ok(event);
+    }
+    answered(alloc, names, text, event.rest())
+}
+
+/// Where a byte is not printed, or the carriage return at the end was left out.
+fn byte_place<'a>(rest: &'a [u8]) -> Walk<'a>
+    ensures { result ≡ spec.byte_place rest.now }
+{
+    let wanted = if rest.is_empty() {
+        Wanted::NoReturn
+    } else {
+        Wanted::PrintedByte
+    };
+    Walk::stuck(rest, wanted)
+}
+
+/// Where the line of this number in a trace is at fault, by the kind of the fault.
+pub(crate) fn trace_place<'a>(
+    alloc: Global,
+    names: &Names,
+    n: u32,
+    line: &'a [u8],
+    kind: TextKind,
+) -> Result<Walk<'a>, AllocError>
+    ensures { IfOk result (λ w. w ≡ spec.trace_place names.now n line.now kind) }
+{
+    match kind {
+        TextKind::BadByte => Ok(byte_place(skip(Class::Printed, line))),
+        TextKind::BadWord => printed_place(alloc, names, n, line),
+        _ => Ok(Walk::going(line)),
+    }
+}
+
+/// Where a line of a trace that may leave out parts is at fault, by the kind of the fault.
+pub(crate) fn partial_place<'a>(line: &'a [u8], kind: TextKind) -> Walk<'a>
+    ensures { result ≡ spec.partial_place line.now kind }
+{
+    match kind {
+        TextKind::BadByte => byte_place(skip(Class::Printed, line)),
+        TextKind::BadWord => Walk::stuck(line, Wanted::PartialLine),
+        _ => Walk::going(line),
+    }
+}

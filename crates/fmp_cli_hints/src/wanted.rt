@@ -1,0 +1,181 @@
+//! What is wanted at a place of a text.
+ghost use Rattle.std.specs.Prelude.{◌≡◌, ◌++◌, OnOk, decimal};
+ghost use Rattle.fmp_cli_hints.specs.Wanted as spec;
+
+use fmp_calls::ArgumentKind;
+use fmp_cli_help::{put_argument, put_call};
+use fmp_codes::{Call, Event, Proc};
+use fmp_text::Names;
+use fmp_trace::put_event;
+use itoa::Buffer;
+use std::alloc::AllocError;
+
+/// What is wanted at a place of a line.
+#[derive(Clone, Copy, PartialEq, Eq)]
+pub enum Wanted {
+    /// A byte that may stand in a line.
+    LineByte,
+    /// A processor of the machine.
+    Processor,
+    /// What happens on a processor.
+    Happening,
+    /// Nothing more in the line.
+    LineEnd,
+    /// This byte of a call.
+    Mark(Call, u8),
+    /// An argument of a call.
+    Argument(Call, ArgumentKind),
+    /// Nothing more in the line of a call.
+    CallEnd(Call),
+    /// What may stand in a line of a script text.
+    Step,
+    /// A function that has no script.
+    Function,
+    /// The end of the line in place of a `;`.
+    NoStop,
+    /// A line of its own for a comment.
+    NoComment,
+    /// This number of a trace's line.
+    LineNumber(u32),
+    /// Who runs.
+    Runner,
+    /// This call as it is printed.
+    Printed(Call),
+    /// The answer to an event.
+    Answer,
+    /// What may follow the answer.
+    Tail,
+    /// Printed ASCII.
+    PrintedByte,
+    /// A line feed without a carriage return before it.
+    NoReturn,
+    /// A line of a trace that may leave out parts.
+    PartialLine,
+}
+
+/// What stands before what is wanted.
+#[tactic(auto, unfolding(crate::specs::Wanted::label))]
+pub fn label() -> &'static [u8]
+    ensures { result.now ≡ spec.label }
+{
+    b"  wanted: "
+}
+
+/// What is wanted where no call and no processor is.
+fn words(wanted: Wanted) -> &'static [u8]
+    ensures { result.now ≡ spec.words wanted }
+{
+    match wanted {
+        Wanted::LineByte => b"a letter, a digit, `_`, `-`, `(`, `)`, `,` or a blank\n",
+        Wanted::Happening => b"`tick`, `ipi`, or a call that `fmpsim list` has\n",
+        Wanted::LineEnd => b"the end of the line\n",
+        Wanted::Step => {
+            b"`script` and a function, or in a script `end` or a call that `fmpsim list` has, but not `ret_hdr`\n"
+        }
+        Wanted::Function => b"a function of the configuration that has no script yet\n",
+        Wanted::NoStop => b"the end of the line, without a `;`\n",
+        Wanted::NoComment =>
+            b"the end of the line: a comment has a line of its own, which begins with `#`\n",
+        Wanted::Runner => b"who runs there: the name of a task or a handler, or `-`\n",
+        Wanted::Answer => {
+            b"a blank and the answer: a code, as `E_OK`, and a value behind `:` where it has one; or `wait`, `spin`, `gone`, `idle`, `held`, `taken` or `none`\n"
+        }
+        Wanted::Tail => {
+            b"the end of the line, or in this order ` rel=<task>:<code>[:<value>]`.., ` lost=<value>`, ` run=<task>` or ` run=idle`, ` ipi=<p>[,<p>]..`\n"
+        }
+        Wanted::PrintedByte => b"printed ASCII, from the blank to `~`\n",
+        Wanted::NoReturn => b"a line feed without a carriage return before it\n",
+        Wanted::PartialLine => {
+            b"`[<n> ]P<p> [<runner> ]<event> <answer>` and fields behind it, each as a trace has it, and the line's own number\n"
+        }
+        Wanted::Processor
+        | Wanted::Mark(..)
+        | Wanted::Argument(..)
+        | Wanted::CallEnd(_)
+        | Wanted::LineNumber(_)
+        | Wanted::Printed(_) => b"",
+    }
+}
+
+/// Adds that a processor of the machine is wanted.
+#[tactic(auto, unfolding(crate::specs::Wanted::processors))]
+fn put_processors(out: &mut Vec<u8>, processors: u8) -> Result<(), AllocError>
+    ensures { OnOk result (out.new.items ≡ out.old.items ++ spec.processors processors) }
+{
+    let mut buffer = Buffer::new();
+    out.extend_from_slice(b"a processor, P1 to P")?;
+    out.extend_from_slice(buffer.format(processors).as_bytes())?;
+    out.extend_from_slice(b"\n")
+}
+
+/// Adds that this number of the line is wanted.
+#[tactic(auto, unfolding(crate::specs::Wanted::number_line))]
+fn put_line_number(out: &mut Vec<u8>, number: u32) -> Result<(), AllocError>
+    ensures { OnOk result (out.new.items ≡ out.old.items ++ spec.number_line number) }
+{
+    let mut buffer = Buffer::new();
+    out.extend_from_slice(b"the line's number, ")?;
+    out.extend_from_slice(buffer.format(number).as_bytes())?;
+    out.extend_from_slice(b"\n")
+}
+
+/// Adds that this call is wanted as it is printed.
+#[tactic(auto, unfolding(crate::specs::Wanted::printed_line))]
+fn put_printed(out: &mut Vec<u8>, names: &Names, call: Call) -> Result<(), AllocError>
+    ensures { OnOk result (out.new.items ≡ out.old.items ++ spec.printed_line names.now call) }
+{
+    put_event(out, names, Event::Call(Proc::new(1), call))?;
+    out.extend_from_slice(b"\n")
+}
+
+/// Adds that this byte is wanted at the place.
+#[tactic(auto, unfolding(crate::specs::Wanted::mark_line))]
+pub fn put_mark(out: &mut Vec<u8>, byte: u8) -> Result<(), AllocError>
+    ensures { OnOk result (out.new.items ≡ out.old.items ++ spec.mark_line byte) }
+{
+    out.extend_from_slice(b"  here: `")?;
+    out.push(byte)?;
+    out.extend_from_slice(b"`\n")
+}
+
+/// Adds that the end of the line is wanted at the place.
+#[tactic(auto, unfolding(crate::specs::Wanted::end_line))]
+fn put_end(out: &mut Vec<u8>) -> Result<(), AllocError>
+    ensures { OnOk result (out.new.items ≡ out.old.items ++ spec.end_line) }
+{
+    out.extend_from_slice(b"  here: the end of the line\n")
+}
+
+/// Adds what is wanted, behind its label.
+#[tactic(auto, unfolding(crate::specs::Wanted::told))]
+fn put_told(out: &mut Vec<u8>, names: &Names, wanted: Wanted) -> Result<(), AllocError>
+    ensures { OnOk result (out.new.items ≡ out.old.items ++ spec.told names.now wanted) }
+{
+    match wanted {
+        Wanted::Processor => put_processors(out, names.processors()),
+        Wanted::LineNumber(number) => put_line_number(out, number),
+        Wanted::Printed(call) => put_printed(out, names, call),
+        Wanted::Mark(call, byte) => {
+            put_call(out, call)?;
+            put_mark(out, byte)
+        }
+        Wanted::Argument(call, kind) => {
+            put_call(out, call)?;
+            put_argument(out, kind)
+        }
+        Wanted::CallEnd(call) => {
+            put_call(out, call)?;
+            put_end(out)
+        }
+        _ => out.extend_from_slice(words(wanted)),
+    }
+}
+
+/// Adds what is wanted, on the machine of these names.
+#[tactic(auto, unfolding(crate::specs::Wanted::wanted_text))]
+pub fn put_wanted(out: &mut Vec<u8>, names: &Names, wanted: Wanted) -> Result<(), AllocError>
+    ensures { OnOk result (out.new.items ≡ out.old.items ++ spec.wanted_text names.now wanted) }
+{
+    out.extend_from_slice(label())?;
+    put_told(out, names, wanted)
+}

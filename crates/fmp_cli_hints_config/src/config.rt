@@ -1,0 +1,249 @@
+//! What stands beside a fault line of a configuration.
+ghost use Rattle.std.specs.Prelude.{◌≡◌, ◌≤◌, ◌++◌, length, OnOk, IfOk, IfSome};
+ghost use Rattle.fmp_config.specs.Limits.{most_bytes};
+ghost use Rattle.fmp_cli_hints_config.specs.Configs as spec;
+
+use crate::hints::put_word_hint;
+use crate::opened::{end_of_text, missing_at};
+use crate::statements::statement_at;
+use fmp_bytes::cut;
+use fmp_cli_diagnostics::Spot;
+use fmp_cli_help::{put_config_advice, put_statement};
+use fmp_cli_hints::{
+    label, line_behind, put_config_likeness, put_excerpt, put_line, put_mark, without_mark,
+};
+use fmp_config::{ConfigFault, ConfigKind};
+use fmp_config_statements::StatementName;
+use std::alloc::{AllocError, Global};
+
+/// How many bytes follow the last line feed.
+fn column_after(bytes: &[u8]) -> usize
+    ensures column { result ≡ spec.column_after 0 bytes.now }
+    ensures within { result ≤ length bytes.now }
+{
+    let mut column = 0;
+    for byte in bytes {
+        if *byte == b'\n' {
+            column = 0;
+        } else {
+            column += 1;
+        }
+    }
+    column
+}
+
+/// Adds the line of a place, and a caret under it.
+#[tactic(auto, unfolding(crate::specs::Configs::placed))]
+fn put_placed(out: &mut Vec<u8>, text: &[u8], place: usize) -> Result<(), AllocError>
+    requires { place ≤ length text.now }
+    ensures { OnOk result (out.new.items ≡ out.old.items ++ spec.placed text.now place) }
+{
+    let column = column_after(&text[..place]);
+    let (line, _after) = cut(b'\n', &text[place - column..]);
+    put_excerpt(out, line, column.min(line.len()))
+}
+
+/// Adds the line of this number from 1, if there is one, without a byte order mark before it.
+#[tactic(auto, unfolding(crate::specs::Configs::numbered))]
+fn put_numbered(out: &mut Vec<u8>, text: &[u8], line: u32) -> Result<(), AllocError>
+    ensures { OnOk result (out.new.items ≡ out.old.items ++ spec.numbered text.now line) }
+{
+    if line == 0 {
+        return Ok(());
+    }
+    match line_behind(line - 1, text) {
+        Some((line, _after)) => put_line(out, without_mark(line), 0),
+        None => Ok(()),
+    }
+}
+
+/// The place from which on so many bytes are left.
+#[tactic(auto, unfolding(crate::specs::Configs::place_of))]
+fn place_of(text: &[u8], left: usize) -> Option<usize>
+    ensures place { result ≡ spec.place_of text.now left }
+    ensures within { IfSome result (λ place. place ≤ length text.now) }
+{
+    if 0 < left && left <= text.len() {
+        Some(text.len() - left)
+    } else {
+        None
+    }
+}
+
+/// Whether a fault is told with the form of its statement.
+fn wants_form(kind: ConfigKind) -> bool
+    ensures { result ≡ spec.wants_form kind }
+{
+    matches!(
+        kind,
+        ConfigKind::Syntax
+            | ConfigKind::OutOfRange
+            | ConfigKind::BadAttribute
+            | ConfigKind::BadClass
+    )
+}
+
+/// Adds the form of a statement, behind its label, if there is one.
+fn put_form(out: &mut Vec<u8>, name: Option<StatementName>) -> Result<(), AllocError>
+    ensures { OnOk result (out.new.items ≡ out.old.items ++ spec.form_of name) }
+{
+    match name {
+        None => Ok(()),
+        Some(name) => {
+            out.extend_from_slice(label())?;
+            put_statement(out, name)
+        }
+    }
+}
+
+/// Adds the form of the statement at the place of a fault, if the fault is told with it.
+#[tactic(auto, unfolding(crate::specs::Configs::form_at))]
+fn put_form_at(
+    out: &mut Vec<u8>,
+    text: &[u8],
+    place: usize,
+    fault: &ConfigFault,
+) -> Result<(), AllocError>
+    requires within { place ≤ length text.now }
+    requires few { length text.now ≤ most_bytes }
+    ensures { OnOk result (out.new.items ≡ out.old.items ++ spec.form_at text.now place fault.now) }
+{
+    if wants_form(fault.kind) {
+        put_form(out, statement_at(text, place, fault.word.as_bytes()))
+    } else {
+        Ok(())
+    }
+}
+
+/// Adds the line in which a byte is missing behind what stands before a place, a caret there, and the form of its statement.
+#[tactic(auto, unfolding(crate::specs::Configs::missed))]
+fn put_missed(
+    out: &mut Vec<u8>,
+    text: &[u8],
+    place: usize,
+    missing: (StatementName, u8),
+) -> Result<(), AllocError>
+    requires { place ≤ length text.now }
+    ensures { OnOk result (out.new.items ≡ out.old.items ++ spec.missed text.now place missing) }
+{
+    let (name, byte) = missing;
+    put_placed(out, text, end_of_text(&text[..place]))?;
+    put_form(out, Some(name))?;
+    put_mark(out, byte)
+}
+
+/// Adds the line of the token at a place, a caret under it, and what is wanted in its place.
+#[tactic(auto, unfolding(crate::specs::Configs::refused))]
+fn put_refused(
+    alloc: Global,
+    out: &mut Vec<u8>,
+    text: &[u8],
+    place: usize,
+    fault: &ConfigFault,
+) -> Result<(), AllocError>
+    requires within { place ≤ length text.now }
+    requires few { length text.now ≤ most_bytes }
+    ensures { OnOk result (out.new.items ≡ out.old.items ++ spec.refused text.now place fault.now) }
+{
+    put_placed(out, text, place)?;
+    put_form_at(out, text, place, fault)?;
+    put_word_hint(alloc, out, text, place, fault)
+}
+
+/// Adds the line of a fault, with a caret where a token is at fault, or where one is missing.
+#[tactic(auto, unfolding(crate::specs::Configs::shown))]
+fn put_fault(
+    alloc: Global,
+    out: &mut Vec<u8>,
+    text: &[u8],
+    fault: &ConfigFault,
+) -> Result<(), AllocError>
+    requires { length text.now ≤ most_bytes }
+    ensures { OnOk result (out.new.items ≡ out.old.items ++ spec.shown text.now fault.now) }
+{
+    let Some(place) = place_of(text, fault.left) else {
+        return put_numbered(out, text, fault.line);
+    };
+    match missing_at(text, place, fault.kind) {
+        Some(missing) => put_missed(out, text, place, missing),
+        None => put_refused(alloc, out, text, place, fault),
+    }
+}
+
+/// Adds what the line of this number looks like, where it has such a fault.
+#[tactic(auto, unfolding(crate::specs::Configs::likeness_at))]
+fn put_likeness_at(
+    out: &mut Vec<u8>,
+    text: &[u8],
+    line: u32,
+    kind: ConfigKind,
+) -> Result<(), AllocError>
+    ensures { OnOk result (out.new.items ≡ out.old.items ++ spec.likeness_at text.now line kind) }
+{
+    if line == 0 {
+        return Ok(());
+    }
+    match line_behind(line - 1, text) {
+        Some((line, _after)) => put_config_likeness(out, kind, line),
+        None => Ok(()),
+    }
+}
+
+/// What stands beside a fault of a configuration: the line, and where a token is at fault a caret under its first byte, or where one
+/// is missing there, and the form of the statement, and what to do about such a fault, and what the line looks like where it looks like one of another text.
+/// Where the token stands is taken from the fault.
+#[tactic(auto, unfolding(crate::specs::Configs::config_context))]
+pub fn config_context(
+    alloc: Global,
+    text: &[u8],
+    fault: &ConfigFault,
+) -> Result<Vec<u8>, AllocError>
+    requires { length text.now ≤ most_bytes }
+    ensures { IfOk result (λ out. out.items ≡ spec.config_context text.now fault.now) }
+{
+    let mut out = Vec::new(alloc);
+    put_fault(alloc, &mut out, text, fault)?;
+    put_config_advice(&mut out, fault.kind)?;
+    put_likeness_at(&mut out, text, fault.line, fault.kind)?;
+    Ok(out)
+}
+
+/// How many line feeds there are.
+fn line_feeds(bytes: &[u8]) -> usize
+    ensures count { result ≡ spec.line_feeds 0 bytes.now }
+    ensures within { result ≤ length bytes.now }
+{
+    let mut count = 0;
+    for byte in bytes {
+        if *byte == b'\n' {
+            count += 1;
+        }
+    }
+    count
+}
+
+/// The line and the column of a place.
+#[tactic(auto, unfolding(crate::specs::Configs::spot_at))]
+fn spot_at(text: &[u8], place: usize) -> Spot
+    requires { place ≤ length text.now }
+    ensures { result ≡ spec.spot_at text.now place }
+{
+    let before = &text[..place];
+    Spot::Column(line_feeds(before) + 1, column_after(before) + 1)
+}
+
+/// Where the fault of a configuration is, as far as that is known: where [`config_context`] shows a caret at that byte, in its line, and
+/// else in the line of the fault. Where the token stands is taken from the fault.
+#[tactic(auto, unfolding(crate::specs::Configs::config_spot))]
+pub fn config_spot(text: &[u8], fault: &ConfigFault) -> Spot
+    requires { length text.now ≤ most_bytes }
+    ensures { result ≡ spec.config_spot text.now fault.now }
+{
+    let Some(place) = place_of(text, fault.left) else {
+        return Spot::of_line(fault.line);
+    };
+    match missing_at(text, place, fault.kind) {
+        Some(_) => spot_at(text, end_of_text(&text[..place])),
+        None => spot_at(text, place),
+    }
+}

@@ -1,0 +1,127 @@
+//! Why a word of a configuration is no number there.
+ghost use Rattle.std.specs.Prelude.{◌≡◌, ◌≤◌, ◌<◌, ◌+◌, ◌^◌, ◌++◌, length, OnOk};
+ghost use Rattle.fmp_config.specs.Limits.{most_bytes};
+ghost use Rattle.fmp_cli_hints_config.specs.Numbers as spec;
+
+use fmp_bytes::{Class, is_identifier, split_prefix};
+use fmp_config_statements::numeral;
+use fmp_config_tokens::{Lexer, Token, TokenKind};
+use itoa::Buffer;
+use std::alloc::AllocError;
+
+/// How much of `#define` stands right before a token.
+#[derive(Clone, Copy, PartialEq, Eq)]
+pub enum Stage {
+    Outside,
+    /// The `#`.
+    Sign,
+    /// All of it.
+    Define,
+}
+
+/// How much of `#define` stands right before what follows a token.
+fn stage_behind(stage: Stage, token: &Token<'_>) -> Stage
+    ensures { result ≡ spec.stage_behind stage token.now }
+{
+    if matches!(token.kind(), TokenKind::Directive) {
+        Stage::Sign
+    } else if matches!(stage, Stage::Sign) && token.text() == b"define".as_slice() {
+        Stage::Define
+    } else {
+        Stage::Outside
+    }
+}
+
+/// The line of a token that is this word behind `#define`, else the line of an earlier one.
+fn line_behind_define(
+    word: &[u8],
+    stage: Stage,
+    line: Option<u32>,
+    token: &Token<'_>,
+) -> Option<u32>
+    ensures { result ≡ spec.line_behind_define word.now stage line token.now }
+{
+    if matches!(stage, Stage::Define) && token.text() == word {
+        Some(token.line())
+    } else {
+        line
+    }
+}
+
+/// The line of the last `#define` of a text for this word.
+fn defined_line(text: &[u8], word: &[u8]) -> Option<u32>
+    requires { length text.now + 1 < 2 ^ 32 }
+    ensures { result ≡ spec.defined_line text.now word.now }
+{
+    let mut lexer = Lexer::new(text);
+    let mut stage = Stage::Outside;
+    let mut line = None;
+    while let Some(token) = lexer.next_token() {
+        line = line_behind_define(word, stage, line, &token);
+        stage = stage_behind(stage, &token);
+    }
+    line
+}
+
+/// What is told of a name that has a `#define`, behind the number of its line.
+#[tactic(auto, unfolding(crate::specs::Numbers::defined_words))]
+fn defined_words() -> &'static [u8]
+    ensures { result.now ≡ spec.defined_words }
+{
+    b": the name stands for a number where that is all that follows it, in digits or behind 0x: no sign, parentheses, suffix or sum.\n"
+}
+
+/// Adds what is told of a name, with the line of its `#define` if it has one.
+fn put_name(out: &mut Vec<u8>, line: Option<u32>) -> Result<(), AllocError>
+    ensures { OnOk result (out.new.items ≡ out.old.items ++ spec.told_name line) }
+{
+    let Some(line) = line else {
+        return out.extend_from_slice(
+            b"  No `#define` of this text gives the name a number. Files that `#include` and `INCLUDE` name are not read.\n",
+        );
+    };
+    let mut buffer = Buffer::new();
+    out.extend_from_slice(b"  `#define` in line ")?;
+    out.extend_from_slice(buffer.format(line).as_bytes())?;
+    out.extend_from_slice(defined_words())
+}
+
+/// Adds what is told of digits, where they are no number.
+fn put_digits(out: &mut Vec<u8>, is_number: bool) -> Result<(), AllocError>
+    ensures { OnOk result (out.new.items ≡ out.old.items ++ spec.told_digits is_number) }
+{
+    if is_number {
+        return Ok(());
+    }
+    out.extend_from_slice(
+        b"  A number is written in digits, without a leading zero, or behind 0x, and has no suffix.\n",
+    )
+}
+
+/// Adds what is told of a word where a number has to stand.
+#[tactic(auto, unfolding(crate::specs::Numbers::told_word))]
+fn put_word(out: &mut Vec<u8>, text: &[u8], word: &[u8]) -> Result<(), AllocError>
+    requires { length text.now + 1 < 2 ^ 32 }
+    ensures { OnOk result (out.new.items ≡ out.old.items ++ spec.told_word text.now word.now) }
+{
+    if is_identifier(word) {
+        put_name(out, defined_line(text, word))
+    } else {
+        put_digits(out, numeral(word).is_some())
+    }
+}
+
+/// Adds what is told of the word at a place of a configuration, where it is no number that may stand there.
+#[tactic(auto, unfolding(crate::specs::Numbers::number_hint))]
+pub(crate) fn put_number_hint(
+    out: &mut Vec<u8>,
+    text: &[u8],
+    place: usize,
+) -> Result<(), AllocError>
+    requires within { place ≤ length text.now }
+    requires few { length text.now ≤ most_bytes }
+    ensures { OnOk result (out.new.items ≡ out.old.items ++ spec.number_hint text.now place) }
+{
+    let (word, _rest) = split_prefix(Class::Word, &text[place..]);
+    put_word(out, text, word)
+}

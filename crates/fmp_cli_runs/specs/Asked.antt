@@ -1,0 +1,41 @@
+-- What requests ask for.
+use Rattle.std.specs.Prelude.{ℕ, List, Option, None, Some}
+use Rattle.fmp_run_texts.specs.declared.fault.RunFault.{RunFault}
+use Rattle.fmp_run_texts.specs.Traces.{FirstTraceFault}
+use Rattle.fmp_search_orders.specs.declared.rules.Rules.{Rules}
+use Rattle.fmp_cli_explore.specs.declared.ExploreRequest.{ExploreRequest}
+use Rattle.fmp_run_view.specs.declared.run.PageKind.{PageKind}
+use Rattle.fmp_run_view.specs.declared.run.PageKind.TheVariants as kind
+use Rattle.fmp_cli.specs.declared.Asked.{Asked}
+use Rattle.fmp_cli.specs.declared.Asked.TheVariants as asked
+use Rattle.fmp_cli.specs.declared.Told.{Told}
+use Rattle.fmp_cli.specs.declared.Told.TheVariants.{Line, State}
+use Rattle.fmp_run_partial.specs.Partials.{FirstPartialFault}
+use Rattle.fmp_run_events.specs.declared.stream.Detail.{Detail}
+use Rattle.fmp_run_events.specs.declared.stream.Detail.TheVariants as detail
+use Rattle.fmp_run_events.specs.Details.{detail_of}
+use Rattle.fmp_run_events.specs.Runs.{Writing}
+
+-- which orders are gone through
+abbrev pub rules_of : ExploreRequest → Rules
+rules_of r = record { ticks = r.ticks; prompt = r.prompt; drift = r.drift }
+
+-- what is written of each event
+abbrev pub detail_told : Told → Detail
+detail_told Line = detail.Line
+detail_told State = detail.State
+
+-- how that is written of a list of them
+abbrev pub writing_of : Told → Writing
+writing_of told = detail_of (detail_told told)
+
+-- the page that is asked for of a trace, if one is
+abbrev pub page_asked : Asked → Option PageKind
+page_asked asked.Page = Some kind.Own
+page_asked asked.DifferencesPage = Some kind.Differences
+page_asked other = None
+
+-- when a fault of the trace is its first one: of a partial trace by what is written, and else by all that a trace has
+abbrev pub FirstFaultOf : Asked → List ℕ → List ℕ → RunFault → Type 0
+FirstFaultOf asked.Partial = FirstPartialFault
+FirstFaultOf other = FirstTraceFault

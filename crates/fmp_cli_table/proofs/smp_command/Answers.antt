@@ -1,0 +1,42 @@
+use Rattle.fmp_cli_table.specs.Smp.{IsSmp}
+use Rattle.fmp_cli_table.proofs.Table.{by_line}
+use Rattle.fmp_cli_table.proofs.smp_command.Goals as goal
+
+pub returns : goal.returns
+returns c = by_line c.line.result _ _ IsSmp c.line.ensures (λ d h.
+    let one = h.adds in
+    let two = one.4 in
+    let three = two.4 in
+    let four = three.4 in
+    let five = four.4 in
+    let six = five.4 in
+    let seven = six.4 in
+    let eight = seven.4 in
+    let nine = eight.4 in
+    let ten = nine.4 in
+    record {
+      start = h.start;
+      config = one.0;
+      scripts = two.0;
+      ticks = three.0;
+      turns = four.0;
+      seed = five.0;
+      seeds = six.0;
+      find = seven.0;
+      strict = eight.0;
+      context = nine.0;
+      colour = ten.0;
+      chain = (one.1, one.3, (two.1, two.3, (three.1, three.3, (four.1, four.3, (five.1, five.3, (six.1, six.3, (seven.1, seven.3, (eight.1, eight.3, (nine.1, nine.3, (ten.1, ten.3, ten.4))))))))));
+      is_start = h.is_start;
+      is_config = one.2.kind;
+      is_scripts = two.2.kind;
+      is_ticks = three.2.kind;
+      is_turns = four.2.kind;
+      is_seed = five.2.kind;
+      is_seeds = six.2.kind;
+      is_find = seven.2.kind;
+      is_strict = eight.2.kind;
+      is_context = nine.2.kind;
+      is_colour = ten.2.kind;
+      line = h.line;
+    })

@@ -1,6 +1,0 @@
-use Rattle.std.proofs.Common.{◌≡◌, ◌≤◌, drop}
-use Rattle.fmp_config_context.specs.Configs.{line_feeds}
-use Rattle.fmp_config_context.proofs.config.line_feeds.Given as goal
-
-abbrev pub invariant-loop-byte : goal.invariant-loop-byte
-invariant-loop-byte l = (line_feeds l.count (drop l.byte-index l.bytes) ≡ line_feeds 0 l.fn.bytes) × (l.count ≤ l.byte-index)

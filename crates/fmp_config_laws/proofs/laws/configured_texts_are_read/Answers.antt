@@ -1,5 +1,0 @@
-use Rattle.fmp_config_laws.proofs.Configured.{config_read}
-use Rattle.fmp_config_laws.proofs.laws.configured_texts_are_read.Goals as goal
-
-pub returns : goal.returns
-returns c = config_read

@@ -1,5 +1,0 @@
-use Rattle.fmp_config_laws.proofs.Configured.{one_machine}
-use Rattle.fmp_config_laws.proofs.laws.texts_configure_one_machine.Goals as goal
-
-pub returns : goal.returns
-returns c = one_machine

@@ -1,0 +1,63 @@
+-- One object or one function more.
+use Rattle.std.proofs.Common.{◌≡◌, ◌≤◌, ◌<◌, ℕ, suc, ◌+◌, ◌-◌, false, List, ◌∷◌, ◌++◌, length, drop, drop-cons, None, Some, add-one, eqb, ne_eqb, refl, sym, ap, ap₂, ◌∙◌, append_assoc, append-nil, arith}
+use Rattle.std.specs.Prelude.{slice_get}
+use Rattle.std.proofs.lemmas.Option.{slice_get_within, get_or_from_slice_get}
+use Rattle.fmp_calls.specs.declared.kinds.ObjectKind.{ObjectKind}
+use Rattle.fmp_calls.specs.declared.kinds.NameKind.TheVariants.{Function}
+use Rattle.fmp_names.specs.Names.{NameLists, name_of}
+use Rattle.fmp_names.proofs.Placed.{numbered}
+use Rattle.fmp_names.proofs.Listed.{past_last}
+use Rattle.fmp_setup.specs.Setup.{Setup}
+use Rattle.fmp_config_listing.specs.Functions.{function_line, functions_from}
+use Rattle.fmp_config_listing.specs.Listing.{object_line, objects_to}
+
+module _ (c : Setup) (kind : ObjectKind) where
+  objects_more : (i : ℕ) → objects_to c kind (i + 1) ≡ objects_to c kind i ++ object_line c kind i
+  unfolding objects_to
+  objects_more i = rw (add-one) refl
+
+  -- nothing was written of none
+  pub no_object_yet : (old : List ℕ) → old ≡ old ++ objects_to c kind 0
+  unfolding objects_to
+  no_object_yet old = sym (append-nil old)
+
+  -- what was written of the first of them, and one line more
+  pub object_next : (i : ℕ) (old between new : List ℕ) → between ≡ old ++ objects_to c kind i → new ≡ between ++ object_line c kind i → new ≡ old ++ objects_to c kind (i + 1)
+  object_next i old between new so_far line =
+      line ∙ ap (λ (xs : List ℕ). xs ++ object_line c kind i) so_far ∙ append_assoc old (objects_to c kind i) (object_line c kind i) ∙ ap (λ (xs : List ℕ). old ++ xs) (sym (objects_more i))
+
+module _ (lists : NameLists) where
+  pub is_within : (n : ℕ) (name : List ℕ) → name_of lists Function n ≡ Some name → n ≤ length lists.functions
+  is_within n name is =
+      let at = numbered lists Function n name is in
+      let within : n - 1 < length lists.functions = slice_get_within lists.functions (n - 1) name at.1 in
+      omega (arith, within, at.0)
+
+  -- the functions from it on are that one, and those behind it
+  next_function : (n : ℕ) (name : List ℕ) → name_of lists Function n ≡ Some name → drop (n - 1) lists.functions ≡ name ∷ drop n lists.functions
+  next_function n name is =
+      let at = numbered lists Function n name is in
+      let same : suc (n - 1) ≡ n = omega (arith, at.0) in
+      drop-cons lists.functions (n - 1) name (slice_get_within lists.functions (n - 1) name at.1)
+      ∙ ap (λ (x : List ℕ). x ∷ drop (suc (n - 1)) lists.functions) (get_or_from_slice_get lists.functions (n - 1) name name at.1)
+      ∙ ap (λ (k : ℕ). name ∷ drop k lists.functions) same
+
+  -- one line more, before those of the functions behind it
+  pub function_more : (n : ℕ) (name out new all : List ℕ) → name_of lists Function n ≡ Some name → new ≡ out ++ function_line n name
+      → out ++ functions_from n (drop (n - 1) lists.functions) ≡ all → new ++ functions_from (n + 1) (drop ((n + 1) - 1) lists.functions) ≡ all
+  function_more n name out new all is line made =
+      let same : (n + 1) - 1 ≡ n = omega arith in
+      ap₂ (λ (xs : List ℕ) (k : ℕ). xs ++ functions_from (n + 1) (drop k lists.functions)) line same
+      ∙ append_assoc out (function_line n name) (functions_from (n + 1) (drop n lists.functions))
+      ∙ ap (λ (names : List (List ℕ)). out ++ functions_from n names) (sym (next_function n name is)) ∙ made
+
+  no_place : (n : ℕ) → 1 ≤ n → name_of lists Function n ≡ None → slice_get lists.functions (n - 1) ≡ None
+  unfolding name_of
+  no_place n least is =
+      let test : eqb n 0 ≡ false = ne_eqb n 0 (λ e. omega (arith, e, least)) in
+      rw test at is
+
+  -- where there is no function of this number, all lines were written
+  pub functions_done : (n : ℕ) (out all : List ℕ) → 1 ≤ n → name_of lists Function n ≡ None → out ++ functions_from n (drop (n - 1) lists.functions) ≡ all → out ≡ all
+  functions_done n out all least is made =
+      sym (ap (λ (names : List (List ℕ)). out ++ functions_from n names) (past_last lists.functions (n - 1) (no_place n least is)) ∙ append-nil out) ∙ made

@@ -1,0 +1,14 @@
+use Rattle.std.proofs.Common.{◌≡◌, ◌≤◌, ◌++◌, ◌+◌, ◌-◌, drop, length}
+use Rattle.fmp_config_listing.specs.Functions.{functions_from}
+use Rattle.fmp_config_listing.proofs.functions.put_functions.Given as goal
+
+-- the lines so far, and those of the functions that are left
+abbrev pub invariant-loop-name : goal.invariant-loop-name
+invariant-loop-name l = record {
+  least : 1 ≤ l.number;
+  most : l.number ≤ length l.config.names.functions + 1;
+  made : l.out.items ++ functions_from l.number (drop (l.number - 1) l.config.names.functions) ≡ l.fn.out.items ++ functions_from 1 l.config.names.functions;
+}
+
+abbrev pub decreases-loop-name : goal.decreases-loop-name
+decreases-loop-name l = (length l.config.names.functions + 1) - l.number

@@ -1,7 +1,0 @@
-use Rattle.std.proofs.Common.{◌≡◌, true}
-use Rattle.fmp_orders.specs.Orders.{each}
-use Rattle.fmp_explore.specs.Walked.{is_idle_on}
-use Rattle.fmp_explore.proofs.sights.are_idle.Given as goal
-
-abbrev pub invariant-loop-at : goal.invariant-loop-at
-invariant-loop-at l = each (is_idle_on l.kernel) l.at ≡ true

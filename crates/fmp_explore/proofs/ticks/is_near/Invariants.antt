@@ -1,7 +1,0 @@
-use Rattle.std.proofs.Common.{◌≡◌, true}
-use Rattle.fmp_orders.specs.Orders.{each}
-use Rattle.fmp_explore.specs.Walked.{is_beside}
-use Rattle.fmp_explore.proofs.ticks.is_near.Given as goal
-
-abbrev pub invariant-loop-at : goal.invariant-loop-at
-invariant-loop-at l = each (is_beside l.config l.drift l.taken l.count) l.at ≡ true

@@ -1,7 +1,0 @@
-use Rattle.std.proofs.Common.{◌≡◌, true}
-use Rattle.fmp_orders.specs.Orders.{each}
-use Rattle.fmp_explore.specs.Walked.{is_out}
-use Rattle.fmp_explore.proofs.ticks.is_out_of_time.Given as goal
-
-abbrev pub invariant-loop-at : goal.invariant-loop-at
-invariant-loop-at l = each (is_out l.config l.rules l.taken) l.at ≡ true

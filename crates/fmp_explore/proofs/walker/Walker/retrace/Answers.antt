@@ -1,6 +1,0 @@
-use Rattle.std.proofs.Common.{ap}
-use Rattle.fmp_explore.specs.Walked.{origin_of}
-use Rattle.fmp_explore.proofs.walker.Walker.retrace.Goals as goal
-
-pub returns-in-Some-clause-origin : goal.returns-in-Some-clause-origin
-returns-in-Some-clause-origin c = ap origin_of c.play.ensures.place

@@ -1,8 +1,0 @@
-use Rattle.fmp_help.proofs.ListedDeeds.{deed_once, deed_of_call}
-use Rattle.fmp_help.proofs.laws.deeds_are_listed.Goals as goal
-
-pub returns-clause-once : goal.returns-clause-once
-returns-clause-once c = deed_once
-
-pub returns-clause-no_other : goal.returns-clause-no_other
-returns-clause-no_other c = deed_of_call

@@ -1,0 +1,31 @@
+use Rattle.std.proofs.Common.{◌≡◌, ℕ, List, refl, sym, ap, subst, ◌∙◌}
+use Rattle.std.specs.Prelude.{slice_index_or, slice_set}
+use Rattle.fmp_rules.specs.declared.machine.Alarm.{Alarm}
+use Rattle.fmp_rules.specs.World.{with_item}
+use Rattle.fmp_time.specs.Times.{Times}
+use Rattle.fmp_kernel_assigned.specs.Assignments.{Assignments, assignments_of, alarm_in, blank_alarm}
+use Rattle.fmp_kernel_assigned.specs.Counting.{AreInStep}
+use Rattle.fmp_kernel_assigned.proofs.Changes.{alarm_moved, alarm_moved_step}
+use Rattle.fmp_kernel_assigned.proofs.assigned.Assigned.assign_alarm.Goals as goal
+use Rattle.fmp_kernel_assigned.proofs.assigned.Assigned.assign_alarm.Goals.{After-move_to}
+
+-- the handler at its new processor
+abbrev moved : (c : After-move_to) → Alarm
+moved c = record (alarm_in c.self.inside.alarms.items c.args.a) { assigned = c.args.p }
+
+handlers : (c : After-move_to) → c.assign_alarm_at.new.alarms.items ≡ with_item c.self.inside.alarms.items c.args.a.number (moved c)
+handlers c = c.assign_alarm_at.ensures
+    ∙ ap (λ (i : ℕ). slice_set c.self.inside.alarms.items i (record (slice_index_or c.self.inside.alarms.items i blank_alarm) { assigned = c.args.p })) c.index.ensures.value
+
+pub invariant_of-self : goal.invariant_of-self
+invariant_of-self c =
+    subst (λ (xs : List Alarm). AreInStep c.self.inside.tasks c.self.inside.cyclics.items xs c.move_to.new.self.left) (sym (handlers c))
+    (subst (λ (m : Times). AreInStep c.self.inside.tasks c.self.inside.cyclics.items (with_item c.self.inside.alarms.items c.args.a.number (moved c)) m.left) (sym c.move_to.ensures)
+    (alarm_moved_step c.self.inside.timer c.self.inside.tasks c.self.inside.cyclics.items c.self.inside.alarms.items c.self.inside.timers c.self.invariant c.args.a c.args.p (moved c) refl))
+
+pub returns : goal.returns
+returns c =
+    ap (λ (xs : List Alarm). assignments_of c.self.inside.timer c.self.inside.tasks c.self.inside.cyclics.items xs c.move_to.new.self) (handlers c)
+    ∙ ap (assignments_of c.self.inside.timer c.self.inside.tasks c.self.inside.cyclics.items (with_item c.self.inside.alarms.items c.args.a.number (moved c))) c.move_to.ensures
+    ∙ alarm_moved c.self.inside.timer c.self.inside.tasks c.self.inside.cyclics.items c.self.inside.alarms.items c.self.inside.timers c.self.invariant c.args.a c.args.p (moved c)
+    ∙ ap (λ (v : Assignments). record v { alarms = with_item v.alarms c.args.a.number (record (alarm_in v.alarms c.args.a) { assigned = c.args.p }) }) c.self.view_is

@@ -1,0 +1,19 @@
+use Rattle.std.proofs.Common.{ℕ, Some, List, ◌∷◌, ◌++◌, ap, sym, ◌∙◌}
+use Rattle.std.specs.Option.{option_map}
+use Rattle.fmp_codes.specs.declared.numbers.Task.{Task}
+use Rattle.fmp_kernel_links.specs.Lists.{list_at, first_of}
+use Rattle.fmp_kernel_links.specs.Tasks.{task_at}
+use Rattle.fmp_kernel_links.proofs.Tasks.{first_of-map, parts_of}
+use Rattle.fmp_kernel_links.proofs.task_list.TaskList.next.Goals as goal
+
+pub returns-in_err-item : goal.returns-in_err-item
+returns-in_err-item c = λ before behind e.
+    let p = parts_of (list_at c.self.inside.links 0) before behind c.args.task c.self.invariant.small (c.self.view_is ∙ e) in
+    let none = c.in_err-item.ensures.value 0 p.before_items p.behind_items (p.whole ∙ ap (λ (k : ℕ). p.before_items ++ k ∷ p.behind_items) (sym c.index.ensures.value)) in
+    c.from_residual.ensures ∙ ap (option_map task_at) none ∙ sym (first_of-map p.behind_items) ∙ ap (λ (us : List Task). first_of us) p.behind_is
+
+pub returns : goal.returns
+returns c = λ before behind e.
+    let p = parts_of (list_at c.self.inside.links 0) before behind c.args.task c.self.invariant.small (c.self.view_is ∙ e) in
+    let some = c.in_ok-item.ensures.value 0 p.before_items p.behind_items (p.whole ∙ ap (λ (k : ℕ). p.before_items ++ k ∷ p.behind_items) (sym c.index.ensures.value)) in
+    ap Some c.from_index.ensures.value ∙ ap (option_map task_at) some ∙ sym (first_of-map p.behind_items) ∙ ap (λ (us : List Task). first_of us) p.behind_is

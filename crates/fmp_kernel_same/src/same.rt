@@ -1,0 +1,53 @@
+//! Values that are compared, and lists of them.
+ghost use Rattle.std.specs.Prelude.{◌≡◌, IsTrue};
+
+use fmp_kernel_parts::Digest;
+
+/// A value of which is told whether it is the same as another.
+pub trait Same {
+    /// Whether it is the same as another one.
+    fn is_same(&self, other: &Self) -> bool
+        ensures { IsTrue result → self.now ≡ other.now };
+
+    /// Adds it to a digest. Values that are the same add the same; no answer may depend on it.
+    fn add_to(&self, digest: &mut Digest);
+}
+
+/// Whether the values of two lists are the same.
+pub fn are_equal<T: Same>(values: &[T], others: &[T]) -> bool
+    ensures { IsTrue result → values.now ≡ others.now }
+{
+    if values.len() != others.len() {
+        return false;
+    }
+    for at in 0..values.len() {
+        if !values[at].is_same(&others[at]) {
+            return false;
+        }
+    }
+    true
+}
+
+/// Adds the values of a list to a digest.
+pub fn add_each<T: Same>(values: &[T], digest: &mut Digest) {
+    for value in values {
+        value.add_to(digest);
+    }
+}
+
+impl<T: Same> Same for Option<T> {
+    fn is_same(&self, other: &Self) -> bool {
+        match (self, other) {
+            (Some(one), Some(other)) => one.is_same(other),
+            (None, None) => true,
+            _ => false,
+        }
+    }
+
+    fn add_to(&self, digest: &mut Digest) {
+        match self {
+            Some(value) => value.add_to(digest),
+            None => digest.add(0),
+        }
+    }
+}

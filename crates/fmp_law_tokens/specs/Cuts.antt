@@ -1,0 +1,15 @@
+-- Texts that are cut before a token.
+use Rattle.std.specs.Prelude.{◌≡◌, ℕ, ◌⊎◌, List, [], ◌∷◌, ◌++◌}
+use Rattle.fmp_config_tokens.specs.declared.tokens.TokenKind.TheVariants.{DirectiveEnd}
+use Rattle.fmp_config_tokens.specs.Lexing.{Lexeme, lexed_text}
+
+-- these tokens, or they and the end of the directive in which the last of them stands
+abbrev pub AreTokens : List Lexeme → List Lexeme → Type 0
+AreTokens lexemes before = (lexemes ≡ before) ⊎ ((end : Lexeme) × (end.kind ≡ DirectiveEnd) × (lexemes ≡ before ++ end ∷ []))
+
+-- a beginning of the text has these tokens; a directive that was cut is ended by its end
+pub record IsCutBehind (text : List ℕ) (before : List Lexeme) : Type 0 where
+  pub front : List ℕ
+  pub behind : List ℕ
+  pub parts : text ≡ front ++ behind
+  pub tokens : AreTokens (lexed_text front).lexemes before

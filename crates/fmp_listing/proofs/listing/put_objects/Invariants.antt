@@ -1,7 +1,0 @@
-use Rattle.std.proofs.Common.{◌≡◌, ◌++◌}
-use Rattle.fmp_listing.specs.Listing.{objects_to}
-use Rattle.fmp_listing.proofs.listing.put_objects.Given as goal
-
--- the lines so far
-abbrev pub invariant-loop-index : goal.invariant-loop-index
-invariant-loop-index l = l.out.items ≡ l.fn.out.items ++ objects_to l.config l.kind l.index

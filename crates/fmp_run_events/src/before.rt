@@ -1,0 +1,64 @@
+//! What the machine is like before a line of a trace.
+ghost use Rattle.std.specs.Prelude.{◌≡◌, ◌-◌, ◌++◌, List, length, IfOk, OnOk};
+ghost use Rattle.fmp_bytes.specs.Bytes.{pieces_of};
+ghost use Rattle.fmp_codes.specs.declared.records.Record.{Record as AnyRecord};
+ghost use Rattle.fmp_rules.specs.Arrivals.{State};
+ghost use Rattle.fmp_rules.specs.Boot.{booted};
+ghost use Rattle.fmp_law_lists.specs.Stands.{Stands};
+ghost use Rattle.fmp_trace.specs.Heads.{event_of as event_told};
+ghost use Rattle.fmp_trace.specs.Prints.{PrintsWithin};
+ghost use Rattle.fmp_trace_check.specs.Walking.{behind};
+ghost use Rattle.fmp_run_events.specs.Before as spec;
+
+use fmp_codes::{Answer, Event, Proc, Record};
+use fmp_kernel::Kernel;
+use fmp_names::Names;
+use fmp_rules::Config;
+use fmp_show_state::put_state;
+use fmp_trace::{event_of, next_line};
+use std::alloc::AllocError;
+
+/// Plays the event that a line tells, if it tells any. What is answered is written over.
+fn play_line(kernel: &mut Kernel, told: &mut Record, names: &Names, line: &[u8])
+    requires { names.now.processors ≡ length kernel.old.processors }
+    ensures stands { (m : State) → Stands kernel.old m → Stands kernel.new (behind m (event_told names.now line.now)) }
+    ensures processors { length kernel.new.processors ≡ length kernel.old.processors }
+{
+    names.validity();
+    if let Some(event) = event_of(names, line) {
+        kernel.step_into(event, told);
+    }
+}
+
+/// The kernel before line n of a text, the lines of which are counted from 1, or behind them all, if there are fewer.
+fn kernel_before(config: &Config, text: &[u8], n: u32) -> Result<Kernel, AllocError>
+    ensures { IfOk result (λ k. Stands k (spec.behind_lines config.now.names (n - 1) (booted config.now) (pieces_of 10 text.now))) }
+{
+    let names = config.names();
+    let mut kernel = Kernel::boot(config)?;
+    let mut told = Record::answer(Event::Tick(Proc::new(1)), None, Answer::Nothing);
+    let mut rest = text;
+    for _ in 1..n {
+        let Some((line, after)) = next_line(rest) else {
+            return Ok(kernel);
+        };
+        play_line(&mut kernel, &mut told, names, line);
+        rest = after;
+    }
+    Ok(kernel)
+}
+
+/// Adds the machine's state before line n of a trace, as `calls --state` tells it.
+pub(crate) fn put_state_before(
+    out: &mut Vec<u8>,
+    config: &Config,
+    trace: &[u8],
+    n: u32,
+) -> Result<(), AllocError>
+    ensures { (records : List AnyRecord) → PrintsWithin config.now.names trace.now records → OnOk result (out.new.items ≡ out.old.items ++ spec.state_before config.now records n) }
+{
+    let names = config.names();
+    names.validity();
+    let kernel = kernel_before(config, trace, n)?;
+    put_state(out, names, &kernel)
+}

@@ -1,0 +1,233 @@
+//! The runs that answer a list of events, each as it comes.
+ghost use Rattle.std.specs.Prelude.{◌≡◌, ◌≢◌, ◌+◌, ◌-◌, ◌^◌, ◌<◌, ◌≤◌, [], ℕ, List, true, false, length, OnOk, IfErr, Err, if◌then◌else◌};
+ghost use Rattle.fmp_setup.specs.Valid.{IsValid};
+ghost use Rattle.fmp_codes.specs.declared.records.Event.{Event as AnyEvent};
+ghost use Rattle.fmp_text_feed.specs.Feed.{IsWanting};
+ghost use Rattle.fmp_setup.specs.Setup.{Setup};
+ghost use Rattle.fmp_text.specs.Events.{Reading, reading_by_line};
+ghost use Rattle.fmp_text.specs.TextGrammar.{SpellsText};
+ghost use Rattle.fmp_text.specs.Limits.{most_bytes, most_events};
+ghost use Rattle.fmp_run_events.specs.Details.{detail_of};
+ghost use Rattle.fmp_run_devices.specs.Devices.{IsKnown, bytes_of};
+ghost use Rattle.fmp_run_texts.specs.Faults.{failed_read, failed_write, is_config, is_thread_fault};
+ghost use Rattle.fmp_run_texts.specs.Texts.{CountsReads, FirstConfigFault, FlushFails, SaysConfig};
+ghost use Rattle.fmp_run_events.specs.Runs.{FirstEventFault, FirstTextFault, HasShortLines, IsAnswered, IsNoFaultOfText, IsPrefix, IsPrefixOut, IsWantOfMemory, IsWritten, LeavesOut, LeavesWritten, trace_of};
+ghost use Rattle.fmp_run_events.specs.Streams.{IsAllOut, Leaves, Streams};
+
+use crate::stream::{Answering, Detail};
+use fmp_rules::Config;
+use fmp_run_devices::{Sink, Source, new_piece};
+use fmp_run_texts::{RunFault, config_from, pass_on};
+use std::alloc::Global;
+
+/// Answers the events of a text, piece by piece. What was written is passed on before each piece is waited for.
+fn answer_all<S: Source, W: Sink>(
+    run: &mut Answering,
+    config: &Config,
+    events: &mut S,
+    trace: &mut W,
+    piece: &mut [u8],
+) -> Result<(), RunFault>
+    requires event_calls { S.failures events.old < 2 ^ 64 - 1 }
+    requires trace_calls { W.failures trace.old < 2 ^ 64 - 1 }
+    requires counted { run.old.count ≡ run.old.feed.events }
+    requires few { run.old.feed.events ≤ most_events }
+    requires fits { run.old.feed.taken ≤ most_bytes }
+    requires wanting { IsWanting run.old.feed }
+    requires unended { run.old.feed.ended ≡ false }
+    requires processors { length run.old.kernel.processors ≡ config.now.processors }
+    requires room { length piece.old ≡ 65536 }
+    ensures known { IsKnown (W.written trace.old) → IsKnown (W.written trace.new) }
+    ensures answered { IsKnown (S.left events.old) → IsKnown (W.written trace.old) → (d : Detail) (text : List ℕ) (whole : Reading) (old : List ℕ)
+        → Streams d true config.now text whole old run.old (bytes_of (W.written trace.old)) (bytes_of (S.left events.old))
+        → OnOk result (IsAllOut d config.now whole old (bytes_of (W.written trace.new))) }
+    ensures first { IsKnown (S.left events.old) → (d : Detail) (text : List ℕ) (whole : Reading) (old : List ℕ)
+        → Streams d false config.now text whole old run.old (bytes_of (W.written trace.old)) (bytes_of (S.left events.old))
+        → IfErr result (FirstEventFault whole) }
+    ensures leaves { IsKnown (S.left events.old) → IsKnown (W.written trace.old) → (d : Detail) (text : List ℕ) (whole : Reading) (old : List ℕ)
+        → Streams d true config.now text whole old run.old (bytes_of (W.written trace.old)) (bytes_of (S.left events.old))
+        → IfErr result (Leaves d config.now text whole old (bytes_of (W.written trace.new))) }
+    ensures events_read { IsKnown (S.left events.old) → OnOk result (bytes_of (S.left events.new) ≡ []) }
+    ensures kinds { IfErr result (λ fault. is_config fault ≡ false) }
+    ensures no_thread_fault { IfErr result (λ fault. is_thread_fault fault ≡ false) }
+    ensures reads { S.failures events.new ≡ S.failures events.old + (if failed_read result then 1 else 0) }
+    ensures writes { W.failures trace.new ≡ W.failures trace.old + (if failed_write result then 1 else 0) }
+{
+    while !run.has_ended() {
+        trace.flush()?;
+        run.take_piece(events, trace, piece)?;
+        run.drain(config, trace)?;
+    }
+    Ok(())
+}
+
+/// Answers the events of a text from boot on.
+fn answer_from_boot<S: Source, W: Sink>(
+    alloc: Global,
+    detail: Detail,
+    config: &Config,
+    events: &mut S,
+    trace: &mut W,
+) -> Result<(), RunFault>
+    requires event_calls { S.failures events.old < 2 ^ 64 - 1 }
+    requires trace_calls { W.failures trace.old < 2 ^ 64 - 1 }
+    ensures known { IsKnown (W.written trace.old) → IsKnown (W.written trace.new) }
+    ensures answered { IsKnown (S.left events.old) → IsKnown (W.written trace.old)
+        → OnOk result (IsAllOut detail config.now (reading_by_line config.now.names (bytes_of (S.left events.old))) (bytes_of (W.written trace.old)) (bytes_of (W.written trace.new))) }
+    ensures valid { OnOk result (IsValid config.now) }
+    ensures first { IsKnown (S.left events.old) → IfErr result (FirstEventFault (reading_by_line config.now.names (bytes_of (S.left events.old)))) }
+    ensures leaves { IsKnown (S.left events.old) → IsKnown (W.written trace.old)
+        → IfErr result (Leaves detail config.now (bytes_of (S.left events.old)) (reading_by_line config.now.names (bytes_of (S.left events.old))) (bytes_of (W.written trace.old)) (bytes_of (W.written trace.new))) }
+    ensures events_read { IsKnown (S.left events.old) → OnOk result (bytes_of (S.left events.new) ≡ []) }
+    ensures kinds { IfErr result (λ fault. is_config fault ≡ false) }
+    ensures no_thread_fault { IfErr result (λ fault. is_thread_fault fault ≡ false) }
+    ensures reads { S.failures events.new ≡ S.failures events.old + (if failed_read result then 1 else 0) }
+    ensures writes { W.failures trace.new ≡ W.failures trace.old + (if failed_write result then 1 else 0) }
+{
+    let mut piece = new_piece(alloc)?;
+    let mut run = Answering::new(alloc, detail, config)?;
+    run.begin(config.names(), trace)?;
+    answer_all(&mut run, config, events, trace, piece.as_mut_slice())
+}
+
+/// Answers the events of a text from boot on, and passes on what the sink holds back, also where the text has a fault.
+pub(crate) fn answer_text<S: Source, W: Sink>(
+    alloc: Global,
+    detail: Detail,
+    config: &Config,
+    events: &mut S,
+    trace: &mut W,
+) -> Result<(), RunFault>
+    requires event_calls { S.failures events.old < 2 ^ 64 - 1 }
+    requires trace_calls { W.failures trace.old < 2 ^ 64 - 1 }
+    ensures known { IsKnown (W.written trace.old) → IsKnown (W.written trace.new) }
+    ensures answered { IsKnown (S.left events.old) → IsKnown (W.written trace.old)
+        → OnOk result (IsAllOut detail config.now (reading_by_line config.now.names (bytes_of (S.left events.old))) (bytes_of (W.written trace.old)) (bytes_of (W.written trace.new))) }
+    ensures valid { OnOk result (IsValid config.now) }
+    ensures passed { result ≢ Err RunFault.Write → W.buffered trace.new ≡ [] }
+    ensures first { IsKnown (S.left events.old) → IfErr result (FirstEventFault (reading_by_line config.now.names (bytes_of (S.left events.old)))) }
+    ensures leaves { IsKnown (S.left events.old) → IsKnown (W.written trace.old)
+        → IfErr result (Leaves detail config.now (bytes_of (S.left events.old)) (reading_by_line config.now.names (bytes_of (S.left events.old))) (bytes_of (W.written trace.old)) (bytes_of (W.written trace.new))) }
+    ensures events_read { IsKnown (S.left events.old) → OnOk result (bytes_of (S.left events.new) ≡ []) }
+    ensures kinds { IfErr result (λ fault. is_config fault ≡ false) }
+    ensures no_thread_fault { IfErr result (λ fault. is_thread_fault fault ≡ false) }
+    ensures reads { result ≢ Err RunFault.Write → S.failures events.new ≡ S.failures events.old + (if failed_read result then 1 else 0) }
+    ensures flush { FlushFails (S.failures events.old) (S.failures events.new) (IsKnown (S.left events.old) → IsKnown (W.written trace.old)
+        → IsPrefixOut (detail_of detail) config.now (reading_by_line config.now.names (bytes_of (S.left events.old))).events (bytes_of (W.written trace.old)) (bytes_of (W.written trace.new))) }
+    ensures writes { W.failures trace.new ≡ W.failures trace.old + (if failed_write result then 1 else 0) }
+{
+    let ended = answer_from_boot(alloc, detail, config, events, trace);
+    pass_on(ended, trace)
+}
+
+/// Reads a configuration and events, and writes what is told of the machine at boot, and then what is told of each event, as it comes.
+///
+/// No list of events or of records is kept.
+pub fn run_events<R: Source, S: Source, W: Sink>(
+    alloc: Global,
+    detail: Detail,
+    config: &mut R,
+    events: &mut S,
+    trace: &mut W,
+) -> Result<(), RunFault>
+    requires config_calls { R.failures config.old < 2 ^ 64 - 1 }
+    requires event_calls { S.failures events.old < 2 ^ 64 - 1 }
+    requires trace_calls { W.failures trace.old < 2 ^ 64 - 1 }
+
+    // Both texts were read to their ends, and what is written is what is told of the machine over the events.
+    ensures answered { IsKnown (R.left config.old) → IsKnown (S.left events.old) → IsKnown (W.written trace.old) → OnOk result (IsWritten (detail_of detail) (bytes_of (R.left config.old)) (bytes_of (S.left events.old)) (bytes_of (W.written trace.old)) (bytes_of (W.written trace.new))) }
+    ensures known { IsKnown (W.written trace.old) → IsKnown (W.written trace.new) }
+    ensures config_read { IsKnown (R.left config.old) → OnOk result (bytes_of (R.left config.new) ≡ []) }
+    ensures events_read { IsKnown (S.left events.old) → OnOk result (bytes_of (S.left events.new) ≡ []) }
+
+    // Texts that are right in all are answered, but for want of memory or a device that fails.
+    ensures right { IsKnown (R.left config.old) → IsKnown (S.left events.old) → (c : Setup) (es : List AnyEvent) → SaysConfig (bytes_of (R.left config.old)) c
+        → SpellsText c.names (bytes_of (S.left events.old)) es → IfErr result IsNoFaultOfText }
+
+    // A fault of a text is its first one.
+    ensures config_fault { IsKnown (R.left config.old) → IfErr result (FirstConfigFault (bytes_of (R.left config.old))) }
+    ensures text_fault { IsKnown (R.left config.old) → IsKnown (S.left events.old) → IfErr result (FirstTextFault (bytes_of (R.left config.old)) (bytes_of (S.left events.old))) }
+
+    // After a fault of the configuration nothing is written. After one of the events what is told of those before it is out,
+    // after a failed read or want of memory what is told of some prefix of them, and after a failed write or flush a beginning
+    // of all.
+    ensures unwritten { IsKnown (W.written trace.old) → IfErr result (λ fault. is_config fault ≡ true → bytes_of (W.written trace.new) ≡ bytes_of (W.written trace.old)) }
+    ensures leaves { IsKnown (R.left config.old) → IsKnown (S.left events.old) → IsKnown (W.written trace.old) → IfErr result (LeavesWritten (detail_of detail) (bytes_of (R.left config.old)) (bytes_of (S.left events.old)) (bytes_of (W.written trace.old)) (bytes_of (W.written trace.new))) }
+
+    // Where lines alone are told, and none of the events has more than 32 KiB, memory is wanting before the first line is written,
+    // or not at all.
+    ensures early { detail ≡ Detail.Line → IsKnown (S.left events.old) → IsKnown (W.written trace.old) → HasShortLines (bytes_of (S.left events.old))
+        → IfErr result (λ fault. IsWantOfMemory fault → bytes_of (W.written trace.new) ≡ bytes_of (W.written trace.old)) }
+
+    // However the run ends, nothing is held back, unless a write failed.
+    ensures passed { OnOk result (W.buffered trace.new ≡ []) }
+    ensures none_held { W.buffered trace.old ≡ [] → result ≢ Err RunFault.Write → W.buffered trace.new ≡ [] }
+
+    // No thread was started.
+    ensures no_thread_fault { IfErr result (λ fault. is_thread_fault fault ≡ false) }
+
+    // Which calls of the devices failed. Where a write or a flush did, no read failed; or one of the events did, and behind it the
+    // flush alone: then what is written of some prefix of the events is out, each line whole.
+    ensures reads { result ≢ Err RunFault.Write → CountsReads result (R.failures config.old) (R.failures config.new) (S.failures events.old) (S.failures events.new) }
+    ensures flush { result ≡ Err RunFault.Write → (R.failures config.new ≡ R.failures config.old) × FlushFails (S.failures events.old) (S.failures events.new)
+        (IsKnown (R.left config.old) → IsKnown (S.left events.old) → IsKnown (W.written trace.old) → IsPrefix (detail_of detail) (bytes_of (R.left config.old)) (bytes_of (S.left events.old)) (bytes_of (W.written trace.old)) (bytes_of (W.written trace.new))) }
+    ensures writes { W.failures trace.new ≡ W.failures trace.old + (if failed_write result then 1 else 0) }
+{
+    let configuration = config_from(alloc, config)?;
+    configuration.names().validity();
+    answer_text(alloc, detail, &configuration, events, trace)
+}
+
+/// Reads a configuration and events, and writes the trace of the machine's answers, each line as its event comes.
+///
+/// No list of events or of records is kept.
+pub fn run_calls<R: Source, S: Source, W: Sink>(
+    alloc: Global,
+    config: &mut R,
+    events: &mut S,
+    trace: &mut W,
+) -> Result<(), RunFault>
+    requires config_calls { R.failures config.old < 2 ^ 64 - 1 }
+    requires event_calls { S.failures events.old < 2 ^ 64 - 1 }
+    requires trace_calls { W.failures trace.old < 2 ^ 64 - 1 }
+
+    // Both texts were read to their ends, and what is written is the trace of the answers to the events.
+    ensures answered { IsKnown (R.left config.old) → IsKnown (S.left events.old) → IsKnown (W.written trace.old) → OnOk result (IsAnswered (bytes_of (R.left config.old)) (bytes_of (S.left events.old)) (bytes_of (W.written trace.old)) (bytes_of (W.written trace.new))) }
+    ensures known { IsKnown (W.written trace.old) → IsKnown (W.written trace.new) }
+    ensures config_read { IsKnown (R.left config.old) → OnOk result (bytes_of (R.left config.new) ≡ []) }
+    ensures events_read { IsKnown (S.left events.old) → OnOk result (bytes_of (S.left events.new) ≡ []) }
+
+    // Texts that are right in all are answered, but for want of memory or a device that fails.
+    ensures right { IsKnown (R.left config.old) → IsKnown (S.left events.old) → (c : Setup) (es : List AnyEvent) → SaysConfig (bytes_of (R.left config.old)) c
+        → SpellsText c.names (bytes_of (S.left events.old)) es → IfErr result IsNoFaultOfText }
+
+    // A fault of a text is its first one.
+    ensures config_fault { IsKnown (R.left config.old) → IfErr result (FirstConfigFault (bytes_of (R.left config.old))) }
+    ensures text_fault { IsKnown (R.left config.old) → IsKnown (S.left events.old) → IfErr result (FirstTextFault (bytes_of (R.left config.old)) (bytes_of (S.left events.old))) }
+
+    // After a fault of the configuration nothing is written. After one of the events the trace of those before it is out, after
+    // a failed read or want of memory the trace of some prefix of them, and after a failed write or flush a beginning of the
+    // trace.
+    ensures unwritten { IsKnown (W.written trace.old) → IfErr result (λ fault. is_config fault ≡ true → bytes_of (W.written trace.new) ≡ bytes_of (W.written trace.old)) }
+    ensures leaves { IsKnown (R.left config.old) → IsKnown (S.left events.old) → IsKnown (W.written trace.old) → IfErr result (LeavesOut (bytes_of (R.left config.old)) (bytes_of (S.left events.old)) (bytes_of (W.written trace.old)) (bytes_of (W.written trace.new))) }
+
+    // Memory is wanting before the first line is written, or not at all, where no line of the events has more than 32 KiB.
+    ensures early { IsKnown (S.left events.old) → IsKnown (W.written trace.old) → HasShortLines (bytes_of (S.left events.old))
+        → IfErr result (λ fault. IsWantOfMemory fault → bytes_of (W.written trace.new) ≡ bytes_of (W.written trace.old)) }
+
+    // However the run ends, nothing is held back, unless a write failed.
+    ensures passed { OnOk result (W.buffered trace.new ≡ []) }
+    ensures none_held { W.buffered trace.old ≡ [] → result ≢ Err RunFault.Write → W.buffered trace.new ≡ [] }
+
+    // No thread was started.
+    ensures no_thread_fault { IfErr result (λ fault. is_thread_fault fault ≡ false) }
+
+    // Which calls of the devices failed. Where a write or a flush did, no read failed; or one of the events did, and behind it the
+    // flush alone: then what is written of some prefix of the events is out, each line whole.
+    ensures reads { result ≢ Err RunFault.Write → CountsReads result (R.failures config.old) (R.failures config.new) (S.failures events.old) (S.failures events.new) }
+    ensures flush { result ≡ Err RunFault.Write → (R.failures config.new ≡ R.failures config.old) × FlushFails (S.failures events.old) (S.failures events.new)
+        (IsKnown (R.left config.old) → IsKnown (S.left events.old) → IsKnown (W.written trace.old) → IsPrefix trace_of (bytes_of (R.left config.old)) (bytes_of (S.left events.old)) (bytes_of (W.written trace.old)) (bytes_of (W.written trace.new))) }
+    ensures writes { W.failures trace.new ≡ W.failures trace.old + (if failed_write result then 1 else 0) }
+{
+    run_events(alloc, Detail::Line, config, events, trace)
+}

@@ -1,0 +1,23 @@
+use Rattle.std.proofs.Common.{◌∙◌, IfOk, ap, subst, sym}
+use Rattle.fmp_search.specs.Answers.{Says}
+use Rattle.fmp_search.specs.Roots.{Leaves}
+use Rattle.fmp_search_orders.specs.Laws.{is_seen}
+use Rattle.fmp_search_orders.specs.Places.{Place, after}
+use Rattle.fmp_search_kernel.specs.Walked.{origin_of}
+use Rattle.fmp_run_explore.proofs.searching.answered.Goals as goal
+
+-- all four begin where all runs do
+pub explored-requires-clause-origins : goal.explored-requires-clause-origins
+explored-requires-clause-origins g c = (
+  ap origin_of (c.in_ok-walkers.ensures.second ∙ sym c.in_ok-walkers.ensures.first),
+  ap origin_of (c.in_ok-others.ensures.first ∙ sym c.in_ok-walkers.ensures.first),
+  ap origin_of (c.in_ok-others.ensures.second ∙ sym c.in_ok-walkers.ensures.first),
+)
+
+pub returns-clause-says : goal.returns-clause-says
+returns-clause-says g c =
+    subst (λ (w : Place). IfOk c.explored.result (λ r. Says after is_seen w c.args.turns c.args.more r.0)) (ap origin_of c.in_ok-walkers.ensures.first) c.explored.ensures.says
+
+pub returns-clause-leaves : goal.returns-clause-leaves
+returns-clause-leaves g c =
+    subst (λ (w : Place). IfOk c.explored.result (λ r. Leaves after is_seen w c.args.turns r.0 r.1)) (ap origin_of c.in_ok-walkers.ensures.first) c.explored.ensures.leaves

@@ -1,0 +1,64 @@
+-- The faults of a run through all orders.
+use Rattle.std.specs.Prelude.{◌≡◌, ℕ, Bool, true, false, List, ◌++◌, Result, Ok, Err, codes, decimal}
+use Rattle.fmp_names.specs.Names.{NameLists}
+use Rattle.fmp_setup.specs.Setup.{Setup}
+use Rattle.fmp_search_question.specs.declared.fault.QuestionFault.{QuestionFault}
+use Rattle.fmp_search_question.specs.declared.fault.QuestionFault.TheVariants as question
+use Rattle.fmp_search_question.specs.Reading.{question_in}
+use Rattle.fmp_run_texts.specs.declared.fault.RunFault.{RunFault}
+use Rattle.fmp_run_texts.specs.declared.fault.RunFault.TheVariants.{Memory}
+use Rattle.fmp_run_texts.specs.declared.status.Status.{Status}
+use Rattle.fmp_run_texts.specs.declared.status.Status.TheVariants.{Faulty}
+use Rattle.fmp_run_texts.specs.Statuses as statuses
+use Rattle.fmp_run_texts.specs.Texts.{SaysConfig, FirstConfigFault, FirstScriptFault}
+use Rattle.fmp_run_explore.specs.declared.writing.WriteFault.{WriteFault}
+use Rattle.fmp_run_explore.specs.declared.writing.WriteFault.TheVariants as unwritten
+use Rattle.fmp_run_explore.specs.declared.fault.ExploreFault.{ExploreFault}
+use Rattle.fmp_run_explore.specs.declared.fault.ExploreFault.TheVariants.{Run, Question}
+
+-- how the program ends after a fault
+abbrev pub status_of : ExploreFault → Status
+status_of (Run fault) = statuses.status_of fault
+status_of (Question fault place) = Faulty
+
+-- how a run ended, but for its question: what devices and memory did, and the two texts
+abbrev pub as_run : {T : Type 0} → Result T ExploreFault → Result (Unit {0}) RunFault
+as_run (Ok value) = Ok tt
+as_run (Err (Run fault)) = Err fault
+as_run (Err (Question fault place)) = Ok tt
+
+-- a fault of a text, or of the question for the names of a right configuration, is its first one
+abbrev pub IsConfigFault : List ℕ → ExploreFault → Type 0
+IsConfigFault config_text (Run fault) = FirstConfigFault config_text fault
+IsConfigFault config_text (Question fault place) = Unit {0}
+
+abbrev pub IsScriptFault : List ℕ → List ℕ → ExploreFault → Type 0
+IsScriptFault config_text script_text (Run fault) = FirstScriptFault config_text script_text fault
+IsScriptFault config_text script_text (Question fault place) = Unit {0}
+
+abbrev pub IsQuestionFault : List ℕ → List ℕ → ExploreFault → Type 0
+IsQuestionFault config_text text (Run fault) = Unit {0}
+IsQuestionFault config_text text (Question fault place) =
+    (config : Setup) × SaysConfig config_text config × (question_in config.names text ≡ Err (fault, place))
+
+-- a question was not read: it has this first fault for these names, or memory ran out
+abbrev pub IsNoQuestion : NameLists → List ℕ → ExploreFault → Type 0
+IsNoQuestion names text (Run fault) = fault ≡ Memory
+IsNoQuestion names text (Question fault place) = question_in names text ≡ Err (fault, place)
+
+-- the number and the words of a fault of a question
+abbrev pub words_of : QuestionFault → List ℕ
+words_of question.BadWord = codes "E1 bad byte"
+words_of question.BadForm = codes "E2 bad word"
+words_of question.UnknownName = codes "E3 unknown name"
+words_of question.TooLong = codes "E7 too many"
+
+-- the line that tells it, at the byte of this number
+abbrev pub question_line : QuestionFault → ℕ → List ℕ
+question_line fault number = codes "fmpsim: --find: byte " ++ decimal number ++ codes ": " ++ words_of fault
+
+-- a write or a flush of what was found failed
+abbrev pub is_unwritten : {T : Type 0} → Result T WriteFault → Bool
+is_unwritten (Ok value) = false
+is_unwritten (Err unwritten.Memory) = false
+is_unwritten (Err unwritten.Write) = true

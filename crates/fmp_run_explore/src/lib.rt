@@ -1,0 +1,27 @@
+//! The run through all orders of what scripts ask: a configuration, scripts and a question in, an answer out.
+//!
+//! [`run_explore`] reads both texts and the question, goes through every order of calls, interrupts and ticks that the rules allow, and writes
+//! `never`, `not within` and a number, or the trace of a shortest order that shows the question. What each of them says of all orders is
+//! `Finds` in `specs/Explored`: begin there. From where a search is to go on, and that what is known of the orders that go on from there is known of
+//! all, is `LeavesLayer` in `specs/Left`. Orders, and when one shows a question, are in `fmp_search_orders`.
+#![tactic(auto)]
+
+mod asking;
+mod fault;
+mod finding;
+mod layer;
+mod run;
+mod searching;
+mod telling;
+mod writing;
+
+pub use asking::question_from;
+pub use fault::{ExploreFault, QuestionLine};
+pub use finding::Finding;
+pub use fmp_search::Progress;
+pub use fmp_search_orders::Rules;
+pub use fmp_search_question::QuestionFault;
+pub use layer::{Layer, Outcome};
+pub use run::run_explore;
+pub use searching::two_walkers;
+pub use telling::{never, not_within, trace_along};

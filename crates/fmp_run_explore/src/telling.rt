@@ -1,0 +1,59 @@
+//! The text that tells what was found.
+ghost use Rattle.std.specs.Prelude.{◌≡◌, ◌≤◌, ◌++◌, length, IfOk, codes, decimal, is_some, true};
+ghost use Rattle.fmp_search.specs.Runs.{run};
+ghost use Rattle.fmp_search_orders.specs.Places as places;
+ghost use Rattle.fmp_trace.specs.Lines.{lines_from};
+
+use fmp_rules::Config;
+use fmp_search::Space;
+use fmp_search_kernel::Walker;
+use fmp_search_orders::Rules;
+use fmp_search_question::Question;
+use fmp_text_scripts::Scripts;
+use fmp_trace::put_line;
+use itoa::Buffer;
+use std::alloc::{AllocError, Global};
+
+/// The trace of what happens along these steps, which can be made one after the other.
+pub fn trace_along(
+    alloc: Global,
+    config: &Config,
+    scripts: &Scripts,
+    rules: Rules,
+    question: &Question,
+    steps: &[u8],
+) -> Result<Vec<u8>, AllocError>
+    requires leads { is_some (run places.after (places.origin config.now scripts.now rules question.now) steps.now) ≡ true }
+    requires few { length steps.now ≤ 1000000 }
+    ensures { IfOk result (λ text. text.items ≡ lines_from config.now.names 1 (places.records (places.origin config.now scripts.now rules question.now) steps.now)) }
+{
+    let names = config.names();
+    let mut walker = Walker::new(config, scripts, rules, question)?;
+    walker.restart()?;
+    let mut out = Vec::new(alloc);
+    let mut n: u32 = 0;
+    for step in steps {
+        walker.retrace(*step);
+        n += 1;
+        put_line(&mut out, names, n, walker.made())?;
+    }
+    Ok(out)
+}
+
+/// The text that no order shows it.
+pub fn never(alloc: Global) -> Result<Vec<u8>, AllocError>
+    ensures { IfOk result (λ text. text.items ≡ codes "never\n") }
+{
+    Vec::from_slice(alloc, b"never\n")
+}
+
+/// The text that no order of at most so many lines does.
+pub fn not_within(alloc: Global, turns: u32) -> Result<Vec<u8>, AllocError>
+    ensures { IfOk result (λ text. text.items ≡ codes "not within " ++ decimal turns ++ codes "\n") }
+{
+    let mut buffer = Buffer::new();
+    let mut out = Vec::from_slice(alloc, b"not within ")?;
+    out.extend_from_slice(buffer.format(turns).as_bytes())?;
+    out.push(b'\n')?;
+    Ok(out)
+}

@@ -1,0 +1,19 @@
+use Rattle.std.proofs.Common.{◌∙◌, IfOk, ap, subst, sym}
+use Rattle.fmp_search.specs.Guides.{SaysAlong}
+use Rattle.fmp_search_orders.specs.Laws.{is_seen}
+use Rattle.fmp_search_orders.specs.Places.{Place, after}
+use Rattle.fmp_search_kernel.specs.Walked.{origin_of}
+use Rattle.fmp_run_explore_from.proofs.searching.answered_along.Goals as goal
+
+-- all four begin where all runs do
+pub explored_along-requires-clause-origins : goal.explored_along-requires-clause-origins
+explored_along-requires-clause-origins g c = (
+  ap origin_of (c.in_ok-walkers.ensures.second ∙ sym c.in_ok-walkers.ensures.first),
+  ap origin_of (c.in_ok-others.ensures.first ∙ sym c.in_ok-walkers.ensures.first),
+  ap origin_of (c.in_ok-others.ensures.second ∙ sym c.in_ok-walkers.ensures.first),
+)
+
+pub returns : goal.returns
+returns g c =
+    subst (λ (w : Place). IfOk c.explored_along.result (λ answer. SaysAlong after is_seen w c.args.choices.now c.args.turns c.args.more answer)) (ap origin_of c.in_ok-walkers.ensures.first)
+    c.explored_along.ensures

@@ -1,0 +1,30 @@
+-- The parts of a page: what it begins and ends with, and the texts that stand in it.
+use Rattle.std.specs.Prelude.{ℕ, List, ◌++◌, codes}
+use Rattle.fmp_run_page.specs.declared.controls.TheConstants.{CONTROLS}
+use Rattle.fmp_run_page.specs.declared.drawing.TheConstants.{DRAWING}
+use Rattle.fmp_run_page.specs.declared.head.TheConstants.{HEAD}
+use Rattle.fmp_run_page.specs.Escapes.{escaped}
+
+unfoldable pub head : List ℕ
+head = HEAD.now
+
+unfoldable pub tail : List ℕ
+tail = DRAWING.now ++ CONTROLS.now
+
+unfoldable pub name_begin : List ℕ
+name_begin = codes "<pre hidden id='"
+
+-- HTML drops the line feed behind the tag
+unfoldable pub name_end : List ℕ
+name_end = codes "'>\n"
+
+-- what stands before a text of this name
+unfoldable pub text_begin : List ℕ → List ℕ
+text_begin name = name_begin ++ name ++ name_end
+
+unfoldable pub text_end : List ℕ
+text_end = codes "</pre>\n"
+
+-- a text of this name
+unfoldable pub part : List ℕ → List ℕ → List ℕ
+part name text = text_begin name ++ escaped text ++ text_end

@@ -1,0 +1,43 @@
+-- What a run that judges a partial trace reads and writes.
+use Rattle.std.specs.Prelude.{◌⊎◌, ℕ, List}
+use Rattle.fmp_trace_check.specs.declared.checking.Verdict.{Verdict}
+use Rattle.fmp_codes.specs.declared.records.Event.{Event}
+use Rattle.fmp_run_devices.specs.Devices.{BeginsWith}
+use Rattle.fmp_run_texts.specs.Texts.{SaysConfig}
+use Rattle.fmp_run_texts.specs.declared.fault.RunFault.{RunFault}
+use Rattle.fmp_run_texts.specs.declared.fault.RunFault.TheVariants as run
+use Rattle.fmp_run_texts.specs.Verdicts.{verdict_text}
+use Rattle.fmp_names.specs.Names.{NameLists}
+use Rattle.fmp_setup.specs.Setup.{Setup}
+use Rattle.fmp_text.specs.Events.{IsMemory}
+use Rattle.fmp_trace_check_partial.specs.Verdicts.{JudgesPartly, PartlyPrintsAnswers}
+use Rattle.fmp_trace_partial.specs.Partly.{FirstFault}
+
+-- the verdict on a partial trace, by the answers of the one text's machine to the events of the other
+pub record CheckedPartly (config_text trace_text : List ℕ) (verdict : Verdict) : Type 0 where
+  pub config : Setup
+  pub says : SaysConfig config_text config
+  pub judges : JudgesPartly config trace_text verdict
+
+-- the trace is one of the machine's own of which parts may be left out, within the limits: the one text's machine answers to some
+-- events so
+pub record IsPartlyOwn (config_text trace_text : List ℕ) : Type 0 where
+  pub config : Setup
+  pub events : List Event
+  pub says : SaysConfig config_text config
+  pub prints : PartlyPrintsAnswers config trace_text events
+
+-- a fault of the trace is the first one of its text, or want of memory
+abbrev pub IsFirstOfPartial : NameLists → List ℕ → RunFault → Type 0
+IsFirstOfPartial names text (run.Text fault) = FirstFault names text fault ⊎ IsMemory fault
+IsFirstOfPartial names text other = Unit {0}
+
+-- the same, for the names of a right configuration
+abbrev pub FirstPartialFault : List ℕ → List ℕ → RunFault → Type 0
+FirstPartialFault config_text trace_text (run.Text fault) =
+    (config : Setup) × SaysConfig config_text config × IsFirstOfPartial config.names trace_text (run.Text fault)
+FirstPartialFault config_text trace_text other = Unit {0}
+
+-- a prefix of the verdict was written after old
+abbrev pub IsPartialBegun : List ℕ → List ℕ → List ℕ → List ℕ → Type 0
+IsPartialBegun config_text trace_text old new = (verdict : Verdict) × CheckedPartly config_text trace_text verdict × BeginsWith old (verdict_text verdict) new

@@ -1,0 +1,77 @@
+-- One place, one signal or one kind more.
+use Rattle.std.proofs.Common.{◌≡◌, ℕ, ◌+◌, suc, Bool, List, [], ◌∷◌, ◌++◌, add-one, refl, sym, ap, ◌∙◌, append_assoc, append-nil}
+use Rattle.fmp_calls.specs.declared.kinds.ObjectKind.{ObjectKind}
+use Rattle.fmp_setup.specs.Setup.{Setup}
+use Rattle.fmp_run_view.specs.declared.signal.Signal.{Signal}
+use Rattle.fmp_run_view.specs.declared.signal.TheConstants.{SIGNALS}
+use Rattle.fmp_run_view.specs.Changes.{Change, change_if, changes_between, changes_over, changes_to, lines_of, lines_over, value_line}
+use Rattle.fmp_run_view.specs.Moments.{Moment}
+use Rattle.fmp_run_view.specs.Signals.{count}
+use Rattle.fmp_run_view.specs.Setups.{object_line, objects_to}
+use Rattle.fmp_run_view.specs.Values.{value_text}
+
+-- what was written of the first n, and one line more
+grown : (f : ℕ → List ℕ) (n : ℕ) (line old between new : List ℕ) → f (n + 1) ≡ f n ++ line → between ≡ old ++ f n → new ≡ between ++ line → new ≡ old ++ f (n + 1)
+grown f n line old between new more before here =
+    here ∙ ap (λ (xs : List ℕ). xs ++ line) before ∙ append_assoc old (f n) line ∙ ap (λ (xs : List ℕ). old ++ xs) (sym more)
+
+-- nothing was written of none
+nothing : (f : ℕ → List ℕ) (old : List ℕ) → f 0 ≡ [] → old ≡ old ++ f 0
+nothing f old none = sym (ap (λ (xs : List ℕ). old ++ xs) none ∙ append-nil old)
+
+-- the lines of two lists of changes, one behind the other
+pub lines_append : (xs ys : List Change) → lines_of (xs ++ ys) ≡ lines_of xs ++ lines_of ys
+lines_append [] ys = refl
+lines_append (x ∷ xs) ys =
+    ap (λ (zs : List ℕ). value_line x.signal x.place x.text ++ zs) (lines_append xs ys) ∙ sym (append_assoc (value_line x.signal x.place x.text) (lines_of xs) (lines_of ys))
+
+module _ (c : Setup) (all : Bool) (before after : Moment) (signal : Signal) where
+  none_changed : changes_to c all before after signal 0 ≡ []
+  unfolding changes_to
+  none_changed = refl
+
+  changes_suc : (i : ℕ) → changes_to c all before after signal (suc i)
+      ≡ changes_to c all before after signal i ++ change_if all signal i (value_text before signal i) (value_text after signal i)
+  unfolding changes_to
+  changes_suc i = refl
+
+  lines_more : (i : ℕ) → lines_of (changes_to c all before after signal (i + 1))
+      ≡ lines_of (changes_to c all before after signal i) ++ lines_of (change_if all signal i (value_text before signal i) (value_text after signal i))
+  lines_more i =
+      rw (add-one) (ap lines_of (changes_suc i) ∙ lines_append (changes_to c all before after signal i) (change_if all signal i (value_text before signal i) (value_text after signal i)))
+
+  pub no_change_yet : (old : List ℕ) → old ≡ old ++ lines_of (changes_to c all before after signal 0)
+  no_change_yet old = nothing (λ (n : ℕ). lines_of (changes_to c all before after signal n)) old (ap lines_of none_changed)
+
+  pub change_line : (i : ℕ) (old between new : List ℕ) → between ≡ old ++ lines_of (changes_to c all before after signal i)
+      → new ≡ between ++ lines_of (change_if all signal i (value_text before signal i) (value_text after signal i)) → new ≡ old ++ lines_of (changes_to c all before after signal (i + 1))
+  change_line i old between new so_far line = grown (λ (n : ℕ). lines_of (changes_to c all before after signal n)) i _ old between new (lines_more i) so_far line
+
+module _ (c : Setup) (all : Bool) (before after : Moment) where
+  over_lines : (signals : List Signal) → lines_over c all before after signals ≡ lines_of (changes_over c all before after signals)
+  over_lines [] = refl
+  over_lines (s ∷ signals) =
+      ap (λ (xs : List ℕ). lines_of (changes_to c all before after s (count c s)) ++ xs) (over_lines signals)
+      ∙ sym (lines_append (changes_to c all before after s (count c s)) (changes_over c all before after signals))
+
+  pub all_lines : lines_over c all before after SIGNALS.now ≡ lines_of (changes_between c all before after)
+  unfolding changes_between
+  all_lines = over_lines SIGNALS.now
+
+module _ (c : Setup) (kind : ObjectKind) where
+  no_object : objects_to c kind 0 ≡ []
+  unfolding objects_to
+  no_object = refl
+
+  objects_suc : (i : ℕ) → objects_to c kind (suc i) ≡ objects_to c kind i ++ object_line c kind i
+  unfolding objects_to
+  objects_suc i = refl
+
+  objects_more : (i : ℕ) → objects_to c kind (i + 1) ≡ objects_to c kind i ++ object_line c kind i
+  objects_more i = rw (add-one) (objects_suc i)
+
+  pub no_object_yet : (old : List ℕ) → old ≡ old ++ objects_to c kind 0
+  no_object_yet old = nothing (objects_to c kind) old no_object
+
+  pub object_next : (i : ℕ) (old between new : List ℕ) → between ≡ old ++ objects_to c kind i → new ≡ between ++ object_line c kind i → new ≡ old ++ objects_to c kind (i + 1)
+  object_next i old between new so_far line = grown (objects_to c kind) i _ old between new (objects_more i) so_far line

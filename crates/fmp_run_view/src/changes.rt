@@ -1,0 +1,143 @@
+//! The lines of the values that an event changed.
+ghost use Rattle.std.specs.Prelude.{◌≡◌, ◌≢◌, ◌++◌, ◌<◌, not, IfOk, IsTrue, OnOk, true, false};
+ghost use Rattle.std.specs.Str.{bytes_eq};
+ghost use Rattle.fmp_run_view.specs.Changes as spec;
+ghost use Rattle.fmp_run_view.specs.Signals.{count as told_count, most};
+ghost use Rattle.fmp_run_view.specs.Values.{value_text};
+
+use crate::player::Player;
+use crate::signal::{SIGNALS, Signal, count, put_identifier};
+use fmp_rules::Config;
+use fmp_trace::put_number;
+use std::alloc::{AllocError, Global};
+
+/// The texts of the old and the new value of a signal, to be compared. They keep their room, so that an event takes none.
+#[derive(Drop)]
+pub(crate) struct Texts {
+    old: Vec<u8>,
+    new: Vec<u8>,
+}
+
+impl Texts {
+    /// No texts yet, and no room.
+    pub(crate) fn new(alloc: Global) -> Texts {
+        Texts {
+            old: Vec::new(alloc),
+            new: Vec::new(alloc),
+        }
+    }
+}
+
+/// Adds the line of a value that has this text.
+#[tactic(auto, unfolding(crate::specs::Changes::value_line))]
+fn put_line(out: &mut Vec<u8>, signal: Signal, index: usize, text: &[u8]) -> Result<(), AllocError>
+    requires { index < most signal }
+    ensures { OnOk result (out.new.items ≡ out.old.items ++ spec.value_line signal index text.now) }
+{
+    put_identifier(out, signal, index)?;
+    out.push(b' ')?;
+    out.extend_from_slice(text)?;
+    out.push(b'\n')?;
+    Ok(())
+}
+
+/// Adds the line of the value at a place, where all lines are told or its text is another than it was.
+fn put_line_if(
+    out: &mut Vec<u8>,
+    all: bool,
+    signal: Signal,
+    index: usize,
+    texts: &Texts,
+) -> Result<(), AllocError>
+    requires { index < most signal }
+    ensures { OnOk result (out.new.items ≡ out.old.items ++ spec.lines_of (spec.change_if all signal index texts.now.old.items texts.now.new.items)) }
+{
+    if all || texts.old.as_slice() != texts.new.as_slice() {
+        put_line(out, signal, index, texts.new.as_slice())?;
+    }
+    Ok(())
+}
+
+/// The same for the value before an event and the value after it, whose texts are made where the values may differ.
+fn put_change(
+    out: &mut Vec<u8>,
+    texts: &mut Texts,
+    all: bool,
+    before: &Player,
+    after: &Player,
+    signal: Signal,
+    index: usize,
+) -> Result<(), AllocError>
+    requires { index < most signal }
+    ensures { OnOk result (out.new.items ≡ out.old.items ++ spec.lines_of (spec.change_if all signal index (value_text before.now signal index) (value_text after.now signal index))) }
+{
+    if !all && before.shows_as(after, signal, index) {
+        return Ok(());
+    }
+    texts.old.clear();
+    before.put_text(&mut texts.old, signal, index)?;
+    texts.new.clear();
+    after.put_text(&mut texts.new, signal, index)?;
+    put_line_if(out, all, signal, index, texts)
+}
+
+/// Adds those lines of a signal.
+fn put_changes_of(
+    out: &mut Vec<u8>,
+    texts: &mut Texts,
+    config: &Config,
+    all: bool,
+    before: &Player,
+    after: &Player,
+    signal: Signal,
+) -> Result<(), AllocError>
+    ensures { OnOk result (out.new.items ≡ out.old.items ++ spec.lines_of (spec.changes_to config.now all before.now after.now signal (told_count config.now signal))) }
+{
+    for index in 0..count(config, signal) {
+        put_change(out, texts, all, before, after, signal, index)?;
+    }
+    Ok(())
+}
+
+/// Adds those lines of some signals.
+fn put_changes_over(
+    out: &mut Vec<u8>,
+    texts: &mut Texts,
+    config: &Config,
+    all: bool,
+    before: &Player,
+    after: &Player,
+    signals: &[Signal],
+) -> Result<(), AllocError>
+    ensures { OnOk result (out.new.items ≡ out.old.items ++ spec.lines_over config.now all before.now after.now signals.now) }
+{
+    for signal in signals {
+        put_changes_of(out, texts, config, all, before, after, *signal)?;
+    }
+    Ok(())
+}
+
+/// Adds those lines of all signals: all where they are told for the first time, else those of the values that changed.
+pub(crate) fn put_changes(
+    out: &mut Vec<u8>,
+    texts: &mut Texts,
+    config: &Config,
+    all: bool,
+    before: &Player,
+    after: &Player,
+) -> Result<(), AllocError>
+    ensures { OnOk result (out.new.items ≡ out.old.items ++ spec.lines_of (spec.changes_between config.now all before.now after.now)) }
+{
+    put_changes_over(out, texts, config, all, before, after, SIGNALS)
+}
+
+/// Adds the number of the last event.
+#[tactic(auto, unfolding(crate::specs::Changes::number_line))]
+pub(crate) fn put_number_line(out: &mut Vec<u8>, number: u64) -> Result<(), AllocError>
+    ensures { OnOk result (out.new.items ≡ out.old.items ++ spec.number_line number) }
+{
+    out.push(b'#')?;
+    put_number(out, number)?;
+    out.push(b'\n')?;
+    Ok(())
+}

@@ -1,0 +1,176 @@
+//! A page while it is made.
+ghost use Rattle.std.specs.Prelude.{◌≡◌, ◌++◌, ◌-◌, ◌<◌, ◌≤◌, ◌^◌, length, IfOk, OnOk};
+ghost use Rattle.fmp_run_page.specs.Escapes.{escaped};
+ghost use Rattle.fmp_run_page.specs.Parts.{part};
+ghost use Rattle.fmp_law_safety.specs.Runs.{processor_of};
+ghost use Rattle.fmp_setup.specs.Valid.{IsValid};
+ghost use Rattle.fmp_run_view.specs.Changes.{event_text, values_text};
+ghost use Rattle.fmp_run_view.specs.Moments.{at_boot, behind};
+ghost use Rattle.fmp_run_view.specs.Pages as spec;
+
+use crate::changes::{Texts, put_changes, put_number_line};
+use crate::player::Player;
+use crate::setup::put_setup;
+use fmp_codes::Event;
+use fmp_rules::Config;
+use fmp_run_page::{put_escaped, put_head, put_tail, put_text_begin, put_text_end};
+use std::alloc::{AllocError, Global};
+
+/// Adds a text of this name.
+#[tactic(auto, unfolding(fmp_run_page::specs::Parts::part))]
+fn put_part(out: &mut Vec<u8>, name: &[u8], text: &[u8]) -> Result<(), AllocError>
+    ensures { OnOk result (out.new.items ≡ out.old.items ++ part name.now text.now) }
+{
+    put_text_begin(out, name)?;
+    put_escaped(out, text)?;
+    put_text_end(out)
+}
+
+/// Adds what stands before the first event, where these are the values at boot.
+#[tactic(auto, unfolding(crate::specs::Pages::start_text))]
+fn put_start(
+    out: &mut Vec<u8>,
+    setup: &[u8],
+    trace: &[u8],
+    given: &[u8],
+    values: &[u8],
+) -> Result<(), AllocError>
+    ensures { OnOk result (out.new.items ≡ out.old.items ++ spec.start_text setup.now trace.now given.now values.now) }
+{
+    put_head(out)?;
+    put_part(out, b"setup", setup)?;
+    put_part(out, b"trace", trace)?;
+    put_part(out, b"given", given)?;
+    put_text_begin(out, b"changes")?;
+    put_escaped(out, values)
+}
+
+/// Adds what stands behind the last event.
+#[tactic(auto, unfolding(crate::specs::Pages::end_text))]
+fn put_end(out: &mut Vec<u8>) -> Result<(), AllocError>
+    ensures { OnOk result (out.new.items ≡ out.old.items ++ spec.end_text) }
+{
+    put_text_end(out)?;
+    put_tail(out)
+}
+
+/// Adds all values at a moment.
+#[tactic(auto, unfolding(crate::specs::Changes::values_text))]
+fn put_values(
+    out: &mut Vec<u8>,
+    texts: &mut Texts,
+    config: &Config,
+    player: &Player,
+) -> Result<(), AllocError>
+    ensures { OnOk result (out.new.items ≡ out.old.items ++ values_text config.now player.now) }
+{
+    put_number_line(out, player.events())?;
+    put_changes(out, texts, config, true, player, player)
+}
+
+/// Adds an event with the values that it changed.
+#[tactic(auto, unfolding(crate::specs::Changes::event_text))]
+fn put_event(
+    out: &mut Vec<u8>,
+    texts: &mut Texts,
+    config: &Config,
+    before: &Player,
+    after: &Player,
+) -> Result<(), AllocError>
+    ensures { OnOk result (out.new.items ≡ out.old.items ++ event_text config.now before.now after.now) }
+{
+    put_number_line(out, after.events())?;
+    put_changes(out, texts, config, false, before, after)
+}
+
+/// Two machines that play events, one behind the other, and the piece of the page that tells the last event.
+#[derive(Drop)]
+pub(crate) struct Showing {
+    before: Player,
+    after: Player,
+    texts: Texts,
+    raw: Vec<u8>,
+    piece: Vec<u8>,
+}
+
+impl Showing {
+    /// Both machines at boot. The piece is what stands before the first event: this trace, and what was given where it differs.
+    pub(crate) fn new(
+        alloc: Global,
+        config: &Config,
+        trace: &[u8],
+        given: &[u8],
+    ) -> Result<Showing, AllocError>
+        ensures before { IfOk result (λ s. s.before ≡ at_boot config.now) }
+        ensures after { IfOk result (λ s. s.after ≡ at_boot config.now) }
+        ensures processors { IfOk result (λ s. length s.before.state.processors ≡ config.now.processors) }
+        ensures valid { IfOk result (λ s. IsValid config.now) }
+        ensures piece { IfOk result (λ s. s.piece.items ≡ spec.start_of config.now trace.now given.now) }
+    {
+        let before = Player::boot(config)?;
+        let after = Player::boot(config)?;
+        let mut texts = Texts::new(alloc);
+        let mut setup = Vec::new(alloc);
+        put_setup(&mut setup, config)?;
+        let mut raw = Vec::new(alloc);
+        put_values(&mut raw, &mut texts, config, &before)?;
+        let mut piece = Vec::new(alloc);
+        put_start(&mut piece, setup.as_slice(), trace, given, raw.as_slice())?;
+        Ok(Showing {
+            before,
+            after,
+            texts,
+            raw,
+            piece,
+        })
+    }
+
+    /// The piece of the page that was made last.
+    pub(crate) fn piece(&self) -> &[u8]
+        ensures { result.now ≡ self.now.piece.items }
+    {
+        self.piece.as_slice()
+    }
+
+    /// Tells in the piece what changed between the two machines.
+    fn tell(&mut self, config: &Config) -> Result<(), AllocError>
+        ensures piece { OnOk result (self.new.piece.items ≡ escaped (event_text config.now self.old.before self.old.after)) }
+        ensures before { self.new.before ≡ self.old.before }
+        ensures after { self.new.after ≡ self.old.after }
+    {
+        self.raw.clear();
+        put_event(
+            &mut self.raw,
+            &mut self.texts,
+            config,
+            &self.before,
+            &self.after,
+        )?;
+        self.piece.clear();
+        put_escaped(&mut self.piece, self.raw.as_slice())
+    }
+
+    /// Plays an event on both, which the piece tells then.
+    pub(crate) fn play(&mut self, config: &Config, event: Event) -> Result<(), AllocError>
+        requires same { self.old.after ≡ self.old.before }
+        requires on { (processor_of event).number ≤ length self.old.before.state.processors }
+        requires room { self.old.before.events < 2 ^ 32 - 1 }
+        ensures before { OnOk result (self.new.before ≡ behind self.old.before event) }
+        ensures after { OnOk result (self.new.after ≡ behind self.old.before event) }
+        ensures processors { OnOk result (length self.new.before.state.processors ≡ length self.old.before.state.processors) }
+        ensures piece { OnOk result (self.new.piece.items ≡ escaped (event_text config.now self.old.before (behind self.old.before event))) }
+    {
+        self.after.play(event);
+        self.tell(config)?;
+        self.before.play(event);
+        Ok(())
+    }
+
+    /// Makes the piece what stands behind the last event.
+    pub(crate) fn end(&mut self) -> Result<(), AllocError>
+        ensures piece { OnOk result (self.new.piece.items ≡ spec.end_text) }
+    {
+        self.piece.clear();
+        put_end(&mut self.piece)
+    }
+}

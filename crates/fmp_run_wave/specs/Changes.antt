@@ -1,0 +1,90 @@
+-- The lines of the signals whose values an event changed, in the order of their declarations.
+use Rattle.std.specs.Prelude.{ℕ, Bool, true, false, ◌==◌, Option, List, [], ◌++◌, length, if◌then◌else◌}
+use Rattle.std.specs.Str.{bytes_eq}
+use Rattle.fmp_codes.specs.Numbers.{as_object, as_proc, as_task}
+use Rattle.fmp_codes.specs.declared.numbers.Proc.{Proc}
+use Rattle.fmp_codes.specs.declared.numbers.Task.{Task}
+use Rattle.fmp_codes.specs.declared.records.Runner.{Runner}
+use Rattle.fmp_rules.specs.declared.machine.Wait.{Wait}
+use Rattle.fmp_names.specs.Names.{NameLists}
+use Rattle.fmp_trace.specs.Lines.{runner_text, running_text}
+use Rattle.fmp_run_wave.specs.declared.resource.Resource.{Resource}
+use Rattle.fmp_run_wave.specs.declared.resource.Resource.TheVariants as resources
+use Rattle.fmp_run_wave.specs.declared.signal.Signal.{Signal}
+use Rattle.fmp_run_wave.specs.declared.signal.Signal.TheVariants as signals
+use Rattle.fmp_run_wave.specs.declared.snapshot.ShownProcessor.{ShownProcessor}
+use Rattle.fmp_rules.specs.declared.states.TaskState.{TaskState}
+use Rattle.fmp_run_wave.specs.Listing.{each}
+use Rattle.fmp_run_wave.specs.Resources.{signal_of}
+use Rattle.fmp_run_wave.specs.Shown.{Shown, number_at, numbers_of, on_processor, state_of, wait_of}
+use Rattle.fmp_run_wave.specs.Values.{bit_value, due_value, number_value, running_value, state_value, state_word, wait_text, wait_value}
+
+-- a line, if the text of its value is not the old one
+abbrev pub if_other : List ℕ → List ℕ → List ℕ → List ℕ
+if_other old new line = if bytes_eq old new then [] else line
+
+-- a signal of one bit
+abbrev pub bit_change : Signal → ℕ → Bool → Bool → List ℕ
+bit_change signal n true true = []
+bit_change signal n false false = []
+bit_change signal n old new = bit_value signal n new
+
+-- the task that runs on a processor
+abbrev pub running_change : NameLists → Proc → Option Task → Option Task → List ℕ
+running_change lists p old new = if_other (running_text lists old) (running_text lists new) (running_value lists p new)
+
+-- the locks of a processor and its latch
+unfoldable pub flag_changes : Proc → ShownProcessor → ShownProcessor → List ℕ
+flag_changes p old new =
+    bit_change signals.Locked p.number old.locked new.locked
+    ++ bit_change signals.Disabled p.number old.disabled new.disabled
+    ++ bit_change signals.Latch p.number old.latch new.latch
+
+-- the handler that is due on a processor
+abbrev pub due_change : NameLists → Proc → Option Runner → Option Runner → List ℕ
+due_change lists p old new = if_other (runner_text lists old) (runner_text lists new) (due_value lists p new)
+
+unfoldable pub processor_changes : NameLists → Proc → ShownProcessor → ShownProcessor → List ℕ
+processor_changes lists p old new = running_change lists p old.running new.running ++ flag_changes p old new ++ due_change lists p old.due new.due
+
+-- the state of a task, and what it waits for
+abbrev pub state_change : Task → TaskState → TaskState → List ℕ
+state_change t old new = if_other (state_word old) (state_word new) (state_value t new)
+
+abbrev pub wait_change : NameLists → Task → Option Wait → Option Wait → List ℕ
+wait_change lists t old new = if_other (wait_text lists old) (wait_text lists new) (wait_value lists t new)
+
+-- the number of an object
+abbrev pub number_change : Signal → ℕ → ℕ → ℕ → List ℕ
+number_change signal n old new = if old == new then [] else number_value signal n new
+
+module _ (lists : NameLists) (old new : Shown) where
+  -- of the processor, and of the task, of this number
+  unfoldable pub processor_changed : ℕ → List ℕ
+  processor_changed n = processor_changes lists (as_proc n) (on_processor old (as_proc n)) (on_processor new (as_proc n))
+
+  unfoldable pub task_changed : ℕ → List ℕ
+  task_changed n =
+      state_change (as_task n) (state_of old (as_task n)) (state_of new (as_task n))
+      ++ wait_change lists (as_task n) (wait_of old (as_task n)) (wait_of new (as_task n))
+
+module _ (old new : Shown) where
+  -- of the object of a kind with this number
+  unfoldable pub number_changed : Resource → ℕ → List ℕ
+  number_changed r n = number_change (signal_of r) (as_object n).number (number_at old r (as_object n)) (number_at new r (as_object n))
+
+  -- of all objects of a kind
+  abbrev pub numbers_changes : Resource → List ℕ
+  numbers_changes r = each (number_changed r) (length (numbers_of new r))
+
+  unfoldable pub objects_changes : List ℕ
+  objects_changes =
+      numbers_changes resources.Semaphore
+      ++ numbers_changes resources.Eventflag
+      ++ numbers_changes resources.DataQueue
+      ++ numbers_changes resources.Pool
+
+-- of all signals but the calls, which are told of each event
+unfoldable pub changes_text : NameLists → Shown → Shown → List ℕ
+changes_text lists old new =
+    each (processor_changed lists old new) (length new.processors) ++ each (task_changed lists old new) (length new.tasks) ++ objects_changes old new

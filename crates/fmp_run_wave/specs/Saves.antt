@@ -1,0 +1,29 @@
+-- GTKWave's save file for a configuration: how its window begins, and all signals of the configuration's waveforms.
+use Rattle.std.specs.Prelude.{◌≡◌, ℕ, List, ◌++◌, codes}
+use Rattle.fmp_setup.specs.Setup.{Setup}
+use Rattle.fmp_run_devices.specs.Devices.{BeginsWith}
+use Rattle.fmp_run_texts.specs.declared.fault.RunFault.{RunFault}
+use Rattle.fmp_run_texts.specs.declared.fault.RunFault.TheVariants as run
+use Rattle.fmp_run_texts.specs.Texts.{SaysConfig}
+use Rattle.fmp_run_wave.specs.declared.listing.Form.TheVariants.{Traces}
+use Rattle.fmp_run_wave.specs.Listing.{listing}
+
+-- the size of the window, an event as wide as a call, room for the names, and the tree of scopes closed
+unfoldable pub window_text : List ℕ
+window_text = codes "[timestart] 0\n[size] 1500 900\n[pos] -1 -1\n*-1.000000 0\n[signals_width] 200\n[sst_expanded] 0\n"
+
+unfoldable pub save_of : Setup → List ℕ
+save_of c = window_text ++ listing Traces c
+
+-- the save file of the configuration that a text says was written after old, all of it
+abbrev pub IsSaved : List ℕ → List ℕ → List ℕ → Type 0
+IsSaved config_text old new = (config : Setup) × SaysConfig config_text config × (new ≡ old ++ save_of config)
+
+-- a beginning of it was
+abbrev pub IsSaveBegun : List ℕ → List ℕ → List ℕ → Type 0
+IsSaveBegun config_text old new = (config : Setup) × SaysConfig config_text config × BeginsWith old (save_of config) new
+
+-- what was written after old, where a run ends with this fault
+abbrev pub LeavesSave : List ℕ → List ℕ → List ℕ → RunFault → Type 0
+LeavesSave config_text old new run.Write = IsSaveBegun config_text old new
+LeavesSave config_text old new other = new ≡ old

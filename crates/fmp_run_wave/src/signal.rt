@@ -1,0 +1,193 @@
+//! What a waveform shows of a processor, a task or an object, and the names of that.
+ghost use Rattle.std.specs.Prelude.{◌≡◌, ◌++◌, OnOk};
+ghost use Rattle.fmp_run_wave.specs.Signals as spec;
+
+use fmp_calls::ObjectKind;
+use fmp_names::Names;
+use fmp_trace::{put_named, put_number};
+use std::alloc::AllocError;
+
+/// One of the values of a processor, of a task or of an object.
+#[derive(Clone, Copy, PartialEq, Eq)]
+pub enum Signal {
+    /// The task that runs on a processor.
+    Running,
+    /// The last event of a processor, and its answer.
+    Call,
+    /// The CPU-locked state of a processor.
+    Locked,
+    /// That dispatching is disabled on a processor.
+    Disabled,
+    /// That a request to a processor is pending.
+    Latch,
+    /// The handler that is due on a processor.
+    Due,
+    /// A tick of a processor's timer, which has no value.
+    Tick,
+    /// The state of a task.
+    State,
+    /// What a task waits for.
+    Wait,
+    /// The count of a semaphore.
+    Count,
+    /// The pattern of an eventflag.
+    Pattern,
+    /// The number of values in a data queue.
+    Values,
+    /// The number of free blocks of a pool.
+    Free,
+}
+
+/// What signals stand in: one for each processor, and one each for all tasks and for all objects.
+#[derive(Clone, Copy, PartialEq, Eq)]
+pub enum Scope {
+    /// That of the processor with this number.
+    Processor(u8),
+    Tasks,
+    Objects,
+}
+
+/// The letter of the signal's identifiers.
+fn letter(signal: Signal) -> &'static [u8]
+    ensures { result.now ≡ spec.letter signal }
+{
+    match signal {
+        Signal::Running => b"r",
+        Signal::Call => b"c",
+        Signal::Locked => b"l",
+        Signal::Disabled => b"d",
+        Signal::Latch => b"i",
+        Signal::Due => b"h",
+        Signal::Tick => b"t",
+        Signal::State => b"s",
+        Signal::Wait => b"w",
+        Signal::Count => b"S",
+        Signal::Pattern => b"F",
+        Signal::Values => b"D",
+        Signal::Free => b"M",
+    }
+}
+
+/// The last word of its names.
+fn word(signal: Signal) -> &'static [u8]
+    ensures { result.now ≡ spec.word signal }
+{
+    match signal {
+        Signal::Running => b"running",
+        Signal::Call => b"call",
+        Signal::Locked => b"locked",
+        Signal::Disabled => b"disabled",
+        Signal::Latch => b"latch",
+        Signal::Due => b"due",
+        Signal::Tick => b"tick",
+        Signal::State => b"state",
+        Signal::Wait => b"wait",
+        Signal::Count => b"count",
+        Signal::Pattern => b"pattern",
+        Signal::Values => b"values",
+        Signal::Free => b"free",
+    }
+}
+
+/// The kind of objects that have the signal, or none where processors have it.
+fn owner(signal: Signal) -> Option<ObjectKind>
+    ensures { result ≡ spec.owner signal }
+{
+    match signal {
+        Signal::State | Signal::Wait => Some(ObjectKind::Task),
+        Signal::Count => Some(ObjectKind::Semaphore),
+        Signal::Pattern => Some(ObjectKind::Eventflag),
+        Signal::Values => Some(ObjectKind::DataQueue),
+        Signal::Free => Some(ObjectKind::Pool),
+        _ => None,
+    }
+}
+
+/// Where the signal of the processor, task or object with this number stands.
+fn scope_of(signal: Signal, number: u8) -> Scope
+    ensures { result ≡ spec.scope_of signal number }
+{
+    match signal {
+        Signal::State | Signal::Wait => Scope::Tasks,
+        Signal::Count | Signal::Pattern | Signal::Values | Signal::Free => Scope::Objects,
+        _ => Scope::Processor(number),
+    }
+}
+
+/// Adds the identifier of the signal of a processor, a task or an object with this number.
+#[tactic(auto, unfolding(crate::specs::Signals::identifier))]
+pub(crate) fn put_identifier(
+    out: &mut Vec<u8>,
+    signal: Signal,
+    number: u8,
+) -> Result<(), AllocError>
+    ensures { OnOk result (out.new.items ≡ out.old.items ++ spec.identifier signal number) }
+{
+    out.extend_from_slice(letter(signal))?;
+    put_number(out, u64::from(number))
+}
+
+/// Adds the name of the processor with this number.
+#[tactic(auto, unfolding(crate::specs::Signals::processor_text))]
+fn put_processor(out: &mut Vec<u8>, number: u8) -> Result<(), AllocError>
+    ensures { OnOk result (out.new.items ≡ out.old.items ++ spec.processor_text number) }
+{
+    out.push(b'P')?;
+    put_number(out, u64::from(number))
+}
+
+/// Adds the name of a scope.
+pub(crate) fn put_scope(out: &mut Vec<u8>, scope: Scope) -> Result<(), AllocError>
+    ensures { OnOk result (out.new.items ≡ out.old.items ++ spec.scope_text scope) }
+{
+    match scope {
+        Scope::Processor(number) => put_processor(out, number),
+        Scope::Tasks => out.extend_from_slice(b"tasks"),
+        Scope::Objects => out.extend_from_slice(b"objects"),
+    }
+}
+
+/// Adds the name of what has a signal: of a processor, or of an object of a kind.
+fn put_owner(
+    out: &mut Vec<u8>,
+    names: &Names,
+    kind: Option<ObjectKind>,
+    number: u8,
+) -> Result<(), AllocError>
+    ensures { OnOk result (out.new.items ≡ out.old.items ++ spec.owner_text names.now kind number) }
+{
+    match kind {
+        None => put_processor(out, number),
+        Some(kind) => put_named(out, names, kind, usize::from(number)),
+    }
+}
+
+/// Adds the name of the signal of a processor, a task or an object with this number.
+#[tactic(auto, unfolding(crate::specs::Signals::name_text))]
+pub(crate) fn put_name(
+    out: &mut Vec<u8>,
+    names: &Names,
+    signal: Signal,
+    number: u8,
+) -> Result<(), AllocError>
+    ensures { OnOk result (out.new.items ≡ out.old.items ++ spec.name_text names.now signal number) }
+{
+    put_owner(out, names, owner(signal), number)?;
+    out.push(b'_')?;
+    out.extend_from_slice(word(signal))
+}
+
+/// Adds the scope and the name of a signal, as viewers find it.
+#[tactic(auto, unfolding(crate::specs::Signals::path_text))]
+pub(crate) fn put_path(
+    out: &mut Vec<u8>,
+    names: &Names,
+    signal: Signal,
+    number: u8,
+) -> Result<(), AllocError>
+    ensures { OnOk result (out.new.items ≡ out.old.items ++ spec.path_text names.now signal number) }
+{
+    put_scope(out, scope_of(signal, number))?;
+    out.push(b'.')?;
+    put_name(out, names, signal, number)
+}

@@ -1,6 +1,0 @@
-use Rattle.fmp_machine.specs.Arrivals.{numbered}
-use Rattle.fmp_safety.proofs.Refusals.{only_dispatches}
-use Rattle.fmp_safety.proofs.laws.refusals_only_dispatch.Goals as goal
-
-pub returns : goal.returns
-returns c = only_dispatches numbered

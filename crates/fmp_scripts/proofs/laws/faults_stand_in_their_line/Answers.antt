@@ -1,5 +1,0 @@
-use Rattle.fmp_scripts.proofs.FirstFaults.{first_fault}
-use Rattle.fmp_scripts.proofs.laws.faults_stand_in_their_line.Goals as goal
-
-pub returns : goal.returns
-returns c = first_fault

@@ -1,5 +1,0 @@
-use Rattle.fmp_scripts.proofs.SpelledScripts.{text_is_spelled}
-use Rattle.fmp_scripts.proofs.laws.read_scripts_are_spelled.Goals as goal
-
-pub returns : goal.returns
-returns c = text_is_spelled

@@ -1,5 +1,0 @@
-use Rattle.fmp_scripts.proofs.SpelledScripts.{scripts_in-spelled}
-use Rattle.fmp_scripts.proofs.laws.spelled_scripts_are_read.Goals as goal
-
-pub returns : goal.returns
-returns c = scripts_in-spelled

@@ -1,5 +1,0 @@
-use Rattle.fmp_scripts.proofs.SpelledScripts.{one_list}
-use Rattle.fmp_scripts.proofs.laws.texts_spell_one_list_of_scripts.Goals as goal
-
-pub returns : goal.returns
-returns c = one_list

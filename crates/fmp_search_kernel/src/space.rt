@@ -1,0 +1,105 @@
+//! The walker as one who goes through a graph: its places are those of all orders.
+ghost use Rattle.fmp_search_orders.specs.Laws.{is_seen};
+ghost use Rattle.fmp_search_orders.specs.Places as places;
+ghost use Rattle.fmp_search_kernel.specs.Walked.{origin_of};
+
+use crate::walker::{MOST, Walker, are_equal, is_marked};
+use fmp_kernel_parts::Digest;
+use fmp_search::Space;
+use std::alloc::AllocError;
+
+/// Adds these numbers to what tells places apart.
+fn add_numbers(digest: &mut Digest, numbers: &[u32]) {
+    for number in numbers {
+        digest.add(u64::from(*number));
+    }
+}
+
+impl<'a> Space for Walker<'a> {
+    ghost Place = { places.Place };
+
+    ghost place = { λ w. w.place };
+
+    ghost origin = { λ w. origin_of w.place };
+
+    ghost after = { places.after };
+
+    ghost wanted = { is_seen };
+
+    ghost room = { λ w. w.left };
+
+    /// The error comes where the kernel has not the memory to become as it was at boot: kernels of one configuration have it, but no
+    /// clause says so.
+    fn restart(&mut self) -> Result<(), AllocError> {
+        if !self.kernel.copy_from(&self.start) {
+            return Err(AllocError);
+        }
+        self.tasks = [0; 64];
+        self.handlers = [0; 8];
+        self.taken = [0; 8];
+        self.seen = 0;
+        self.left = MOST;
+        Ok(())
+    }
+
+    #[tactic(auto, unfolding(fmp_search_orders::specs::Places::after))]
+    fn may_go(&self, step: u8) -> bool {
+        self.event_of(step).is_some()
+    }
+
+    /// The error is want of memory for the lines of an event.
+    fn go(&mut self, step: u8) -> Result<bool, AllocError> {
+        let Some(event) = self.event_of(step) else {
+            return Ok(false);
+        };
+        let seen = self.seen;
+        let marked = is_marked(step);
+        self.play(event, marked);
+        self.is_allowed(seen, marked)
+    }
+
+    fn again(&mut self, step: u8) {
+        self.retrace(step);
+    }
+
+    /// The error is as at `restart`.
+    fn copy_from(&mut self, other: &Self) -> Result<(), AllocError> {
+        if !self.kernel.copy_from(&other.kernel) {
+            return Err(AllocError);
+        }
+        self.tasks = other.tasks;
+        self.handlers = other.handlers;
+        self.taken = other.taken;
+        self.seen = other.seen;
+        self.left = other.left;
+        Ok(())
+    }
+
+    #[tactic(auto, unfolding(fmp_search_orders::specs::Places::after))]
+    fn steps(&self) -> u8 {
+        6 * self.config.processors()
+    }
+
+    /// Whether all steps of the question were seen.
+    fn is_wanted(&self) -> bool {
+        self.seen as usize == self.question.steps().len()
+    }
+
+    fn is_same(&self, other: &Self) -> bool {
+        self.seen == other.seen
+            && are_equal(&self.tasks, &other.tasks)
+            && self.handlers == other.handlers
+            && self.taken == other.taken
+            && self.kernel.is_same(&other.kernel)
+    }
+
+    fn hash(&self) -> u64 {
+        let mut digest = Digest::new();
+        digest.add(self.kernel.hash());
+        digest.add(u64::from(self.seen));
+        add_numbers(&mut digest, &self.tasks);
+        add_numbers(&mut digest, &self.handlers);
+        add_numbers(&mut digest, &self.taken);
+        digest.value()
+    }
+}

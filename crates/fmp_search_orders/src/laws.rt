@@ -1,0 +1,40 @@
+//! Laws of all orders.
+ghost use Rattle.std.specs.Prelude.{List};
+ghost use Rattle.fmp_codes.specs.declared.records.Record.{Record};
+ghost use Rattle.fmp_search_orders.specs.declared.rules.Rules.{Rules};
+ghost use Rattle.fmp_text_scripts.specs.Scripts.{Steps};
+ghost use Rattle.fmp_setup.specs.Setup.{Setup};
+ghost use Rattle.fmp_setup.specs.Valid.{IsValid};
+ghost use Rattle.fmp_search_question.specs.declared.question.Step.{Step};
+ghost use Rattle.fmp_search_orders.specs.Begun.{BegunAnswer};
+ghost use Rattle.fmp_search_orders.specs.Joined.{RootsAnswer};
+ghost use Rattle.fmp_search_orders.specs.Laws.{RunsAreOrders, PlacesAnswer};
+ghost use Rattle.fmp_search_orders.specs.Orders.{IsOrder};
+
+/// What is told along a run over places is one of all orders, with marks at its moments, and each of these is a run over places, of as
+/// many steps.
+#[tactic(auto, using(crate::proofs::Runs::runs_orders))]
+pub fn runs_are_orders()
+    ensures { (c : Setup) (scripts : List Steps) (rules : Rules) (question : List Step) → IsValid c → RunsAreOrders c scripts rules question }
+{}
+
+/// Where no run over places, or none of so many steps, leads to a place at which the question was seen, no order, or none of so many
+/// records, shows it; and what is told along a shortest run to such a place is a shortest order that does.
+#[tactic(auto, using(crate::proofs::Answered::places_answer))]
+pub fn places_answer()
+    ensures { (c : Setup) (scripts : List Steps) (rules : Rules) (question : List Step) → IsValid c → PlacesAnswer c scripts rules question }
+{}
+
+/// The same of the runs whose first steps are those of an order's events: what they answer is so of all orders that go on from that one.
+#[tactic(auto, using(crate::proofs::Begun::begun_answer))]
+pub fn begun_answer()
+    ensures { (c : Setup) (scripts : List Steps) (rules : Rules) (question : List Step) (begun : List Record) → IsValid c → IsOrder c scripts rules begun
+        → BegunAnswer c scripts rules question begun }
+{}
+
+/// Where runs over places are joined by some of them, what is told along these joins all orders: what is known of the orders that go on from each is
+/// known of all.
+#[tactic(auto, using(crate::proofs::Behind::roots_answer))]
+pub fn roots_answer()
+    ensures { (c : Setup) (scripts : List Steps) (rules : Rules) (question : List Step) → IsValid c → RootsAnswer c scripts rules question }
+{}

@@ -1,0 +1,145 @@
+-- How a question is read: word by word. Words stand between single blanks, and mean themselves but for these: `&` between the patterns of
+-- a moment, `without` before what must not come, `then` before the next step, `times` behind a number at the front of a step.
+use Rattle.std.specs.Prelude.{ℕ, ◌-◌, ◌==◌, not, ◌&&◌, nat_le, is_none, List, [], ◌∷◌, ◌++◌, length, take, drop, Option, None, Some, option_map, unwrap_or, replicate, Result, Ok, Err, if◌then◌else◌, codes}
+use Rattle.std.specs.List.{list_all, join_with_byte}
+use Rattle.std.specs.Option.{option_and_then}
+use Rattle.std.specs.Str.{bytes_eq}
+use Rattle.fmp_bytes.specs.Bytes.{space, pieces_of}
+use Rattle.fmp_bytes.specs.Numerals.{are_digits, magnitude_of}
+use Rattle.fmp_names.specs.Names.{NameLists}
+use Rattle.fmp_search_question.specs.declared.question.Step.{Step}
+use Rattle.fmp_search_question.specs.declared.fault.QuestionFault.{QuestionFault}
+use Rattle.fmp_search_question.specs.declared.fault.QuestionFault.TheVariants.{BadWord, BadForm, UnknownName, TooLong}
+use Rattle.fmp_search_question.specs.declared.fault.ReadFault.{ReadFault}
+use Rattle.fmp_search_question.specs.declared.fault.ReadFault.TheVariants.{Memory, Text}
+use Rattle.fmp_search_question.specs.Words.{star, is_printed, is_fine, runs_of}
+
+-- the greatest number of steps, and of bytes of a pattern with the blanks around it
+abbrev pub most_steps : ℕ
+most_steps = 255
+
+abbrev pub most_pattern : ℕ
+most_pattern = 1024
+
+-- what was read so far
+pub record Draft : Type 0 where
+  pub steps : List Step  -- those that are complete
+  pub times : Option ℕ  -- how often the step stands that is being read, where that is said
+  pub moment : Option (List (List (List ℕ)))  -- its moment, where `without` was read
+  pub patterns : List (List (List ℕ))  -- the complete patterns of the moment that is being read
+  pub pattern : List ℕ  -- the pattern that is being read: its words, each with a blank behind it, and one before the first
+
+abbrev pub nothing_read : Draft
+nothing_read = record { steps = []; times = None; moment = None; patterns = []; pattern = [] }
+
+-- a pattern is complete
+unfoldable pub with_pattern : Draft → Option Draft
+with_pattern d =
+    if length d.pattern == 0 then None
+    else Some (record d { patterns = d.patterns ++ pieces_of star d.pattern ∷ []; pattern = [] })
+
+-- a moment is complete, and what must not come before it follows
+abbrev pub before_without : Draft → Option Draft
+before_without d = if is_none d.moment then Some (record d { moment = Some d.patterns; patterns = [] }) else None
+
+unfoldable pub with_moment : Draft → Option Draft
+with_moment d = option_and_then before_without (with_pattern d)
+
+abbrev pub step_of : Option (List (List (List ℕ))) → List (List (List ℕ)) → Step
+step_of None patterns = record { moment = patterns; without = None }
+step_of (Some moment) patterns = record { moment = moment; without = Some patterns }
+
+abbrev pub steps_with : Draft → List Step
+steps_with d = d.steps ++ replicate (unwrap_or d.times 1) (step_of d.moment d.patterns)
+
+-- what is left behind a step was taken
+abbrev pub without_step : Draft → Draft
+without_step d = record d { moment = None; patterns = [] }
+
+-- the step that was read stands as often as was said
+abbrev pub with_read : Draft → Draft
+with_read d = record d { steps = steps_with d; times = None; moment = None; patterns = [] }
+
+-- a step is complete
+unfoldable pub with_step : Draft → Option Draft
+with_step d = option_map with_read (with_pattern d)
+
+-- the number that is the only word of a pattern
+abbrev pub number_in : List ℕ → Option ℕ
+number_in pattern =
+    let digits = take (length pattern - 2) (drop 1 pattern) in
+    if are_digits 10 digits then magnitude_of 10 digits else None
+
+abbrev pub times_within : ℕ → Option ℕ
+times_within n = if nat_le 1 n && nat_le n most_steps then Some n else None
+
+-- the step that begins stands so many times
+unfoldable pub with_times : Draft → Option Draft
+with_times d =
+    if is_none d.times && is_none d.moment && length d.patterns == 0
+    then option_map (λ n. record d { times = Some n; pattern = [] }) (option_and_then times_within (number_in d.pattern))
+    else None
+
+-- the pattern with a word more
+abbrev pub longer : List ℕ → List ℕ → List ℕ
+longer pattern word = (if length pattern == 0 then space ∷ [] else pattern) ++ word ++ space ∷ []
+
+-- what has to stand there, in its place
+abbrev pub or_form : Option Draft → Result Draft QuestionFault
+or_form None = Err BadForm
+or_form (Some d) = Ok d
+
+-- not too many steps
+abbrev pub limited : Result Draft QuestionFault → Result Draft QuestionFault
+limited (Err fault) = Err fault
+limited (Ok d) = if nat_le (length d.steps) most_steps then Ok d else Err TooLong
+
+-- a word of a pattern
+unfoldable pub with_word : NameLists → Draft → List ℕ → Result Draft QuestionFault
+with_word names d word =
+    if list_all (is_fine names) (runs_of word) then
+    (if nat_le (length (longer d.pattern word)) most_pattern then Ok (record d { pattern = longer d.pattern word }) else Err TooLong)
+    else Err UnknownName
+
+-- the fault, where there is one
+abbrev pub fault_of : Result Draft QuestionFault → Option QuestionFault
+fault_of (Ok d) = None
+fault_of (Err fault) = Some fault
+
+-- one word more
+unfoldable pub after_word : NameLists → Draft → List ℕ → Result Draft QuestionFault
+after_word names d word =
+    if not (is_printed word) then Err BadWord
+    else if bytes_eq word (codes "&") then or_form (with_pattern d)
+    else if bytes_eq word (codes "without") then or_form (with_moment d)
+    else if bytes_eq word (codes "then") then limited (or_form (with_step d))
+    else if bytes_eq word (codes "times") then or_form (with_times d)
+    else with_word names d word
+
+-- a fault, and the number of the byte from 0 at which the word at fault begins
+abbrev pub at_place : ℕ → Result Draft QuestionFault → Result Draft (QuestionFault × ℕ)
+at_place place (Ok d) = Ok d
+at_place place (Err fault) = Err (fault, place)
+
+abbrev pub result_then : {A B E : Type 0} → (A → Result B E) → Result A E → Result B E
+result_then f (Ok a) = f a
+result_then f (Err e) = Err e
+
+-- what a fault of reading tells, where it is one of the text
+abbrev pub told : ReadFault → QuestionFault × ℕ
+told Memory = (BadWord, 0)
+told (Text fault place) = (fault, place)
+
+-- the last words of a text of so many bytes
+abbrev pub after_words : NameLists → ℕ → Draft → List (List ℕ) → Result Draft (QuestionFault × ℕ)
+after_words names bytes d [] = Ok d
+after_words names bytes d (word ∷ words) =
+    result_then (λ e. after_words names bytes e words) (at_place (bytes - length (join_with_byte space (word ∷ words))) (after_word names d word))
+
+-- behind the last word a step is complete
+abbrev pub ended : ℕ → Draft → Result (List Step) (QuestionFault × ℕ)
+ended bytes d = result_then (λ e. Ok e.steps) (at_place bytes (limited (or_form (with_step d))))
+
+-- the steps of a question, or its first fault
+unfoldable pub question_in : NameLists → List ℕ → Result (List Step) (QuestionFault × ℕ)
+question_in names text = result_then (ended (length text)) (after_words names (length text) nothing_read (pieces_of space text))

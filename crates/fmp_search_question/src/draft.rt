@@ -1,0 +1,275 @@
+//! What was read of a question so far.
+ghost use Rattle.std.specs.Prelude.{◌≡◌, ◌≢◌, ◌++◌, ◌∷◌, List, [], Some, None, Ok, Err, IfOk, IfErr, OnOk, replicate, is_some, length, if◌then◌else◌};
+ghost use Rattle.std.specs.Option.{option_and_then};
+ghost use Rattle.fmp_bytes.specs.Bytes.{pieces_of};
+ghost use Rattle.std.specs.List.{list_all};
+ghost use Rattle.fmp_search_question.specs.Words.{star, is_fine};
+ghost use Rattle.fmp_search_question.specs.Reading as spec;
+
+use crate::fault::{QuestionFault, ReadFault};
+use crate::question::{Moment, Pattern, Piece, Question, Step};
+use crate::words::{are_fine, is_printed};
+use fmp_bytes::{are_digits, cut, magnitude};
+use fmp_names::Names;
+use std::alloc::{AllocError, Global};
+use std::marker::Model;
+use std::mem;
+
+// The greatest number of steps.
+const MOST_STEPS: u64 = 255;
+
+// The greatest number of bytes of a pattern, with the blanks around it.
+const MOST_PATTERN: usize = 1024;
+
+/// What was read of a question so far.
+#[derive(Drop)]
+pub(crate) struct Draft {
+    alloc: Global,
+    steps: Vec<Step>,
+    times: Option<u8>,
+    moment: Option<Moment>,
+    patterns: Vec<Pattern>,
+    pattern: Vec<u8>,
+}
+
+impl Model for Draft {
+    ghost use Rattle.fmp_search_question.specs.Reading as spec;
+
+    ghost Value = { spec.Draft };
+
+    ghost view = { λ d. record { steps = d.steps.items; times = d.times; moment = d.moment; patterns = d.patterns.items; pattern = d.pattern.items } };
+}
+
+/// The bytes between the stars, in order: one piece more than there are stars, and some may be empty. The error is want of memory.
+fn pieces(alloc: Global, pattern: &[u8]) -> Result<Vec<Piece>, AllocError>
+    ensures { IfOk result (λ v. v.items ≡ pieces_of star pattern.now) }
+{
+    let mut pieces = Vec::new(alloc);
+    let mut rest = Some(pattern);
+    while let Some(text) = rest {
+        let (piece, after) = cut(b'*', text);
+        rest = after;
+        pieces.push(Piece::new(Vec::from_slice(alloc, piece)?))?;
+    }
+    Ok(pieces)
+}
+
+/// Puts so many copies of a step behind the others. The error is want of memory.
+fn add_times(alloc: Global, steps: &mut Vec<Step>, step: &Step, times: u8) -> Result<(), AllocError>
+    ensures { OnOk result (steps.new.items ≡ steps.old.items ++ replicate times step.now) }
+{
+    for _ in 0..times {
+        steps.push(step.copy(alloc)?)?;
+    }
+    Ok(())
+}
+
+/// `BadForm` where something was not done, and none where it was.
+fn form_of(done: bool) -> Option<QuestionFault>
+    ensures { result ≡ (if done then None else Some QuestionFault.BadForm) }
+{
+    if done {
+        None
+    } else {
+        Some(QuestionFault::BadForm)
+    }
+}
+
+impl Draft {
+    /// Nothing so far.
+    pub(crate) fn new(alloc: Global) -> Draft
+        ensures { result ≡ spec.nothing_read }
+    {
+        Draft {
+            alloc,
+            steps: Vec::new(alloc),
+            times: None,
+            moment: None,
+            patterns: Vec::new(alloc),
+            pattern: Vec::new(alloc),
+        }
+    }
+
+    /// Puts the pattern behind the others of its moment. False where it has no word yet. The error is want of memory.
+    #[tactic(auto, unfolding(crate::specs::Reading::with_pattern))]
+    fn end_pattern(&mut self) -> Result<bool, AllocError>
+        ensures none { IfOk result (λ done. done ≡ is_some (spec.with_pattern self.old)) }
+        ensures done { (d : spec.Draft) → spec.with_pattern self.old ≡ Some d → OnOk result (self.new ≡ d) }
+    {
+        if self.pattern.is_empty() {
+            return Ok(false);
+        }
+        let pieces = pieces(self.alloc, &self.pattern)?;
+        self.patterns.push(Pattern::new(pieces))?;
+        self.pattern.clear();
+        Ok(true)
+    }
+
+    /// Ends a moment at `without`. False where its last pattern has no word yet or the step had a `without` before. The error is want of memory.
+    #[tactic(auto, unfolding(crate::specs::Reading::with_moment))]
+    fn end_moment(&mut self) -> Result<bool, AllocError>
+        ensures none { IfOk result (λ done. done ≡ is_some (spec.with_moment self.old)) }
+        ensures done { (d : spec.Draft) → spec.with_moment self.old ≡ Some d → OnOk result (self.new ≡ d) }
+    {
+        if !self.end_pattern()? || self.moment.is_some() {
+            return Ok(false);
+        }
+        let patterns = mem::replace(&mut self.patterns, Vec::new(self.alloc));
+        self.moment = Some(Moment::new(patterns));
+        Ok(true)
+    }
+
+    /// Takes the step out of the draft. Where `without` was read, the patterns behind it are the moment that must not come before the first.
+    fn take_step(&mut self) -> Step
+        ensures is { result ≡ spec.step_of self.old.moment self.old.patterns }
+        ensures rest { self.new ≡ spec.without_step self.old }
+    {
+        let last = Moment::new(mem::replace(&mut self.patterns, Vec::new(self.alloc)));
+        match self.moment.take() {
+            None => Step {
+                moment: last,
+                without: None,
+            },
+            Some(moment) => Step {
+                moment,
+                without: Some(last),
+            },
+        }
+    }
+
+    /// Moves the step to the others as often as was said, or once where nothing was said. The error is want of memory.
+    fn add_read(&mut self) -> Result<(), AllocError>
+        ensures { OnOk result (self.new ≡ spec.with_read self.old) }
+    {
+        let step = self.take_step();
+        let times = self.times.take().unwrap_or(1);
+        add_times(self.alloc, &mut self.steps, &step, times)
+    }
+
+    /// Ends the step and adds it as often as was said. False where its last pattern has no word yet. The error is want of memory.
+    #[tactic(auto, unfolding(crate::specs::Reading::with_step))]
+    fn end_step(&mut self) -> Result<bool, AllocError>
+        ensures none { IfOk result (λ done. done ≡ is_some (spec.with_step self.old)) }
+        ensures done { (d : spec.Draft) → spec.with_step self.old ≡ Some d → OnOk result (self.new ≡ d) }
+    {
+        if !self.end_pattern()? {
+            return Ok(false);
+        }
+        self.add_read()?;
+        Ok(true)
+    }
+
+    /// The number from 1 to 255 that the pattern is. None where it is not one word of decimal digits, or another number.
+    fn number(&self) -> Option<u8>
+        ensures { result ≡ option_and_then spec.times_within (spec.number_in self.now.pattern) }
+    {
+        let pattern = self.pattern.as_slice();
+        let digits = pattern.get(1..)?.split_last()?.1;
+        if !are_digits(10, digits) {
+            return None;
+        }
+        let number = magnitude(10, digits)?;
+        if 1 <= number && number <= MOST_STEPS {
+            Some(number as u8)
+        } else {
+            None
+        }
+    }
+
+    /// Takes the pattern as a number. False where it is none from 1 to 255, or where `times`, `&` or `without` was read in this step before.
+    #[tactic(auto, unfolding(crate::specs::Reading::with_times))]
+    fn begin_times(&mut self) -> bool
+        ensures none { result ≡ is_some (spec.with_times self.old) }
+        ensures done { (d : spec.Draft) → spec.with_times self.old ≡ Some d → self.new ≡ d }
+    {
+        if self.times.is_some() || self.moment.is_some() || !self.patterns.is_empty() {
+            return false;
+        }
+        match self.number() {
+            None => false,
+            times => {
+                self.times = times;
+                self.pattern.clear();
+                true
+            }
+        }
+    }
+
+    /// Puts a word at the end of the pattern. The fault is `UnknownName` where a run of it is not fine, else `TooLong` where the pattern would
+    /// have more than 1,024 bytes. The error is want of memory.
+    #[tactic(auto, unfolding(crate::specs::Reading::with_word))]
+    fn add_word(&mut self, names: &Names, word: &[u8]) -> Result<Option<QuestionFault>, AllocError>
+        ensures told { IfOk result (λ fault. fault ≡ spec.fault_of (spec.with_word names.now self.old word.now)) }
+        ensures added { (d : spec.Draft) → spec.with_word names.now self.old word.now ≡ Ok d → OnOk result (self.new ≡ d) }
+    {
+        if !are_fine(names, word) {
+            return Ok(Some(QuestionFault::UnknownName));
+        }
+        let blanks = if self.pattern.is_empty() { 2 } else { 1 };
+        if MOST_PATTERN < self.pattern.len() + word.len() + blanks {
+            return Ok(Some(QuestionFault::TooLong));
+        }
+        if self.pattern.is_empty() {
+            self.pattern.push(b' ')?;
+        }
+        self.pattern.extend_from_slice(word)?;
+        self.pattern.push(b' ')?;
+        Ok(None)
+    }
+
+    /// Ends the step. The fault is `BadForm` where its last pattern has no word yet, and `TooLong` where there are more than 255 steps then.
+    /// The error is want of memory.
+    fn end_limited(&mut self) -> Result<Option<QuestionFault>, AllocError>
+        ensures told { IfOk result (λ fault. fault ≡ spec.fault_of (spec.limited (spec.or_form (spec.with_step self.old)))) }
+        ensures ended { (d : spec.Draft) → spec.limited (spec.or_form (spec.with_step self.old)) ≡ Ok d → OnOk result (self.new ≡ d) }
+    {
+        if !self.end_step()? {
+            return Ok(Some(QuestionFault::BadForm));
+        }
+        if self.steps.len() as u64 <= MOST_STEPS {
+            Ok(None)
+        } else {
+            Ok(Some(QuestionFault::TooLong))
+        }
+    }
+
+    /// Adds a word, and tells its fault, if it has one.
+    #[tactic(auto, unfolding(crate::specs::Reading::after_word))]
+    pub(crate) fn add(
+        &mut self,
+        names: &Names,
+        word: &[u8],
+    ) -> Result<Option<QuestionFault>, AllocError>
+        ensures told { IfOk result (λ fault. fault ≡ spec.fault_of (spec.after_word names.now self.old word.now)) }
+        ensures added { (d : spec.Draft) → spec.after_word names.now self.old word.now ≡ Ok d → OnOk result (self.new ≡ d) }
+    {
+        if !is_printed(word) {
+            return Ok(Some(QuestionFault::BadWord));
+        }
+        if word == b"&".as_slice() {
+            return Ok(form_of(self.end_pattern()?));
+        }
+        if word == b"without".as_slice() {
+            return Ok(form_of(self.end_moment()?));
+        }
+        if word == b"then".as_slice() {
+            return self.end_limited();
+        }
+        if word == b"times".as_slice() {
+            return Ok(form_of(self.begin_times()));
+        }
+        self.add_word(names, word)
+    }
+
+    /// The steps of the whole, where it is complete.
+    pub(crate) fn end(mut self, text: &[u8]) -> Result<Question, ReadFault>
+        ensures ok { IfOk result (λ q. spec.ended (length text.now) self ≡ Ok q) }
+        ensures err { IfErr result (λ fault. fault ≢ ReadFault.Memory → spec.ended (length text.now) self ≡ Err (spec.told fault)) }
+    {
+        match self.end_limited() {
+            Err(_) => Err(ReadFault::Memory),
+            Ok(Some(fault)) => Err(ReadFault::Text(fault, text.len())),
+            Ok(None) => Ok(Question::new(self.steps)),
+        }
+    }
+}

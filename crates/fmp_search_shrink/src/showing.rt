@@ -1,0 +1,30 @@
+//! Whether events that come as they are given show what a question asks.
+ghost use Rattle.std.specs.Prelude.{◌≤◌, ◌↔◌, length, IfOk, IsTrue};
+ghost use Rattle.fmp_codes.specs.Records.{AreOn};
+ghost use Rattle.fmp_search_shrink.specs.Shrinking.{AnswersShow};
+
+use fmp_codes::Event;
+use fmp_rules::Config;
+use fmp_search_orders::Rules;
+use fmp_search_question::Question;
+use std::alloc::AllocError;
+
+/// Events come as they are given: ticks may be of any number.
+const AS_GIVEN: Rules = Rules {
+    ticks: None,
+    prompt: false,
+    drift: None,
+};
+
+/// Whether what the machine answers to these events shows what a question asks.
+pub(crate) fn shows(
+    config: &Config,
+    question: &Question,
+    events: &[Event],
+) -> Result<bool, AllocError>
+    requires short { length question.now ≤ 255 }
+    requires on { AreOn config.now.processors events.now }
+    ensures { IfOk result (λ r. IsTrue r ↔ AnswersShow config.now question.now events.now) }
+{
+    fmp_search_showing::shows(config, AS_GIVEN, question, events)
+}

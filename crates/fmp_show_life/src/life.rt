@@ -1,0 +1,137 @@
+//! What was told of some things last.
+ghost use Rattle.std.specs.Prelude.{◌≡◌, ◌++◌, map, OnOk, IfOk};
+ghost use Rattle.std.specs.List.{flat_map};
+ghost use Rattle.fmp_rules.specs.Arrivals.{State};
+ghost use Rattle.fmp_law_lists.specs.Stands.{Stands};
+ghost use Rattle.fmp_show_life.specs.Lives as spec;
+ghost use Rattle.fmp_show_life.specs.Watches.{seen_of};
+
+use crate::lines::put_line;
+use crate::things::Thing;
+use fmp_kernel::Kernel;
+use fmp_names::Names;
+use std::alloc::{AllocError, Global};
+use std::marker::Model;
+use std::mem;
+
+/// A thing, and its line as it was told last, without how many ticks it has left.
+#[derive(Drop)]
+pub(crate) struct Watched {
+    thing: Thing,
+    text: Vec<u8>,
+}
+
+impl Watched {
+    /// A thing of which nothing was told yet.
+    pub(crate) fn new(alloc: Global, thing: Thing) -> Watched
+        ensures { seen_of result ≡ spec.unseen thing }
+    {
+        Watched {
+            thing,
+            text: Vec::new(alloc),
+        }
+    }
+}
+
+/// Some things, and what was told of each of them last.
+#[derive(Drop)]
+pub struct Life {
+    watched: Vec<Watched>,
+    /// What is told of one of them now.
+    fresh: Vec<u8>,
+}
+
+impl Model for Life {
+    ghost use Rattle.std.specs.Prelude.{List, map};
+    ghost use Rattle.fmp_show_life.specs.Lives.{Seen};
+    ghost use Rattle.fmp_show_life.specs.Watches.{seen_of};
+
+    ghost Value = { List Seen };
+
+    ghost view = { λ l. map seen_of l.watched.items };
+}
+
+/// Adds the line of a thing, where something else is told of it than was told last, and keeps in mind what is.
+fn put_change(
+    out: &mut Vec<u8>,
+    watched: &mut Watched,
+    fresh: &mut Vec<u8>,
+    names: &Names,
+    kernel: &Kernel,
+) -> Result<(), AllocError>
+    ensures told { OnOk result (out.new.items ≡ out.old.items ++ spec.told_since names.now kernel.now (seen_of watched.old)) }
+    ensures seen { OnOk result (seen_of watched.new ≡ spec.renewed names.now kernel.now (seen_of watched.old)) }
+{
+    fresh.clear();
+    put_line(fresh, names, kernel, watched.thing, false)?;
+    if fresh.as_slice() != watched.text.as_slice() {
+        put_line(out, names, kernel, watched.thing, true)?;
+        mem::swap(&mut watched.text, fresh);
+    }
+    Ok(())
+}
+
+/// The same of all things.
+fn put_all(
+    out: &mut Vec<u8>,
+    all: &mut [Watched],
+    fresh: &mut Vec<u8>,
+    names: &Names,
+    kernel: &Kernel,
+) -> Result<(), AllocError>
+    ensures told { OnOk result (out.new.items ≡ out.old.items ++ flat_map (spec.told_since names.now kernel.now) (map seen_of all.old)) }
+    ensures seen { OnOk result (map seen_of all.new ≡ map (spec.renewed names.now kernel.now) (map seen_of all.old)) }
+{
+    for watched in all.iter_mut() {
+        put_change(out, watched, fresh, names, kernel)?;
+    }
+    Ok(())
+}
+
+impl Life {
+    /// Things of which nothing was told yet.
+    pub(crate) fn new(alloc: Global, watched: Vec<Watched>) -> Life
+        ensures { result ≡ map seen_of watched.items }
+    {
+        Life {
+            watched,
+            fresh: Vec::new(alloc),
+        }
+    }
+
+    /// The same of all its things, by what the kernel's lists tell.
+    fn put_lists(
+        &mut self,
+        out: &mut Vec<u8>,
+        names: &Names,
+        kernel: &Kernel,
+    ) -> Result<(), AllocError>
+        ensures told { OnOk result (out.new.items ≡ out.old.items ++ flat_map (spec.told_since names.now kernel.now) self.old) }
+        ensures seen { OnOk result (self.new ≡ map (spec.renewed names.now kernel.now) self.old) }
+    {
+        put_all(
+            out,
+            self.watched.as_mut_slice(),
+            &mut self.fresh,
+            names,
+            kernel,
+        )
+    }
+
+    /// Adds the lines of those things of which something else is told than was told last, in the order in which they were chosen, and
+    /// keeps in mind what is. That ticks count down changes nothing. After an error a beginning of these lines may have been added, and
+    /// some of them be kept in mind.
+    pub fn put_changes(
+        &mut self,
+        out: &mut Vec<u8>,
+        names: &Names,
+        kernel: &Kernel,
+    ) -> Result<(), AllocError>
+        ensures lists { OnOk result (out.new.items ≡ out.old.items ++ flat_map (spec.told_since names.now kernel.now) self.old) }
+        ensures seen { OnOk result (self.new ≡ map (spec.renewed names.now kernel.now) self.old) }
+        ensures model { (m : State) → Stands kernel.now m → OnOk result (out.new.items ≡ out.old.items ++ flat_map (spec.told_since names.now m) self.old) }
+        ensures seen_model { (m : State) → Stands kernel.now m → OnOk result (self.new ≡ map (spec.renewed names.now m) self.old) }
+    {
+        self.put_lists(out, names, kernel)
+    }
+}

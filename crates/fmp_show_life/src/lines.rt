@@ -1,0 +1,254 @@
+//! The lines of things.
+ghost use Rattle.std.specs.Prelude.{◌≡◌, ◌++◌, OnOk};
+ghost use Rattle.fmp_rules.specs.Objects.{values};
+ghost use Rattle.fmp_rules.specs.Ordering.{is_runnable};
+ghost use Rattle.fmp_show_life.specs.Lines as spec;
+
+use crate::things::Thing;
+use fmp_calls::ObjectKind;
+use fmp_codes::{Object, Proc, Runner, Task};
+use fmp_kernel::Kernel;
+use fmp_names::Names;
+use fmp_rules::TaskRecord;
+use fmp_show_state::{
+    put_any_wait, put_flag, put_left, put_numbers, put_object, put_ticks, put_values,
+};
+use fmp_trace::{put_named, put_number, put_task};
+use std::alloc::AllocError;
+
+/// The ticks left, or 0 in place of how many they are.
+fn left_by(ticks: bool, left: Option<u64>) -> Option<u64>
+    ensures { result ≡ spec.left_by ticks left }
+{
+    match (ticks, left) {
+        (true, left) => left,
+        (false, Some(_)) => Some(0),
+        (false, None) => None,
+    }
+}
+
+/// Whether the processor of a task runs it.
+fn runs(kernel: &Kernel, t: Task) -> bool
+    ensures { result ≡ spec.runs kernel.now t }
+{
+    match kernel.processor(kernel.task(t).assigned).running {
+        None => false,
+        Some(other) => t.number == other.number,
+    }
+}
+
+/// Whether a task is ready, or runs.
+fn is_runnable(task: &TaskRecord) -> bool
+    ensures { result ≡ is_runnable task.now }
+{
+    task.active && !task.wait.is_some() && !task.suspended
+}
+
+/// Adds a processor behind its word.
+fn put_processor(out: &mut Vec<u8>, word: &[u8], p: Proc) -> Result<(), AllocError>
+    ensures { OnOk result (out.new.items ≡ out.old.items ++ spec.on_text word.now p) }
+{
+    out.extend_from_slice(word)?;
+    put_number(out, u64::from(p.number))
+}
+
+/// Adds that a task runs, is ready or is dormant, where it is so.
+fn put_doing(out: &mut Vec<u8>, runs: bool, task: &TaskRecord) -> Result<(), AllocError>
+    ensures { OnOk result (out.new.items ≡ out.old.items ++ spec.doing_text runs task.now) }
+{
+    if runs {
+        return put_processor(out, b" running P", task.assigned);
+    }
+    if is_runnable(task) {
+        return put_processor(out, b" ready P", task.assigned);
+    }
+    put_flag(out, !task.active, b" dormant")
+}
+
+/// Adds the priority of a task where it is another one than at boot, and what is queued for it, where it is not dormant.
+fn put_counts(out: &mut Vec<u8>, task: &TaskRecord) -> Result<(), AllocError>
+    ensures { OnOk result (out.new.items ≡ out.old.items ++ spec.counts_text task.now) }
+{
+    if task.active {
+        put_numbers(out, task)?;
+    }
+    Ok(())
+}
+
+/// Adds that a task is suspended, what it waits for, and its numbers, where there is something to tell.
+#[tactic(auto, unfolding(crate::specs::Lines::rest_text))]
+fn put_rest(
+    out: &mut Vec<u8>,
+    names: &Names,
+    task: &TaskRecord,
+    left: Option<u64>,
+) -> Result<(), AllocError>
+    ensures { OnOk result (out.new.items ≡ out.old.items ++ spec.rest_text names.now task.now left) }
+{
+    put_flag(out, task.suspended, b" suspended")?;
+    put_any_wait(out, names, task.wait)?;
+    put_left(out, left)?;
+    put_counts(out, task)
+}
+
+/// Adds the line of a task.
+#[tactic(auto, unfolding(crate::specs::Lines::task_told))]
+fn put_task_line(
+    out: &mut Vec<u8>,
+    names: &Names,
+    t: Task,
+    runs: bool,
+    task: &TaskRecord,
+    left: Option<u64>,
+) -> Result<(), AllocError>
+    ensures { OnOk result (out.new.items ≡ out.old.items ++ spec.task_told names.now t runs task.now left) }
+{
+    out.extend_from_slice(b"  ")?;
+    put_task(out, names, t)?;
+    put_doing(out, runs, task)?;
+    put_rest(out, names, task, left)?;
+    out.push(b'\n')?;
+    Ok(())
+}
+
+/// Adds the values of a data queue, the oldest first, or that it has none.
+fn put_contents(out: &mut Vec<u8>, kernel: &Kernel, d: Object) -> Result<(), AllocError>
+    ensures { OnOk result (out.new.items ≡ out.old.items ++ spec.contents_text (values kernel.now d)) }
+{
+    if kernel.value_count(d) == 0 {
+        return out.extend_from_slice(b" empty");
+    }
+    put_values(out, kernel, d)
+}
+
+/// Adds the line of a data queue.
+#[tactic(auto, unfolding(crate::specs::Lines::queue_told))]
+fn put_queue(out: &mut Vec<u8>, names: &Names, kernel: &Kernel, d: Object) -> Result<(), AllocError>
+    ensures { OnOk result (out.new.items ≡ out.old.items ++ spec.queue_told names.now d (values kernel.now d)) }
+{
+    out.extend_from_slice(b"  ")?;
+    put_named(out, names, ObjectKind::DataQueue, usize::from(d.number))?;
+    put_contents(out, kernel, d)?;
+    out.push(b'\n')?;
+    Ok(())
+}
+
+/// Adds the processor that holds a spin lock, or that it is free.
+fn put_holder(out: &mut Vec<u8>, holder: Option<Proc>) -> Result<(), AllocError>
+    ensures { OnOk result (out.new.items ≡ out.old.items ++ spec.holder_text holder) }
+{
+    match holder {
+        None => out.extend_from_slice(b" free"),
+        Some(p) => put_processor(out, b" held=P", p),
+    }
+}
+
+/// Adds the line of a spin lock.
+#[tactic(auto, unfolding(crate::specs::Lines::lock_told))]
+fn put_lock(
+    out: &mut Vec<u8>,
+    names: &Names,
+    l: Object,
+    holder: Option<Proc>,
+) -> Result<(), AllocError>
+    ensures { OnOk result (out.new.items ≡ out.old.items ++ spec.lock_told names.now l holder) }
+{
+    out.extend_from_slice(b"  ")?;
+    put_named(out, names, ObjectKind::SpinLock, usize::from(l.number))?;
+    put_holder(out, holder)?;
+    out.push(b'\n')?;
+    Ok(())
+}
+
+/// Adds the line of a handler: its ticks left or that it is stopped, and that it is due.
+#[tactic(auto, unfolding(crate::specs::Lines::handler_told))]
+fn put_handler(
+    out: &mut Vec<u8>,
+    names: &Names,
+    kind: ObjectKind,
+    handler: Object,
+    left: Option<u64>,
+    due: bool,
+) -> Result<(), AllocError>
+    ensures { OnOk result (out.new.items ≡ out.old.items ++ spec.handler_told names.now kind handler left due) }
+{
+    out.extend_from_slice(b"  ")?;
+    put_named(out, names, kind, usize::from(handler.number))?;
+    put_ticks(out, left)?;
+    put_flag(out, due, b" due")?;
+    out.push(b'\n')?;
+    Ok(())
+}
+
+/// Whether these are the same handler.
+fn is_handler(one: Runner, other: Runner) -> bool
+    ensures { result ≡ spec.is_handler one other }
+{
+    match (one, other) {
+        (Runner::Alarm(one), Runner::Alarm(other)) => one.number == other.number,
+        (Runner::Cyclic(one), Runner::Cyclic(other)) => one.number == other.number,
+        _ => false,
+    }
+}
+
+/// Whether a handler is due on this processor.
+fn is_due_on(kernel: &Kernel, handler: Runner, p: Proc) -> bool
+    ensures { result ≡ spec.is_due_on kernel.now handler p }
+{
+    let due = kernel.due(p);
+    due.iter().any(|other| is_handler(handler, *other))
+}
+
+/// Whether a handler is due.
+fn is_due(kernel: &Kernel, handler: Runner) -> bool
+    ensures { result ≡ spec.is_due kernel.now handler }
+{
+    let mut due = false;
+    for index in 0..kernel.processors() {
+        due = due || is_due_on(kernel, handler, Proc::from_index(index));
+    }
+    due
+}
+
+/// Adds the line of a thing, with the ticks that it has left, or with 0 in place of how many they are.
+pub(crate) fn put_line(
+    out: &mut Vec<u8>,
+    names: &Names,
+    kernel: &Kernel,
+    thing: Thing,
+    ticks: bool,
+) -> Result<(), AllocError>
+    ensures { OnOk result (out.new.items ≡ out.old.items ++ spec.thing_line names.now ticks kernel.now thing) }
+{
+    match thing {
+        Thing::Task(t) => {
+            let task = kernel.task(t);
+            let left = left_by(ticks, kernel.wait_left(t));
+            put_task_line(out, names, t, runs(kernel, t), &task, left)
+        }
+        Thing::Semaphore(s) => {
+            let count = u64::from(kernel.semaphore(s).count);
+            put_object(out, names, ObjectKind::Semaphore, s, b" count=", count)
+        }
+        Thing::Eventflag(f) => {
+            let pattern = u64::from(kernel.eventflag(f).pattern);
+            put_object(out, names, ObjectKind::Eventflag, f, b" pattern=", pattern)
+        }
+        Thing::DataQueue(d) => put_queue(out, names, kernel, d),
+        Thing::Pool(m) => {
+            let free = kernel.pool(m).free_blocks();
+            put_object(out, names, ObjectKind::Pool, m, b" free=", free)
+        }
+        Thing::Cyclic(c) => {
+            let left = left_by(ticks, kernel.cyclic_left(c));
+            let due = is_due(kernel, Runner::Cyclic(c));
+            put_handler(out, names, ObjectKind::Cyclic, c, left, due)
+        }
+        Thing::Alarm(a) => {
+            let left = left_by(ticks, kernel.alarm_left(a));
+            let due = is_due(kernel, Runner::Alarm(a));
+            put_handler(out, names, ObjectKind::Alarm, a, left, due)
+        }
+        Thing::SpinLock(l) => put_lock(out, names, l, kernel.holder(l)),
+    }
+}

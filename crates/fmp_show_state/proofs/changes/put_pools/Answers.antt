@@ -1,0 +1,12 @@
+use Rattle.std.proofs.Common.{refl}
+use Rattle.fmp_show_state.specs.Changes.{free_at}
+use Rattle.fmp_show_state.proofs.Lines.{line_added, no_line_yet}
+use Rattle.fmp_show_state.proofs.changes.put_pools.Goals as goal
+
+pub loop-index-init : goal.loop-index-init
+loop-index-init c = no_line_yet (free_at c.args.names.now c.args.kernel.now.pools) c.args.out.now.items
+
+pub loop-index-preserved : goal.loop-index-preserved
+loop-index-preserved c =
+    line_added (free_at c.args.names.now c.args.kernel.now.pools) c.loop-index.index c.args.out.now.items c.loop-index.out.items _ _ c.loop-index.invariant
+    (rw (c.pool.ensures.lists, c.from_index-m.ensures.value) refl) c.in_ok-put_free.ensures

@@ -1,0 +1,10 @@
+use Rattle.std.proofs.Common.{◌<◌, length, arith}
+use Rattle.fmp_rules.specs.Objects.{values}
+use Rattle.fmp_show_state.proofs.Lines.{value_added}
+use Rattle.fmp_show_state.proofs.changes.put_values.Goals as goal
+
+pub loop-index-preserved : goal.loop-index-preserved
+loop-index-preserved c =
+    let vs = values c.args.kernel.now c.args.d in
+    let there : c.loop-index.index < length vs = omega (arith, c.loop-index-test.true, c.value_count-index-end.ensures.lists) in
+    value_added vs c.loop-index.index c.value.result c.loop-index.out.items c.put_value.new.out.items _ there c.value.ensures.lists c.loop-index.invariant c.in_ok-put_value.ensures

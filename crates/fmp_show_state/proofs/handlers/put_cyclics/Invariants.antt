@@ -1,0 +1,7 @@
+use Rattle.std.proofs.Common.{◌≡◌, ◌++◌}
+use Rattle.fmp_show_state.specs.Changes.{cyclic_at, lines_to}
+use Rattle.fmp_show_state.proofs.handlers.put_cyclics.Given as goal
+
+-- the lines so far
+abbrev pub invariant-loop-index : goal.invariant-loop-index
+invariant-loop-index l = l.out.items ≡ l.fn.out.items ++ lines_to (cyclic_at l.names l.kernel.cyclics l.kernel.cyclics_left) l.index

@@ -1,0 +1,7 @@
+use Rattle.std.proofs.Common.{◌≡◌, ◌++◌}
+use Rattle.fmp_show_state.specs.States.{tasks_text}
+use Rattle.fmp_show_state.proofs.tasks.put_tasks.Given as goal
+
+-- the lines so far
+abbrev pub invariant-loop-index : goal.invariant-loop-index
+invariant-loop-index l = l.out.items ≡ l.fn.out.items ++ tasks_text l.names l.kernel l.index

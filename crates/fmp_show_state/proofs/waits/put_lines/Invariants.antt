@@ -1,0 +1,7 @@
+use Rattle.std.proofs.Common.{◌≡◌, ◌++◌}
+use Rattle.fmp_show_state.specs.Waits.{waits_text}
+use Rattle.fmp_show_state.proofs.waits.put_lines.Given as goal
+
+-- the lines so far
+abbrev pub invariant-loop-index : goal.invariant-loop-index
+invariant-loop-index l = l.out.items ≡ l.fn.out.items ++ waits_text l.names l.kernel l.index

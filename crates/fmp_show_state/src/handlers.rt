@@ -1,0 +1,121 @@
+//! The lines of the time event handlers whose ticks left are not those at boot.
+ghost use Rattle.std.specs.Prelude.{◌≡◌, ◌++◌, length, None, OnOk};
+ghost use Rattle.fmp_setup.specs.declared.setup.CyclicSetup.{CyclicSetup};
+ghost use Rattle.fmp_rules.specs.Boot.{phase_left};
+ghost use Rattle.fmp_show_state.specs.Changes as spec;
+
+use fmp_calls::ObjectKind;
+use fmp_codes::Object;
+use fmp_kernel::Kernel;
+use fmp_names::Names;
+use fmp_rules::CyclicSetup;
+use fmp_trace::{put_named, put_number};
+use std::alloc::AllocError;
+
+/// Whether the ticks left are those at boot.
+fn is_same_left(boot: Option<u64>, left: Option<u64>) -> bool
+    ensures { result ≡ spec.is_same_left boot left }
+{
+    match (boot, left) {
+        (None, None) => true,
+        (Some(boot), Some(left)) => boot == left,
+        _ => false,
+    }
+}
+
+/// The ticks left of a cyclic handler at boot, where it is started then.
+fn phase_left(setup: &CyclicSetup) -> Option<u64>
+    ensures { result ≡ phase_left setup.now }
+{
+    if setup.starts {
+        Some(u64::from(setup.phase) + 1)
+    } else {
+        None
+    }
+}
+
+/// Adds the ticks left of a handler, or that it is stopped.
+pub fn put_ticks(out: &mut Vec<u8>, left: Option<u64>) -> Result<(), AllocError>
+    ensures { OnOk result (out.new.items ≡ out.old.items ++ spec.ticks_text left) }
+{
+    match left {
+        None => out.extend_from_slice(b" stopped"),
+        Some(left) => {
+            out.extend_from_slice(b" left=")?;
+            put_number(out, left)
+        }
+    }
+}
+
+/// Adds the line of a handler: its name, and its ticks left or that it is stopped.
+#[tactic(auto, unfolding(crate::specs::Changes::handler_text))]
+fn put_handler(
+    out: &mut Vec<u8>,
+    names: &Names,
+    kind: ObjectKind,
+    handler: Object,
+    left: Option<u64>,
+) -> Result<(), AllocError>
+    ensures { OnOk result (out.new.items ≡ out.old.items ++ spec.handler_text names.now kind handler left) }
+{
+    out.extend_from_slice(b"  ")?;
+    put_named(out, names, kind, usize::from(handler.number))?;
+    put_ticks(out, left)?;
+    out.push(b'\n')?;
+    Ok(())
+}
+
+/// Adds the line of a handler whose ticks left are not those at boot.
+fn put_line(
+    out: &mut Vec<u8>,
+    names: &Names,
+    kind: ObjectKind,
+    handler: Object,
+    boot: Option<u64>,
+    left: Option<u64>,
+) -> Result<(), AllocError>
+    ensures { OnOk result (out.new.items ≡ out.old.items ++ spec.handler_line names.now kind handler boot left) }
+{
+    if is_same_left(boot, left) {
+        return Ok(());
+    }
+    put_handler(out, names, kind, handler, left)
+}
+
+/// Adds the lines of all cyclic handlers whose ticks left are not those at boot.
+pub(crate) fn put_cyclics(
+    out: &mut Vec<u8>,
+    names: &Names,
+    kernel: &Kernel,
+) -> Result<(), AllocError>
+    ensures { OnOk result (out.new.items ≡ out.old.items ++ spec.lines_to (spec.cyclic_at names.now kernel.now.cyclics kernel.now.cyclics_left) (length kernel.now.cyclics)) }
+{
+    for index in 0..kernel.cyclic_count() {
+        let c = Object::from_index(index);
+        let boot = phase_left(&kernel.cyclic(c).setup);
+        put_line(
+            out,
+            names,
+            ObjectKind::Cyclic,
+            c,
+            boot,
+            kernel.cyclic_left(c),
+        )?;
+    }
+    Ok(())
+}
+
+/// Adds the lines of all alarms that are started.
+pub(crate) fn put_alarms(
+    out: &mut Vec<u8>,
+    names: &Names,
+    kernel: &Kernel,
+) -> Result<(), AllocError>
+    ensures { OnOk result (out.new.items ≡ out.old.items ++ spec.lines_to (spec.alarm_at names.now kernel.now.alarms_left) (length kernel.now.alarms)) }
+{
+    for index in 0..kernel.alarm_count() {
+        let a = Object::from_index(index);
+        put_line(out, names, ObjectKind::Alarm, a, None, kernel.alarm_left(a))?;
+    }
+    Ok(())
+}

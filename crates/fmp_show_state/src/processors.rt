@@ -1,0 +1,187 @@
+//! The lines of the processors.
+ghost use Rattle.std.specs.Prelude.{◌≡◌, ◌++◌, length, OnOk, IfOk};
+ghost use Rattle.fmp_rules.specs.World.{processor};
+ghost use Rattle.fmp_kernel_order.specs.Queues.{listed};
+ghost use Rattle.fmp_show_state.specs.States as spec;
+
+use fmp_codes::{Pri, Proc, Runner, Task};
+use fmp_kernel::Kernel;
+use fmp_names::Names;
+use fmp_rules::Processor;
+use fmp_trace::{put_number, put_runner, put_task};
+use std::alloc::{AllocError, Global};
+
+/// Whether a task is the one that runs.
+fn is_running(running: Option<Task>, task: Task) -> bool
+    ensures { result ≡ spec.is_running running task }
+{
+    match running {
+        None => false,
+        Some(other) => task.number == other.number,
+    }
+}
+
+/// Adds those of the tasks that do not run.
+fn add_others(
+    others: &mut Vec<Task>,
+    running: Option<Task>,
+    tasks: &[Task],
+) -> Result<(), AllocError>
+    ensures { OnOk result (others.new.items ≡ others.old.items ++ spec.without_running running tasks.now) }
+{
+    for task in tasks {
+        if !is_running(running, *task) {
+            others.push(*task)?;
+        }
+    }
+    Ok(())
+}
+
+/// Adds the ready tasks of a priority on a processor, without the running one.
+fn add_ready(
+    others: &mut Vec<Task>,
+    running: Option<Task>,
+    kernel: &Kernel,
+    p: Proc,
+    priority: Pri,
+) -> Result<(), AllocError>
+    ensures { OnOk result (others.new.items ≡ others.old.items ++ spec.without_running running (listed.ready kernel.now.order kernel.now.tasks p priority)) }
+{
+    // most priorities have none, and a list is longer than a look
+    if kernel.first_ready(p, priority).is_none() {
+        return Ok(());
+    }
+    add_others(others, running, kernel.ready(p, priority).as_slice())
+}
+
+/// The ready tasks of a processor in their precedence, without the running one.
+fn other_ready(alloc: Global, kernel: &Kernel, p: Proc) -> Result<Vec<Task>, AllocError>
+    ensures { IfOk result (λ v. v.items ≡ spec.ready_to listed kernel.now p 32) }
+{
+    let running = kernel.processor(p).running;
+    let mut others = Vec::new(alloc);
+    for index in 0..32u8 {
+        add_ready(&mut others, running, kernel, p, Pri::new(index + 1))?;
+    }
+    Ok(others)
+}
+
+/// Adds ` ready=` and the names of the tasks with commas between them, or nothing where there is no task.
+fn put_ready(out: &mut Vec<u8>, names: &Names, tasks: &[Task]) -> Result<(), AllocError>
+    ensures { OnOk result (out.new.items ≡ out.old.items ++ spec.ready_from names.now 0 tasks.now) }
+{
+    for (index, task) in tasks.iter().enumerate() {
+        if index == 0 {
+            out.extend_from_slice(b" ready=")?;
+        } else {
+            out.extend_from_slice(b",")?;
+        }
+        put_task(out, names, *task)?;
+    }
+    Ok(())
+}
+
+/// Adds ` due=` and the names of the handlers with commas between them, or nothing where there is no handler.
+fn put_due(out: &mut Vec<u8>, names: &Names, due: &[Runner]) -> Result<(), AllocError>
+    ensures { OnOk result (out.new.items ≡ out.old.items ++ spec.due_from names.now 0 due.now) }
+{
+    for (index, handler) in due.iter().enumerate() {
+        if index == 0 {
+            out.extend_from_slice(b" due=")?;
+        } else {
+            out.extend_from_slice(b",")?;
+        }
+        put_runner(out, names, Some(*handler))?;
+    }
+    Ok(())
+}
+
+/// Adds a word where it holds.
+pub fn put_flag(out: &mut Vec<u8>, holds: bool, word: &[u8]) -> Result<(), AllocError>
+    ensures { OnOk result (out.new.items ≡ out.old.items ++ spec.flag_text holds word.now) }
+{
+    if holds {
+        out.extend_from_slice(word)?;
+    }
+    Ok(())
+}
+
+/// Adds a word for each that holds: that it is CPU-locked, that its dispatching is disabled, that its latch is set.
+#[tactic(auto, unfolding(crate::specs::States::flags_text))]
+fn put_flags(out: &mut Vec<u8>, processor: Processor) -> Result<(), AllocError>
+    ensures { OnOk result (out.new.items ≡ out.old.items ++ spec.flags_text processor) }
+{
+    put_flag(out, processor.locked, b" locked")?;
+    put_flag(out, processor.disabled, b" disabled")?;
+    put_flag(out, processor.latch, b" latch")
+}
+
+/// Adds the name of the running task, or `-` where none runs.
+fn put_running(out: &mut Vec<u8>, names: &Names, running: Option<Task>) -> Result<(), AllocError>
+    ensures { OnOk result (out.new.items ≡ out.old.items ++ spec.running_text names.now running) }
+{
+    match running {
+        None => out.extend_from_slice(b"-"),
+        Some(task) => put_task(out, names, task),
+    }
+}
+
+/// Adds the processor and what it runs.
+#[tactic(auto, unfolding(crate::specs::States::head_text))]
+fn put_head(
+    out: &mut Vec<u8>,
+    names: &Names,
+    p: Proc,
+    running: Option<Task>,
+) -> Result<(), AllocError>
+    ensures { OnOk result (out.new.items ≡ out.old.items ++ spec.head_text names.now p running) }
+{
+    out.extend_from_slice(b"  P")?;
+    put_number(out, u64::from(p.number))?;
+    out.extend_from_slice(b" run=")?;
+    put_running(out, names, running)
+}
+
+/// Adds the line of a processor that has this record, these other tasks that are ready, and these due handlers.
+#[tactic(auto, unfolding(crate::specs::States::processor_text))]
+fn put_line(
+    out: &mut Vec<u8>,
+    names: &Names,
+    p: Proc,
+    processor: Processor,
+    ready: &[Task],
+    due: &[Runner],
+) -> Result<(), AllocError>
+    ensures { OnOk result (out.new.items ≡ out.old.items ++ spec.processor_text names.now p processor ready.now due.now) }
+{
+    put_head(out, names, p, processor.running)?;
+    put_ready(out, names, ready)?;
+    put_flags(out, processor)?;
+    put_due(out, names, due)?;
+    out.push(b'\n')?;
+    Ok(())
+}
+
+/// Adds the lines of all processors.
+pub(crate) fn put_processors(
+    out: &mut Vec<u8>,
+    names: &Names,
+    kernel: &Kernel,
+) -> Result<(), AllocError>
+    ensures { OnOk result (out.new.items ≡ out.old.items ++ spec.processors_text listed names.now kernel.now (length kernel.now.processors)) }
+{
+    for index in 0..kernel.processors() {
+        let p = Proc::from_index(index);
+        let ready = other_ready(*out.allocator(), kernel, p)?;
+        let due = kernel.due(p);
+        put_line(
+            out,
+            names,
+            p,
+            kernel.processor(p),
+            ready.as_slice(),
+            due.as_slice(),
+        )?;
+    }
+    Ok(())
+}

@@ -1,0 +1,52 @@
+//! The lines of the tasks that wait.
+ghost use Rattle.std.specs.Prelude.{◌≡◌, ◌++◌, ◌↔◌, [], length, OnOk};
+ghost use Rattle.fmp_rules.specs.Arrivals.{State};
+ghost use Rattle.fmp_law_lists.specs.Stands.{Stands};
+ghost use Rattle.fmp_show_state.specs.Waits as spec;
+
+use crate::tasks::put_task_words;
+use fmp_codes::Task;
+use fmp_kernel::Kernel;
+use fmp_names::Names;
+use fmp_rules::TaskRecord;
+use std::alloc::AllocError;
+
+/// Adds the line of a task, if it waits.
+fn put_line(
+    out: &mut Vec<u8>,
+    names: &Names,
+    t: Task,
+    task: &TaskRecord,
+    left: Option<u64>,
+) -> Result<(), AllocError>
+    ensures { OnOk result (out.new.items ≡ out.old.items ++ spec.wait_line names.now t task.now left) }
+{
+    if task.wait.is_some() {
+        put_task_words(out, names, t, task, left)?;
+    }
+    Ok(())
+}
+
+/// Adds the lines of all tasks that wait.
+fn put_lines(out: &mut Vec<u8>, names: &Names, kernel: &Kernel) -> Result<(), AllocError>
+    ensures { OnOk result (out.new.items ≡ out.old.items ++ spec.waits_text names.now kernel.now (length kernel.now.tasks)) }
+{
+    for index in 0..kernel.task_count() {
+        let t = Task::from_index(index);
+        put_line(out, names, t, &kernel.task(t), kernel.wait_left(t))?;
+    }
+    Ok(())
+}
+
+/// Adds a line for each task that waits, in the order of the tasks: its name, what it waits for, and all else that is told of it, as in the
+/// line of the state that [`put_state`](crate::put_state) writes, without the blanks before it. After an error a beginning of these lines
+/// may have been added.
+pub fn put_waiting(out: &mut Vec<u8>, names: &Names, kernel: &Kernel) -> Result<(), AllocError>
+    ensures lists { OnOk result (out.new.items ≡ out.old.items ++ spec.waiting_lines names.now kernel.now) }
+    ensures model { (m : State) → Stands kernel.now m → OnOk result (out.new.items ≡ out.old.items ++ spec.waiting_lines names.now m) }
+
+    // There is no line just where no task waits.
+    ensures none { (spec.waiting_lines names.now kernel.now ≡ []) ↔ spec.NoneWaits kernel.now }
+{
+    put_lines(out, names, kernel)
+}

@@ -1,7 +1,0 @@
-use Rattle.std.proofs.Common.{◌≡◌, ◌++◌}
-use Rattle.fmp_states.specs.Changes.{lines_to, queue_at}
-use Rattle.fmp_states.proofs.changes.put_queues.Given as goal
-
--- the lines so far
-abbrev pub invariant-loop-index : goal.invariant-loop-index
-invariant-loop-index l = l.out.items ≡ l.fn.out.items ++ lines_to (queue_at l.names l.kernel.contents) l.index

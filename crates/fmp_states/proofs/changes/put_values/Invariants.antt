@@ -1,8 +1,0 @@
-use Rattle.std.proofs.Common.{◌≡◌, ◌++◌, drop}
-use Rattle.fmp_machine.specs.Objects.{values}
-use Rattle.fmp_states.specs.Changes.{values_from}
-use Rattle.fmp_states.proofs.changes.put_values.Given as goal
-
--- what is written, and what is to come
-abbrev pub invariant-loop-index : goal.invariant-loop-index
-invariant-loop-index l = l.out.items ++ values_from l.index (drop l.index (values l.kernel l.d)) ≡ l.fn.out.items ++ values_from 0 (values l.kernel l.d)

@@ -1,7 +1,0 @@
-use Rattle.std.proofs.Common.{◌≡◌, ◌++◌}
-use Rattle.fmp_states.specs.Changes.{alarm_at, lines_to}
-use Rattle.fmp_states.proofs.handlers.put_alarms.Given as goal
-
--- the lines so far
-abbrev pub invariant-loop-index : goal.invariant-loop-index
-invariant-loop-index l = l.out.items ≡ l.fn.out.items ++ lines_to (alarm_at l.names l.kernel.alarms_left) l.index

@@ -1,8 +1,0 @@
-use Rattle.std.proofs.Common.{◌≡◌, ◌++◌}
-use Rattle.fmp_listed.specs.Queues.{listed}
-use Rattle.fmp_states.specs.States.{processors_text}
-use Rattle.fmp_states.proofs.processors.put_processors.Given as goal
-
--- the lines so far
-abbrev pub invariant-loop-index : goal.invariant-loop-index
-invariant-loop-index l = l.out.items ≡ l.fn.out.items ++ processors_text listed l.names l.kernel l.index

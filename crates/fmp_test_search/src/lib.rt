@@ -1,0 +1,236 @@
+//! Tests of going through all places: a board whose answers are known by hand.
+#![tactic(auto)]
+
+ghost use Rattle.std.specs.Prelude.{◌≡◌, ◌≤◌, ◌+◌, ◌*◌, ◌%◌, ◌^◌, ◌<◌, ℕ};
+ghost use Rattle.fmp_test_search.specs.Board as board;
+
+use fmp_search::Space;
+use std::alloc::AllocError;
+
+/// One who stands on the board, and looks for a place.
+#[derive(Drop)]
+pub struct Board {
+    at: u8,
+    goal: u8,
+}
+
+impl Space for Board {
+    ghost Place = { ℕ × ℕ };
+
+    ghost place = { λ b. (b.at, b.goal) };
+
+    ghost origin = { λ b. (1, b.goal) };
+
+    ghost after = { board.after };
+
+    ghost wanted = { board.wanted };
+
+    ghost room = { λ b. 2 ^ 31 };
+
+    fn restart(&mut self) -> Result<(), AllocError> {
+        self.at = 1;
+        Ok(())
+    }
+
+    fn may_go(&self, step: u8) -> bool {
+        step < 2
+    }
+
+    fn go(&mut self, step: u8) -> Result<bool, AllocError> {
+        match step {
+            0 => {
+                self.at = (self.at % 100 + 1) % 100;
+                Ok(true)
+            }
+            1 => {
+                self.at = 2 * (self.at % 100) % 100;
+                Ok(true)
+            }
+            _ => Ok(false),
+        }
+    }
+
+    fn again(&mut self, step: u8) {
+        let place = self.at % 100;
+        self.at = if step == 0 {
+            (place + 1) % 100
+        } else {
+            2 * place % 100
+        };
+    }
+
+    fn copy_from(&mut self, other: &Self) -> Result<(), AllocError> {
+        self.at = other.at;
+        Ok(())
+    }
+
+    fn steps(&self) -> u8 {
+        2
+    }
+
+    fn is_wanted(&self) -> bool {
+        self.at == self.goal
+    }
+
+    fn is_same(&self, other: &Self) -> bool {
+        self.at == other.at && self.goal == other.goal
+    }
+
+    fn hash(&self) -> u64 {
+        u64::from(self.at % 8)
+    }
+}
+
+#[cfg(test)]
+mod tests {
+    use crate::Board;
+    use fmp_search::{Answer, Choice, Quiet, Roots, explore, explore_along};
+    use std::alloc::{AllocError, Global};
+
+    /// What `explore` gives from place 1, where `goal` is looked for in up to `turns` steps and with room for `most` places.
+    /// The error is want of memory.
+    fn search(alloc: Global, goal: u8, turns: u32, most: u32) -> Result<(Answer, Roots), AllocError>
+        requires { turns < 2 ^ 31 }
+    {
+        let mut walker = Board { at: 1, goal };
+        let mut base = Board { at: 1, goal };
+        let mut other = Board { at: 1, goal };
+        let mut trunk = Board { at: 1, goal };
+        explore(
+            alloc,
+            &mut walker,
+            &mut base,
+            &mut other,
+            &mut trunk,
+            &mut Quiet,
+            turns,
+            most,
+        )
+    }
+
+    /// What `explore` answers so. The error is want of memory.
+    fn answer(alloc: Global, goal: u8, turns: u32, most: u32) -> Result<Answer, AllocError>
+        requires { turns < 2 ^ 31 }
+    {
+        let (answer, _roots) = search(alloc, goal, turns, most)?;
+        Ok(answer)
+    }
+
+    /// What `explore_along` answers likewise, where these are the first choices. The error is want of memory.
+    fn answer_along(alloc: Global, goal: u8, choices: &[Choice]) -> Result<Answer, AllocError> {
+        let walker = Board { at: 1, goal };
+        let base = Board { at: 1, goal };
+        let other = Board { at: 1, goal };
+        let trunk = Board { at: 1, goal };
+        explore_along(
+            alloc, walker, base, other, trunk, choices, &mut Quiet, 50, 400,
+        )
+    }
+
+    // two doublings first: 1, 2, 4, then 5, 6, 12, 24
+    #[test]
+    fn by_a_shortest_run_of_those_that_begin_so(rt: HostRuntime) {
+        let doubled = Choice { step: 1, other: 3 };
+        match answer_along(rt.alloc(), 24, &[doubled, doubled]).expect(&rt, "memory") {
+            Answer::Found(steps) => assert_eq!(rt; steps.len(), 6),
+            _ => panic!(rt; "found"),
+        }
+    }
+
+    // 2 is come to by the first step, but counts only behind both
+    #[test]
+    fn not_before_all_choices_are_made(rt: HostRuntime) {
+        let doubled = Choice { step: 1, other: 1 };
+        match answer_along(rt.alloc(), 2, &[doubled, doubled]).expect(&rt, "memory") {
+            Answer::Found(steps) => assert!(rt; steps.len() > 2),
+            _ => panic!(rt; "found"),
+        }
+    }
+
+    // there is no step 2
+    #[test]
+    fn never_by_a_step_that_cannot_be_made(rt: HostRuntime) {
+        let none = Choice { step: 2, other: 3 };
+        assert!(rt;
+            matches!(
+                answer_along(rt.alloc(), 24, &[none]).expect(&rt, "memory"),
+                Answer::Never
+            )
+        );
+    }
+
+    // 1, 2, 3, 6, 12, 24
+    #[test]
+    fn by_a_shortest_run(rt: HostRuntime) {
+        match answer(rt.alloc(), 24, 50, 200).expect(&rt, "memory") {
+            Answer::Found(steps) => assert_eq!(rt; steps.len(), 5),
+            _ => panic!(rt; "found"),
+        }
+    }
+
+    // 100 is no place of the board, whose places are all found by 50 steps
+    #[test]
+    fn never(rt: HostRuntime) {
+        assert!(rt;
+            matches!(
+                answer(rt.alloc(), 100, 50, 200).expect(&rt, "memory"),
+                Answer::Never
+            )
+        );
+    }
+
+    #[test]
+    fn not_within(rt: HostRuntime) {
+        assert!(rt;
+            matches!(
+                answer(rt.alloc(), 24, 4, 200).expect(&rt, "memory"),
+                Answer::NotWithin(4)
+            )
+        );
+    }
+
+    // 1, 2, then 3 and 4: the third place more does not fit
+    #[test]
+    fn without_room(rt: HostRuntime) {
+        assert!(rt;
+            matches!(
+                answer(rt.alloc(), 24, 50, 2).expect(&rt, "memory"),
+                Answer::NotWithin(1)
+            )
+        );
+    }
+
+    #[test]
+    fn where_it_stands(rt: HostRuntime) {
+        match answer(rt.alloc(), 1, 50, 200).expect(&rt, "memory") {
+            Answer::Found(steps) => assert_eq!(rt; steps.len(), 0),
+            _ => panic!(rt; "found"),
+        }
+    }
+    // from 1 both steps lead to 2, and from there one to 3 and one to 4
+    #[test]
+    fn the_last_places(rt: HostRuntime) {
+        let (_answer, roots) = search(rt.alloc(), 24, 2, 200).expect(&rt, "memory");
+        assert_eq!(rt; roots.count(), 2);
+        assert!(rt; 1 < roots.count());
+        let steps = roots.steps(rt.alloc(), 1).expect(&rt, "memory");
+        assert_eq!(rt; steps.len(), 2);
+    }
+
+    // where no step may be made there is one place, and to that none leads
+    #[test]
+    fn the_first_place(rt: HostRuntime) {
+        let (_answer, roots) = search(rt.alloc(), 24, 0, 200).expect(&rt, "memory");
+        assert_eq!(rt; roots.count(), 1);
+        assert!(rt; 0 < roots.count());
+        let steps = roots.steps(rt.alloc(), 0).expect(&rt, "memory");
+        assert_eq!(rt; steps.len(), 0);
+    }
+
+    // 2 is found by one step
+    #[test]
+    fn no_places_where_it_is_found(rt: HostRuntime) {
+        let (_answer, roots) = search(rt.alloc(), 2, 4, 200).expect(&rt, "memory");
+        assert_eq!(rt; roots.count(), 0);
+    }
+}

@@ -1,0 +1,20 @@
+-- The script of a function, where scripts are looked up.
+use Rattle.std.proofs.Common.{◌≡◌, ◌==◌, ℕ, List, [], ◌∷◌, Option, None, Some, map, refl, inl, inr}
+use Rattle.std.specs.Prelude.{find}
+use Rattle.std.proofs.lemmas.Bool.{cases_Bool}
+use Rattle.fmp_codes.specs.declared.calls.Call.{Call}
+use Rattle.fmp_text_scripts.specs.declared.script.Script.{Script}
+use Rattle.fmp_text_scripts.specs.Scripts.{script_of}
+use Rattle.fmp_text_scripts.specs.Views.{steps_of}
+
+abbrev pub steps_found : Option Script → List Call
+steps_found None = []
+steps_found (Some s) = s.steps.items
+
+pub script_found : (f : ℕ) (scripts : List Script) → script_of (map steps_of scripts) f ≡ steps_found (find (λ s. s.function == f) scripts)
+script_found f [] = refl
+script_found f (s ∷ ss) =
+    elim (cases_Bool (s.function == f)) [
+      | inl t ↦ rw t refl
+      | inr n ↦ rw n (script_found f ss)
+    ]

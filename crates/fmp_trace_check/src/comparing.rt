@@ -1,0 +1,167 @@
+//! The lines of a trace that are not the plain machine's own, with those.
+ghost use Rattle.std.specs.Prelude.{◌≡◌, ◌≤◌, ◌+◌, ◌++◌, ◌⊎◌, [], List, length, Ok, IfOk, IfErr, OnOk};
+ghost use Rattle.fmp_bytes.specs.Bytes.{pieces_of};
+ghost use Rattle.fmp_codes.specs.declared.records.Event.{Event as AnyEvent};
+ghost use Rattle.fmp_codes.specs.declared.records.Record.{Record as AnyRecord};
+ghost use Rattle.fmp_text.specs.Events.{IsMemory};
+ghost use Rattle.fmp_text.specs.Limits.{most_bytes};
+ghost use Rattle.fmp_trace_check.specs.Checking.{Judges, PrintsAnswers};
+ghost use Rattle.fmp_trace_check.specs.Comparing as spec;
+ghost use Rattle.fmp_trace_check.specs.Differences.{Contrasts, difference_text, hunk_head};
+ghost use Rattle.fmp_trace_check.specs.Walking.{seen};
+ghost use Rattle.fmp_trace.specs.Prints.{PrintsWithin, FirstFault};
+ghost use Rattle.fmp_trace.specs.Reading.{GivesOrFails};
+
+use crate::checking::Verdict;
+use crate::walking::{Player, Stop, walk};
+use crate::watching::Nobody;
+use fmp_rules::Config;
+use fmp_text::{Names, TextFault};
+use fmp_trace::{next_line, put_number};
+use std::alloc::{AllocError, Global};
+
+/// Which of the lines that differ are shown, and how.
+#[derive(Clone, Copy, PartialEq, Eq)]
+pub enum Shown {
+    /// The first one: what stands there behind `- `, and the machine's own line behind `+ `.
+    First,
+    /// Each of them, as a hunk of a unified diff.
+    Each,
+}
+
+/// A trace held against what the machine answers to its events.
+#[derive(Drop)]
+pub struct Comparison {
+    /// Whether all lines are the machine's.
+    pub verdict: Verdict,
+    /// The lines that are shown, each ended by a line feed.
+    pub lines: Vec<u8>,
+}
+
+/// Adds a line of a trace behind `- `, and the machine's own line behind `+ `.
+fn put_pair(out: &mut Vec<u8>, line: &[u8], own: &[u8]) -> Result<(), AllocError>
+    ensures { OnOk result (out.new.items ≡ out.old.items ++ difference_text Shown.First (record { number = 0; line = line.now; own = own.now })) }
+{
+    out.extend_from_slice(b"- ")?;
+    out.extend_from_slice(line)?;
+    out.extend_from_slice(b"\n+ ")?;
+    out.extend_from_slice(own)?;
+    out.extend_from_slice(b"\n")?;
+    Ok(())
+}
+
+/// Adds the head of a hunk of a unified diff, for line n alone.
+#[tactic(auto, unfolding(crate::specs::Differences::hunk_head))]
+fn put_hunk_head(out: &mut Vec<u8>, n: u32) -> Result<(), AllocError>
+    ensures { OnOk result (out.new.items ≡ out.old.items ++ hunk_head n) }
+{
+    out.extend_from_slice(b"@@ -")?;
+    put_number(out, u64::from(n))?;
+    out.extend_from_slice(b",1 +")?;
+    put_number(out, u64::from(n))?;
+    out.extend_from_slice(b",1 @@\n")?;
+    Ok(())
+}
+
+/// Adds line n of a trace and the machine's own line, as a hunk of a unified diff.
+fn put_hunk(out: &mut Vec<u8>, n: u32, line: &[u8], own: &[u8]) -> Result<(), AllocError>
+    ensures { OnOk result (out.new.items ≡ out.old.items ++ difference_text Shown.Each (record { number = n; line = line.now; own = own.now })) }
+{
+    put_hunk_head(out, n)?;
+    out.extend_from_slice(b"-")?;
+    out.extend_from_slice(line)?;
+    out.extend_from_slice(b"\n+")?;
+    out.extend_from_slice(own)?;
+    out.extend_from_slice(b"\n")?;
+    Ok(())
+}
+
+/// Adds a hunk for each line of a text that is not the machine's own. The text begins behind line n.
+fn put_hunks(
+    out: &mut Vec<u8>,
+    player: &mut Player,
+    names: &Names,
+    n: u32,
+    text: &[u8],
+) -> Result<(), AllocError>
+    requires steps { player.old.plain.steps ≤ n }
+    requires left { n + length text.now ≤ most_bytes }
+    ensures { OnOk result (out.new.items ≡ out.old.items ++ spec.hunks_from names.now player.old.plain.state (n + 1) (pieces_of 10 text.now)) }
+{
+    let mut number = n;
+    let mut rest = text;
+    while let Some((line, after)) = next_line(rest) {
+        number += 1;
+        if !player.play(names, number, line)? {
+            put_hunk(out, number, line, player.own.as_slice())?;
+        }
+        rest = after;
+    }
+    Ok(())
+}
+
+/// Adds what is shown of lines that differ, where this is the first of them.
+fn put_shown(out: &mut Vec<u8>, shown: Shown, names: &Names, stop: Stop) -> Result<(), AllocError>
+    requires steps { stop.player.plain.steps ≤ stop.number }
+    requires left { stop.number + length stop.rest.now ≤ most_bytes }
+    ensures { OnOk result (out.new.items ≡ out.old.items ++ spec.shown_from shown names.now (seen stop.entry.number stop.entry.line.now stop.entry.player.own.items stop.entry.player.plain.state (pieces_of 10 stop.entry.rest.now))) }
+{
+    let Stop {
+        mut player,
+        number,
+        line,
+        rest,
+    } = stop;
+    match shown {
+        Shown::First => put_pair(out, line, player.own.as_slice()),
+        Shown::Each => {
+            put_hunk(out, number, line, player.own.as_slice())?;
+            put_hunks(out, &mut player, names, number, rest)
+        }
+    }
+}
+
+/// The verdict on a trace, with the lines that are shown of it.
+#[tactic(auto, unfolding(crate::specs::Comparing::found_in))]
+fn comparison_of(
+    alloc: Global,
+    config: &Config,
+    text: &[u8],
+    shown: Shown,
+) -> Result<Comparison, TextFault>
+    ensures { GivesOrFails spec.found_of result (spec.found_in shown config.now text.now) }
+{
+    let mut found = Comparison {
+        verdict: Verdict::Yes,
+        lines: Vec::new(alloc),
+    };
+    if let Some(stop) = walk(alloc, config, text, &mut Nobody {})? {
+        found.verdict = Verdict::No(stop.number);
+        put_shown(&mut found.lines, shown, config.names(), stop)?;
+    }
+    Ok(found)
+}
+
+/// Compares a trace line by line with what the plain machine answers to the trace's own events, whatever it is that the
+/// trace says. It keeps what is shown, and no list of records.
+///
+/// A fault is that of `read_trace`, wherever in the text it is: only a text without one is compared.
+pub fn compare_lines(
+    alloc: Global,
+    config: &Config,
+    text: &[u8],
+    shown: Shown,
+) -> Result<Comparison, TextFault>
+    // The lines are those in which the text differs from the machine's, and the verdict is that of `check`.
+    ensures lines { IfOk result (λ found. Contrasts shown config.now text.now found.verdict found.lines.items) }
+    ensures verdict { IfOk result (λ found. Judges config.now text.now found.verdict) }
+    // A text that prints records is compared, unless memory ran out.
+    ensures complete { (records : List AnyRecord) → PrintsWithin config.now.names text.now records → IfErr result IsMemory }
+    // What the machine answers to any events, within the limits of texts, is found to be its own.
+    ensures answers { (events : List AnyEvent) → PrintsAnswers config.now text.now events → GivesOrFails spec.found_of result (Ok (Verdict.Yes, [])) }
+    // The fault is the first one, or want of memory.
+    ensures fault { IfErr result (λ fault. FirstFault config.now.names text.now fault ⊎ IsMemory fault) }
+{
+    config.names().validity();
+    comparison_of(alloc, config, text, shown)
+}

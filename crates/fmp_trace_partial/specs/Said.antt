@@ -1,0 +1,60 @@
+-- What a line of a partial trace is guessed to say: what it prints, where it partly prints a record, and anything or nothing else.
+use Rattle.std.specs.Prelude.{ℕ, Bool, true, false, not, ◌&&◌, ◌||◌, List, length, Option, None, Some, ◌==◌, if◌then◌else◌, is_some, codes}
+use Rattle.std.specs.Option.{option_map_or}
+use Rattle.std.specs.Str.{bytes_eq}
+use Rattle.fmp_codes.specs.declared.numbers.Proc.{Proc}
+use Rattle.fmp_codes.specs.declared.records.Record.{Record}
+use Rattle.fmp_bytes.specs.declared.classes.Class.TheVariants.{Word}
+use Rattle.fmp_bytes.specs.Bytes.{prefix, after, behind, cut_at, letter_p, open_parenthesis, space}
+use Rattle.fmp_text.specs.Argument.{◌>>=◌}
+use Rattle.fmp_text.specs.Lines.{processor_numbered}
+use Rattle.fmp_names.specs.Names.{NameLists}
+use Rattle.fmp_trace.specs.Guess.{guess_event, guess_runner}
+use Rattle.fmp_trace_partial.specs.declared.kept.Kept.{Kept}
+use Rattle.fmp_trace_partial.specs.declared.telling.Said.{Said}
+
+-- ---- where the runner is left out
+
+-- the text begins with a word and a parenthesis
+unfoldable pub opens : List ℕ → Bool
+opens text = is_some (behind open_parenthesis (after Word text))
+
+-- the text begins with an event: a call, or one of the three words that are events
+unfoldable pub begins_event : List ℕ → Bool
+begins_event text = opens text || (bytes_eq (prefix Word text) (codes "tick") || (bytes_eq (prefix Word text) (codes "ipi") || bytes_eq (prefix Word text) (codes "ret_hdr")))
+
+-- what stands behind the processor begins with a runner: it is no call, and an event follows its first word
+unfoldable pub tells_runner : List ℕ → Bool
+tells_runner text = not (opens text) && option_map_or begins_event (cut_at space text).1 false
+
+-- ---- a line
+
+-- what a line writes that says this record
+abbrev pub kept_of : Bool → Bool → Record → Kept
+kept_of number runner r =
+    record { number = number; runner = runner; releases = not (length r.releases == 0); lost = is_some r.lost; run_change = is_some r.run_change; requests = not (length r.requests == 0) }
+
+unfoldable pub guess_from : NameLists → Bool → Proc → List ℕ → Option Record
+guess_from names runner p text = if runner then guess_runner names p text else guess_event names None p text
+
+-- what a line says from the number of its processor on
+unfoldable pub guess_on : NameLists → Bool → List ℕ → Option Said
+guess_on names number digits = do
+  rest ← (cut_at space digits).1
+  p ← processor_numbered names (cut_at space digits).0
+  r ← guess_from names (tells_runner rest) p rest
+  Some (record { kept = kept_of number (tells_runner rest) r; entry = r })
+
+unfoldable pub guess_numbered : NameLists → List ℕ → Option Said
+guess_numbered names line = do
+  rest ← (cut_at space line).1
+  digits ← behind letter_p rest
+  guess_on names true digits
+
+abbrev pub guess_line : NameLists → List ℕ → Option (List ℕ) → Option Said
+guess_line names line None = guess_numbered names line
+guess_line names line (Some digits) = guess_on names false digits
+
+-- what a line says, whatever its number
+unfoldable pub guess_said : NameLists → List ℕ → Option Said
+guess_said names line = guess_line names line (behind letter_p line)

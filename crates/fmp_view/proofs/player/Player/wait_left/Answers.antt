@@ -1,5 +1,0 @@
-use Rattle.fmp_view.proofs.Ticked.{few_left}
-use Rattle.fmp_view.proofs.player.Player.wait_left.Goals as goal
-
-pub returns-clause-few : goal.returns-clause-few
-returns-clause-few c = rw c.wait_left.ensures (few_left _ (rw c.machine.ensures (c.self.invariant.safe.counts.waits c.args.t)))

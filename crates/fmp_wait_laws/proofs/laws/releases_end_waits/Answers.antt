@@ -1,5 +1,0 @@
-use Rattle.fmp_wait_laws.proofs.Booted.{releases_fit}
-use Rattle.fmp_wait_laws.proofs.laws.releases_end_waits.Goals as goal
-
-pub returns : goal.returns
-returns c = λ c events valid on. releases_fit c valid events on

@@ -1,7 +1,0 @@
-use Rattle.std.proofs.Common.{List, subst}
-use Rattle.clap.specs.Words.{Row}
-use Rattle.fmpsim_cli.specs.Cli.{IsCalls}
-use Rattle.fmpsim_cli.proofs.parse_calls.Goals as goal
-
-pub returns : goal.returns
-returns c = subst (λ (r : List Row). IsCalls r c.calls_in.result) c.in_ok-matches.ensures c.calls_in.ensures

@@ -1,7 +1,0 @@
-use Rattle.std.proofs.Common.{List, subst}
-use Rattle.clap.specs.Words.{Row}
-use Rattle.fmpsim_cli.specs.Cli.{IsView}
-use Rattle.fmpsim_cli.proofs.parse_view.Goals as goal
-
-pub returns : goal.returns
-returns c = subst (λ (r : List Row). IsView r c.view_in.result) c.in_ok-matches.ensures c.view_in.ensures

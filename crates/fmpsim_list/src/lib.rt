@@ -1,9 +1,0 @@
-//! The run that tells what was read of a configuration, from bytes to bytes.
-//!
-//! [`run_list`] reads a configuration and writes its listing, which `specs/Listing` of `fmp_listing` says. What the run reads and writes is
-//! stated in `specs/Runs`.
-#![tactic(auto)]
-
-mod run;
-
-pub use run::run_list;
