@@ -2,7 +2,7 @@
 use fmp_codes::Mode;
 
 /// The kinds of objects.
-#[derive(Clone, Copy, PartialEq, Eq)]
+#[derive(Clone, Copy)]
 pub enum ObjectKind {
     Task,
     Semaphore,
@@ -49,14 +49,14 @@ impl ObjectKind {
 }
 
 /// What a name is a name of. Functions have a name space of their own.
-#[derive(Clone, Copy, PartialEq, Eq)]
+#[derive(Clone, Copy)]
 pub enum NameKind {
     Object(ObjectKind),
     Function,
 }
 
 /// What an argument of a call stands for.
-#[derive(Clone, Copy, PartialEq, Eq)]
+#[derive(Clone, Copy)]
 pub enum ArgumentKind {
     /// The number of an object.
     Object(ObjectKind),

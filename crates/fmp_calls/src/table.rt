@@ -122,7 +122,7 @@ pub const MOST_ARGUMENTS: usize = 4;
 pub type Values = ArrayVec<Value, MOST_ARGUMENTS>;
 
 /// How a call is written.
-#[derive(Clone, Copy, PartialEq, Eq)]
+#[derive(Clone, Copy)]
 pub struct CallForm {
     /// Its name.
     pub text: &'static [u8],

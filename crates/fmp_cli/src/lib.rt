@@ -370,7 +370,7 @@ pub struct Paths<'a> {
 }
 
 /// What is written of each event.
-#[derive(Clone, Copy, PartialEq, Eq)]
+#[derive(Clone, Copy)]
 pub enum Told {
     /// Its line of the trace.
     Line,
@@ -379,7 +379,7 @@ pub enum Told {
 }
 
 /// What is asked of a trace.
-#[derive(Clone, Copy, PartialEq, Eq)]
+#[derive(Clone, Copy)]
 pub enum Asked {
     /// Whether it is the machine's.
     Verdict,

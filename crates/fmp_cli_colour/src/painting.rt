@@ -8,7 +8,7 @@ use fmp_bytes::{Class, all_of, cut};
 use fmp_run_devices::{Failed, Sink, write_all};
 
 /// What a word of a line tells.
-#[derive(Clone, Copy, PartialEq, Eq)]
+#[derive(Clone, Copy)]
 pub enum Mark {
     /// Nothing that has a colour.
     Plain,

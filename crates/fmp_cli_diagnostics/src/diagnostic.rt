@@ -2,7 +2,7 @@
 use std::fmt;
 
 /// Where a fault is in its text, as far as that is known. Lines and columns count from 1, and a column counts bytes.
-#[derive(Clone, Copy, PartialEq, Eq)]
+#[derive(Clone, Copy)]
 pub enum Spot {
     /// The fault is in no line.
     Nowhere,

@@ -3,7 +3,7 @@ ghost use Rattle.std.specs.Prelude.{◌≡◌, filter, not};
 ghost use Rattle.fmp_cli_diagnostics.specs.Options as spec;
 
 /// Which form fault lines have.
-#[derive(Clone, Copy, PartialEq, Eq)]
+#[derive(Clone, Copy)]
 pub enum LineForm {
     /// That of this program: `fmpsim: machine.cfg: line 4: F3 unsupported API CRE_MTX`.
     Plain,

@@ -6,7 +6,7 @@ ghost use Rattle.fmp_cli_help.specs.Words as spec;
 use std::alloc::AllocError;
 
 /// What a service call answers.
-#[derive(Clone, Copy, PartialEq, Eq)]
+#[derive(Clone, Copy)]
 pub enum AnswerWord {
     /// `E_OK`.
     Accepted,
@@ -35,7 +35,7 @@ pub enum AnswerWord {
 }
 
 /// What else a trace or an event has.
-#[derive(Clone, Copy, PartialEq, Eq)]
+#[derive(Clone, Copy)]
 pub enum TraceWord {
     /// `idle`.
     Idle,
@@ -60,7 +60,7 @@ pub enum TraceWord {
 }
 
 /// An attribute, or a constant that stands for a number.
-#[derive(Clone, Copy, PartialEq, Eq)]
+#[derive(Clone, Copy)]
 pub enum SetupWord {
     /// `TA_NULL`.
     NoAttribute,
@@ -97,7 +97,7 @@ pub enum SetupWord {
 }
 
 /// A word of the texts that is no call, no statement and no fault.
-#[derive(Clone, Copy, PartialEq, Eq)]
+#[derive(Clone, Copy)]
 pub enum Word {
     /// An answer.
     Answer(AnswerWord),

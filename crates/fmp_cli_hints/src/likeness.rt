@@ -11,7 +11,7 @@ use fmp_text::TextKind;
 use std::alloc::AllocError;
 
 /// What a line looks like.
-#[derive(Clone, Copy, PartialEq, Eq)]
+#[derive(Clone, Copy)]
 pub enum Likeness {
     /// The first line of a text with a byte order mark before it.
     Marked,

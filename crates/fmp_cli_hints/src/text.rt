@@ -18,7 +18,7 @@ use fmp_text::{Names, TextFault, TextKind, without_return};
 use std::alloc::{AllocError, Global};
 
 /// The texts that are read beside a configuration.
-#[derive(Clone, Copy, PartialEq, Eq)]
+#[derive(Clone, Copy)]
 pub enum TextForm {
     Events,
     Scripts,

@@ -11,7 +11,7 @@ use itoa::Buffer;
 use std::alloc::AllocError;
 
 /// What is wanted at a place of a line.
-#[derive(Clone, Copy, PartialEq, Eq)]
+#[derive(Clone, Copy)]
 pub enum Wanted {
     /// A byte that may stand in a line.
     LineByte,

@@ -8,7 +8,7 @@ use crate::found::option_in;
 use clap::ArgMatches;
 
 /// When a trace is coloured.
-#[derive(Clone, Copy, PartialEq, Eq)]
+#[derive(Clone, Copy)]
 pub enum Colour {
     /// Where standard output is a terminal, and `NO_COLOR` is not set.
     Auto,

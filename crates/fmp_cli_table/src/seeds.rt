@@ -10,7 +10,7 @@ use crate::found::option_in;
 use clap::ArgMatches;
 
 /// The seeds that a run goes through.
-#[derive(Clone, Copy, PartialEq, Eq)]
+#[derive(Clone, Copy)]
 pub enum Seeds {
     /// None are given.
     Unasked,

@@ -23,7 +23,7 @@ use fmp_setup::{
 use std::alloc::Global;
 
 /// How far a text has come.
-#[derive(Clone, Copy, PartialEq, Eq)]
+#[derive(Clone, Copy)]
 pub enum Phase {
     /// Before the number of processors.
     Start,
@@ -34,7 +34,7 @@ pub enum Phase {
 }
 
 /// A class whose statements follow, and the line where it begins.
-#[derive(Clone, Copy, PartialEq, Eq)]
+#[derive(Clone, Copy)]
 pub struct OpenClass {
     pub line: u32,
     pub class: Class,

@@ -10,7 +10,7 @@ use fmp_names::Names;
 use fmp_setup::{Class, Parts, is_class_of};
 
 /// The numbers of a statement, 0 where it has none.
-#[derive(Clone, Copy, PartialEq, Eq)]
+#[derive(Clone, Copy)]
 pub struct Numbers {
     pub first: u64,
     pub second: u64,

@@ -7,7 +7,7 @@ use crate::fault::{ConfigKind, Fault};
 use crate::word::Word;
 
 /// An attribute.
-#[derive(Clone, Copy, PartialEq, Eq)]
+#[derive(Clone, Copy)]
 pub enum Attribute {
     /// `TA_NULL`: nothing.
     Null,
@@ -28,7 +28,7 @@ pub enum Attribute {
 }
 
 /// What the attributes of an object say together.
-#[derive(Clone, Copy, PartialEq, Eq)]
+#[derive(Clone, Copy)]
 pub struct Attributes {
     /// It is started at boot.
     pub starts: bool,

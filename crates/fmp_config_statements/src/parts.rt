@@ -7,7 +7,7 @@ use fmp_config_tokens::{Token, TokenKind};
 use fmp_names::is_name;
 
 /// A word of a statement, by what it stands for.
-#[derive(Clone, Copy, PartialEq, Eq)]
+#[derive(Clone, Copy)]
 pub enum Item {
     /// The name of a class or an object.
     Name,
@@ -26,7 +26,7 @@ pub enum Item {
 }
 
 /// A part of a statement.
-#[derive(Clone, Copy, PartialEq, Eq)]
+#[derive(Clone, Copy)]
 pub enum Part {
     /// This byte.
     Mark(u8),
@@ -41,7 +41,7 @@ pub enum Part {
 }
 
 /// What has to follow in a part of a statement.
-#[derive(Clone, Copy, PartialEq, Eq)]
+#[derive(Clone, Copy)]
 pub enum Scan {
     Mark(u8),
     One(Item),

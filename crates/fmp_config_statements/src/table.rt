@@ -8,7 +8,7 @@ use crate::parts::{Item, Part};
 use fmp_calls::ObjectKind;
 
 /// The statements.
-#[derive(Clone, Copy, PartialEq, Eq)]
+#[derive(Clone, Copy)]
 pub enum StatementName {
     Include,
     Processors,
@@ -39,7 +39,7 @@ pub const STATEMENT_NAMES: [StatementName; 14] = [
 ];
 
 /// The numbers from a least to a greatest.
-#[derive(Clone, Copy, PartialEq, Eq)]
+#[derive(Clone, Copy)]
 pub struct Range {
     pub least: u64,
     pub most: u64,

@@ -40,7 +40,7 @@ pub enum Mode {
 }
 
 /// What a byte does.
-#[derive(Clone, Copy, PartialEq, Eq)]
+#[derive(Clone, Copy)]
 pub enum Step {
     /// It gives no token.
     Pass(Mode),

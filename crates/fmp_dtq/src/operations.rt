@@ -11,7 +11,7 @@ use fmp_codes::{Pri, Task};
 use fmp_rules::Order;
 
 /// What became of a value that was sent.
-#[derive(Clone, Copy, PartialEq, Eq)]
+#[derive(Clone, Copy)]
 pub enum Sent {
     /// This task, which waited to receive, is released with it.
     To(Task),
@@ -22,7 +22,7 @@ pub enum Sent {
 }
 
 /// What became of a value that was forced in.
-#[derive(Clone, Copy, PartialEq, Eq)]
+#[derive(Clone, Copy)]
 pub enum Forced {
     /// This task, which waited to receive, is released with it.
     To(Task),
@@ -33,7 +33,7 @@ pub enum Forced {
 }
 
 /// A value that was received.
-#[derive(Clone, Copy, PartialEq, Eq)]
+#[derive(Clone, Copy)]
 pub struct Received {
     pub value: i64,
     /// The task that waited to send and is released, as the value that it offers has gone last.

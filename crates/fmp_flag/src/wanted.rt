@@ -6,7 +6,7 @@ ghost use Rattle.fmp_flag.specs.Eventflags.{wanted_by, is_met, no_bits};
 use fmp_codes::{Mode, Task};
 
 /// The bits that a task waits for, and whether it waits for all of them or for one.
-#[derive(Clone, Copy, PartialEq, Eq)]
+#[derive(Clone, Copy)]
 pub struct Wanted {
     pub pattern: u32,
     pub mode: Mode,

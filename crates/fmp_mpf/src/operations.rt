@@ -10,7 +10,7 @@ use crate::Mpf;
 use fmp_codes::{Block, Pri, Task};
 
 /// What became of a block that came back.
-#[derive(Clone, Copy, PartialEq, Eq)]
+#[derive(Clone, Copy)]
 pub enum Given {
     /// This task, which waited for a block, is released with it.
     To(Task),

@@ -6,7 +6,7 @@ use fmp_calls::{ArgumentKind, ObjectKind, Value};
 use fmp_codes::Mode;
 
 /// A word that stands for a value in the places of one kind.
-#[derive(Clone, Copy, PartialEq, Eq)]
+#[derive(Clone, Copy)]
 pub enum Constant {
     TskSelf,
     TpriSelf,

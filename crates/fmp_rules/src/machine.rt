@@ -5,7 +5,7 @@ use fmp_setup::{
 };
 
 /// What a task waits for, and what it asked.
-#[derive(Clone, Copy, PartialEq, Eq)]
+#[derive(Clone, Copy)]
 pub enum Wait {
     Sleep,
     Delay,
@@ -20,7 +20,7 @@ pub enum Wait {
 }
 
 /// The kinds of queues in which tasks wait. A data queue has two.
-#[derive(Clone, Copy, PartialEq, Eq)]
+#[derive(Clone, Copy)]
 pub enum QueueKind {
     Semaphore,
     Eventflag,
@@ -30,7 +30,7 @@ pub enum QueueKind {
 }
 
 /// A task.
-#[derive(Clone, Copy, PartialEq, Eq)]
+#[derive(Clone, Copy)]
 pub struct TaskRecord {
     pub setup: TaskSetup,
     pub assigned: Proc,
@@ -48,7 +48,7 @@ pub struct TaskRecord {
 }
 
 /// A processor.
-#[derive(Clone, Copy, PartialEq, Eq)]
+#[derive(Clone, Copy)]
 pub struct Processor {
     pub running: Option<Task>,
     /// It is in the CPU-locked state.
@@ -60,21 +60,21 @@ pub struct Processor {
 }
 
 /// A semaphore, with its count now.
-#[derive(Clone, Copy, PartialEq, Eq)]
+#[derive(Clone, Copy)]
 pub struct Semaphore {
     pub setup: SemaphoreSetup,
     pub count: u16,
 }
 
 /// An eventflag, with its pattern now.
-#[derive(Clone, Copy, PartialEq, Eq)]
+#[derive(Clone, Copy)]
 pub struct Eventflag {
     pub setup: EventflagSetup,
     pub pattern: u32,
 }
 
 /// A pool, with a mark for each block that is handed out.
-#[derive(Clone, Copy, PartialEq, Eq)]
+#[derive(Clone, Copy)]
 pub struct Pool {
     pub setup: PoolSetup,
     pub handed: [bool; 64],
@@ -98,14 +98,14 @@ impl Pool {
 }
 
 /// A cyclic handler, with the processor that it is assigned to now.
-#[derive(Clone, Copy, PartialEq, Eq)]
+#[derive(Clone, Copy)]
 pub struct Cyclic {
     pub setup: CyclicSetup,
     pub assigned: Proc,
 }
 
 /// An alarm handler, with the processor that it is assigned to now.
-#[derive(Clone, Copy, PartialEq, Eq)]
+#[derive(Clone, Copy)]
 pub struct Alarm {
     pub setup: AlarmSetup,
     pub assigned: Proc,
@@ -280,7 +280,7 @@ impl Default for Alarm {
 }
 
 /// Where a call may come from.
-#[derive(Clone, Copy, PartialEq, Eq)]
+#[derive(Clone, Copy)]
 pub enum Context {
     Task,
     Handler,
@@ -288,7 +288,7 @@ pub enum Context {
 }
 
 /// When a call may be made.
-#[derive(Clone, Copy, PartialEq, Eq)]
+#[derive(Clone, Copy)]
 pub struct Rule {
     pub context: Context,
     /// Also in the CPU-locked state.

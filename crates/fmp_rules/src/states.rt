@@ -6,7 +6,7 @@ use crate::machine::TaskRecord;
 use fmp_codes::Task;
 
 /// The state of a task, as the standard calls it.
-#[derive(Clone, Copy, PartialEq, Eq)]
+#[derive(Clone, Copy)]
 pub enum TaskState {
     Dormant,
     Ready,

@@ -9,7 +9,7 @@ use std::alloc::{AllocError, Global};
 const PIECE: usize = 65536;
 
 /// Why a text was not read.
-#[derive(Clone, Copy, PartialEq, Eq)]
+#[derive(Clone, Copy)]
 pub enum ReadFault {
     Failed,
     Memory,

@@ -5,7 +5,7 @@ ghost use Rattle.fmp_run_explore.specs.Explored as spec;
 use fmp_run_texts::Status;
 
 /// What is known of all orders, by a search through them.
-#[derive(Clone, Copy, PartialEq, Eq)]
+#[derive(Clone, Copy)]
 pub enum Finding {
     /// Some order shows the question: the trace of a shortest one was written.
     Shown,

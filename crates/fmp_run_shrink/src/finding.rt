@@ -5,7 +5,7 @@ ghost use Rattle.fmp_run_shrink.specs.Shrunk as spec;
 use fmp_run_texts::Status;
 
 /// Whether the answers to the events show what is asked.
-#[derive(Clone, Copy, PartialEq, Eq)]
+#[derive(Clone, Copy)]
 pub enum Shrinking {
     /// They do: what is left of the events was written.
     Shrunk,

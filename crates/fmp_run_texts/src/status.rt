@@ -5,7 +5,7 @@ ghost use Rattle.fmp_run_texts.specs.Statuses as spec;
 use fmp_trace_check::Verdict;
 
 /// How the program ends. The number of each is its exit status.
-#[derive(Clone, Copy, PartialEq, Eq)]
+#[derive(Clone, Copy)]
 pub enum Status {
     /// All is done, the verdict is yes, no processor had anything left to do, or help was asked for.
     Done = 0,

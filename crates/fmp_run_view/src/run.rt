@@ -22,7 +22,7 @@ use fmp_trace_check::Verdict;
 use std::alloc::Global;
 
 /// Which page of a trace is wanted.
-#[derive(Clone, Copy, PartialEq, Eq)]
+#[derive(Clone, Copy)]
 pub enum PageKind {
     /// That of a trace that is the machine's own.
     Own,

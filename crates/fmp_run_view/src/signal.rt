@@ -7,7 +7,7 @@ use fmp_trace::put_number;
 use std::alloc::AllocError;
 
 /// A value that each processor, each task or each object of a kind has.
-#[derive(Clone, Copy, PartialEq, Eq)]
+#[derive(Clone, Copy)]
 pub enum Signal {
     /// The task that runs on a processor.
     Running,

@@ -10,7 +10,7 @@ use fmp_rules::Config;
 use std::alloc::AllocError;
 
 /// What the signals are listed for.
-#[derive(Clone, Copy, PartialEq, Eq)]
+#[derive(Clone, Copy)]
 pub enum Form {
     /// The declarations of a waveform.
     Declarations,

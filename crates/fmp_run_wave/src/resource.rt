@@ -9,7 +9,7 @@ use fmp_rules::Config;
 use fmp_step_words::Objects;
 
 /// A kind of objects that have a number.
-#[derive(Clone, Copy, PartialEq, Eq)]
+#[derive(Clone, Copy)]
 pub enum Resource {
     /// Whose number is its count.
     Semaphore,

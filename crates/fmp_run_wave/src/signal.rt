@@ -8,7 +8,7 @@ use fmp_trace::{put_named, put_number};
 use std::alloc::AllocError;
 
 /// One of the values of a processor, of a task or of an object.
-#[derive(Clone, Copy, PartialEq, Eq)]
+#[derive(Clone, Copy)]
 pub enum Signal {
     /// The task that runs on a processor.
     Running,
@@ -39,7 +39,7 @@ pub enum Signal {
 }
 
 /// What signals stand in: one for each processor, and one each for all tasks and for all objects.
-#[derive(Clone, Copy, PartialEq, Eq)]
+#[derive(Clone, Copy)]
 pub enum Scope {
     /// That of the processor with this number.
     Processor(u8),

@@ -15,7 +15,7 @@ use fmp_trace_check::is_same;
 use std::marker::Model;
 
 /// What is shown of a processor.
-#[derive(Clone, Copy, PartialEq, Eq)]
+#[derive(Clone, Copy)]
 pub struct ShownProcessor {
     pub running: Option<Task>,
     pub locked: bool,

@@ -8,7 +8,7 @@ use crate::space::Space;
 use std::alloc::{AllocError, Global};
 
 /// One of two steps.
-#[derive(Clone, Copy, PartialEq, Eq)]
+#[derive(Clone, Copy)]
 pub struct Choice {
     pub step: u8,
     pub other: u8,

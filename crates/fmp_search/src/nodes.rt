@@ -9,7 +9,7 @@ use std::alloc::{AllocError, Global};
 
 /// A place, by the one before it and the step between them. Place 0 is where all runs begin, and has no node; the node of number k
 /// is that of place k + 1.
-#[derive(Clone, Copy, PartialEq, Eq)]
+#[derive(Clone, Copy)]
 pub struct Node {
     pub hash: u64,
     pub parent: u32,

@@ -1,7 +1,7 @@
 //! What may happen in an order, besides what scripts and the machine say.
 
 /// Which orders are gone through.
-#[derive(Clone, Copy, PartialEq, Eq)]
+#[derive(Clone, Copy)]
 pub struct Rules {
     /// How many ticks each processor may take. Without it any number, and ticks are not counted unless `drift` asks for it.
     pub ticks: Option<u32>,

@@ -1,7 +1,7 @@
 //! Why a text is no question.
 
 /// Why a text is no question.
-#[derive(Clone, Copy, PartialEq, Eq)]
+#[derive(Clone, Copy)]
 pub enum QuestionFault {
     /// Two blanks in a row, one at the front or at the end, or a byte that is not printed.
     BadWord,
@@ -14,7 +14,7 @@ pub enum QuestionFault {
 }
 
 /// Why a question was not read.
-#[derive(Clone, Copy, PartialEq, Eq)]
+#[derive(Clone, Copy)]
 pub enum ReadFault {
     /// Memory ran out.
     Memory,

@@ -8,7 +8,7 @@ use crate::Sem;
 use fmp_codes::{Pri, Task};
 
 /// What a signal to a semaphore did.
-#[derive(Clone, Copy, PartialEq, Eq)]
+#[derive(Clone, Copy)]
 pub enum Signal {
     /// The first task that waited does not wait any more.
     Released(Task),

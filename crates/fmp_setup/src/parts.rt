@@ -26,14 +26,14 @@ pub struct NamedClass {
 }
 
 /// What the fields of a task say: its priority, and whether it is started at boot.
-#[derive(Clone, Copy, PartialEq, Eq)]
+#[derive(Clone, Copy)]
 pub struct TaskFields {
     pub starts: bool,
     pub priority: Pri,
 }
 
 /// What the fields of a cyclic handler say: its times in ticks, and whether it is started at boot.
-#[derive(Clone, Copy, PartialEq, Eq)]
+#[derive(Clone, Copy)]
 pub struct CyclicFields {
     pub period: u32,
     pub phase: u32,
@@ -41,7 +41,7 @@ pub struct CyclicFields {
 }
 
 /// What the fields of a statement say of the object that it creates.
-#[derive(Clone, Copy, PartialEq, Eq)]
+#[derive(Clone, Copy)]
 pub enum Fields {
     Task(TaskFields),
     Semaphore(SemaphoreSetup),

@@ -9,7 +9,7 @@ use fmp_names::Names;
 use std::alloc::Global;
 
 /// Why a list of names names no things.
-#[derive(Clone, Copy, PartialEq, Eq)]
+#[derive(Clone, Copy)]
 pub enum NameFault {
     /// Memory ran out.
     Memory,

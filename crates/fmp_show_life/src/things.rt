@@ -8,7 +8,7 @@ use fmp_codes::{Object, Task};
 use fmp_names::Names;
 
 /// A task, a time event handler or an object that tasks share.
-#[derive(Clone, Copy, PartialEq, Eq)]
+#[derive(Clone, Copy)]
 pub enum Thing {
     Task(Task),
     Semaphore(Object),

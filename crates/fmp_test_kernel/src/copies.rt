@@ -62,10 +62,9 @@ fn machine(alloc: Global, processors: usize) -> Result<String, AllocError> {
     Ok(text)
 }
 
-/// Whether two records are equal.
+/// Whether two records of one event are equal.
 fn same_record(a: &Record, b: &Record) -> bool {
-    a.event == b.event
-        && a.runner == b.runner
+    a.runner == b.runner
         && a.answer == b.answer
         && a.releases.len() == b.releases.len()
         && (0..a.releases.len()).all(|i| a.releases.get(i) == b.releases.get(i))

@@ -24,7 +24,7 @@ fn run_of(alloc: Global, play: Play, ticks: u32, turns: u32, seed: u64) -> Resul
 fn end_quiet(rt: &impl Abort, alloc: Global, play: Play, processors: &[u8]) -> Result<(), Fail> {
     for seed in 0..100 {
         let run = run_of(alloc, play, ROUNDS, 1000, seed)?;
-        holds(rt, alloc, &run, processors)?;
+        holds(rt, &run, processors)?;
     }
     Ok(())
 }

@@ -4,7 +4,7 @@ ghost use Rattle.std.specs.Prelude.{◌≤◌};
 use crate::gates::{Crossing, Delays};
 use crate::quiet::{PLAYS, ROUNDS, holds};
 use crate::texts::{BOTH, ENDLESS, Play, Played, SPINNING, replayed};
-use fmp_codes::{Answer, Call, Code, Event, Proc, TaskCall};
+use fmp_codes::{Answer, Call, Code, Event, Record, TaskCall};
 use fmp_smp::{Gate, Open, run_smp};
 use fmp_trace_check::{Verdict, check};
 use fmp_world::Ended;
@@ -56,7 +56,7 @@ fn ends_quiet<R: Threads + Wait + Sync + Abort, G: Gate + Sync>(
 ) -> Result<(), Fail> {
     for _ in 0..times {
         let run = run_of(rt, alloc, play, ROUNDS, 1000, gate)?;
-        holds(rt, alloc, &run, processors)?;
+        holds(rt, &run, processors)?;
     }
     Ok(())
 }
@@ -88,14 +88,13 @@ fn wakes_may_be_lost_and_late(rt: HostRuntime) -> Result<(), Fail> {
     Ok(())
 }
 
-/// The task activates itself and ends, in turn.
-fn in_turn(at: usize) -> (Event, Answer) {
-    let one = Proc::new(1);
-    if at % 2 == 0 {
-        let call = Call::Task(TaskCall::ActTsk(0));
-        (Event::Call(one, call), Answer::Done(Code::Accepted, None))
-    } else {
-        (Event::Call(one, Call::Task(TaskCall::ExtTsk)), Answer::Gone)
+/// Whether the task activates itself and ends, in turn.
+fn is_in_turn(at: usize, made: &Record) -> bool {
+    match (at % 2, made.event, made.answer) {
+        (0, Event::Call(p, Call::Task(TaskCall::ActTsk(0))), Answer::Done(Code::Accepted, None)) =>
+            p.number == 1,
+        (1, Event::Call(p, Call::Task(TaskCall::ExtTsk)), Answer::Gone) => p.number == 1,
+        _ => false,
     }
 }
 
@@ -108,7 +107,7 @@ fn fills<R: Threads + Wait + Sync + Abort>(rt: &R, alloc: Global, turns: u32) ->
     assert!(rt; run.ended == Ended::Limit);
     assert!(rt; run.records.len() == turns as usize);
     for (at, made) in run.records.iter().enumerate() {
-        assert!(rt; (made.event, made.answer) == in_turn(at));
+        assert!(rt; is_in_turn(at, made));
     }
     Ok(())
 }

@@ -78,15 +78,20 @@ fn fault_of(feed: &mut EventFeed, names: &Names, text: &[u8], length: usize) -> 
     fault_behind(feed, names, text.len())
 }
 
+/// Whether the feed answers its fault where it is asked for an event.
+fn refuses(feed: &mut EventFeed, names: &Names, fault: TextFault) -> bool {
+    matches!(feed.next(names), Err(found) if found == fault)
+}
+
 /// Whether the feed answers its fault again, also to a piece that is right.
 fn is_final(feed: &mut EventFeed, names: &Names, fault: TextFault) -> bool {
-    if feed.next(names) != Err(fault) {
+    if !refuses(feed, names, fault) {
         return false;
     }
     if feed.ended() {
         return true;
     }
-    feed.push(b"P1 tick\n") == Err(fault) && feed.next(names) == Err(fault)
+    feed.push(b"P1 tick\n") == Err(fault) && refuses(feed, names, fault)
 }
 
 /// Whether a text in pieces of this length has this fault, and has it again.

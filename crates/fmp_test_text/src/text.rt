@@ -66,7 +66,7 @@ pub fn with_machine<F: FnOnce(&mut Names) -> Result<(), Fail>>(
 #[test]
 fn a_call_with_a_line_feed(rt: HostRuntime) -> Result<(), Fail> {
     with_machine(rt.alloc(), |names| {
-        assert!(rt; read_call(b"ext_tsk()\n", names) == Err(TextKind::BadByte));
+        assert!(rt; matches!(read_call(b"ext_tsk()\n", names), Err(TextKind::BadByte)));
         Ok(())
     })
 }

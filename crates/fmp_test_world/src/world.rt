@@ -223,7 +223,7 @@ fn take_tick(world: &mut World<'_>, seats: &mut Seats, digit: u8) -> Option<Turn
 
 /// Whether a turn or a tick made a record.
 fn is_made(turn: Option<Turn>) -> bool {
-    turn.is_some() && turn != Some(Turn::Nothing) && turn != Some(Turn::Full)
+    matches!(turn, Some(Turn::Made(_)))
 }
 
 /// Whether a move goes as it is to go.
@@ -231,8 +231,8 @@ fn goes(world: &mut World<'_>, seats: &mut Seats, step: &[u8]) -> bool {
     match step {
         [b'+', p] => is_made(take_tick(world, seats, *p)),
         [p] => is_made(take_turn(world, seats, *p)),
-        [p, b'-'] => take_turn(world, seats, *p) == Some(Turn::Nothing),
-        [p, b'='] => take_turn(world, seats, *p) == Some(Turn::Full),
+        [p, b'-'] => matches!(take_turn(world, seats, *p), Some(Turn::Nothing)),
+        [p, b'='] => matches!(take_turn(world, seats, *p), Some(Turn::Full)),
         _ => false,
     }
 }
@@ -247,24 +247,45 @@ fn all_go(world: &mut World<'_>, seats: &mut Seats, moves: &str) -> bool {
     true
 }
 
+/// How an event and its answer are printed.
+fn printed(
+    alloc: Global,
+    config: &Config,
+    event: Event,
+    answer: Answer,
+) -> Result<Vec<u8>, AllocError> {
+    trace_text(
+        alloc,
+        &[Record::answer(event, None, answer)],
+        config.names(),
+    )
+}
+
 /// A receipt tells the record of its number.
-fn tells(receipt: &Receipt, records: &[Record]) -> bool {
+fn tells(
+    alloc: Global,
+    config: &Config,
+    receipt: &Receipt,
+    records: &[Record],
+) -> Result<bool, AllocError> {
     let Some(made) = records.get((receipt.number as usize).saturating_sub(1)) else {
-        return false;
+        return Ok(false);
     };
-    receipt.event == made.event && receipt.answer == made.answer
+    let told = printed(alloc, config, receipt.event, receipt.answer)?;
+    Ok(told.as_slice() == printed(alloc, config, made.event, made.answer)?.as_slice())
 }
 
 /// Adds the numbers of the receipts of a seat as a line, or what stands in no story if one does not tell its record.
 fn add_receipts(
     alloc: Global,
     shown: &mut String,
+    config: &Config,
     receipts: &[Receipt],
     records: &[Record],
 ) -> Result<(), AllocError> {
     for (at, receipt) in receipts.iter().enumerate() {
         let blank = if at == 0 { "" } else { " " };
-        let number = if tells(receipt, records) {
+        let number = if tells(alloc, config, receipt, records)? {
             receipt.number
         } else {
             0
@@ -313,7 +334,13 @@ fn is_told(
     let records = records_of(alloc, &run.history)?;
     let mut shown = String::new(alloc);
     for receipts in run.receipts.as_slice() {
-        add_receipts(alloc, &mut shown, receipts.as_slice(), records.as_slice())?;
+        add_receipts(
+            alloc,
+            &mut shown,
+            config,
+            receipts.as_slice(),
+            records.as_slice(),
+        )?;
     }
     Ok(shown.as_str() == story.receipts && is_printed(alloc, &run.history, config, story.trace)?)
 }

@@ -5,7 +5,7 @@ ghost use Rattle.fmp_time.specs.Times.{place_of, item_at};
 use fmp_codes::{Object, Task};
 
 /// What counts ticks: the wait of a task, an alarm or a cyclic handler.
-#[derive(Clone, Copy, PartialEq, Eq)]
+#[derive(Clone, Copy)]
 pub enum Item {
     Wait(Task),
     Alarm(Object),

@@ -21,7 +21,7 @@ use fmp_trace::{next_line, put_number};
 use std::alloc::{AllocError, Global};
 
 /// Which of the lines that differ are shown, and how.
-#[derive(Clone, Copy, PartialEq, Eq)]
+#[derive(Clone, Copy)]
 pub enum Shown {
     /// The first one: what stands there behind `- `, and the machine's own line behind `+ `.
     First,

@@ -12,7 +12,7 @@ use fmp_trace::{
 use std::alloc::AllocError;
 
 /// Which parts of a line are written. The processor, the event and the answer always are.
-#[derive(Clone, Copy, PartialEq, Eq)]
+#[derive(Clone, Copy)]
 pub struct Kept {
     /// The line's number.
     pub number: bool,

@@ -9,7 +9,7 @@ use std::default::MadeWith;
 use std::marker::Model;
 
 /// What a turn or a tick tells its seat: the event, and the answer to it.
-#[derive(Clone, Copy, PartialEq, Eq)]
+#[derive(Clone, Copy)]
 pub struct Receipt {
     /// The place of its record in the history, from 1.
     pub number: u32,
@@ -18,7 +18,7 @@ pub struct Receipt {
 }
 
 /// How a turn or a tick went.
-#[derive(Clone, Copy, PartialEq, Eq)]
+#[derive(Clone, Copy)]
 pub enum Turn {
     /// The history has one more record, and the seat this receipt.
     Made(Receipt),
