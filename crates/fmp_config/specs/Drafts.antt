@@ -18,7 +18,7 @@ pub record Draft : Type 0 where
   pub limits_stood : Bool
 
 abbrev pub draft_of : Drafted → Draft
-draft_of d = record { setup = setup_of d.parts; open_class = d.open_class; phase = d.phase; timer_stood = d.timer_stood; limits_stood = d.limits_stood }
+draft_of d = record { setup = setup_of d.parts.value; open_class = d.open_class; phase = d.phase; timer_stood = d.timer_stood; limits_stood = d.limits_stood }
 
 -- before the first statement
 abbrev pub blank_draft : Draft

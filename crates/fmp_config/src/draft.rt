@@ -20,7 +20,7 @@ use fmp_setup::{
     Class, CyclicFields, DataQueueSetup, EventflagSetup, Fields, Limits, Order, Parts, PoolSetup,
     SemaphoreSetup, TaskFields, Timer,
 };
-use std::alloc::Global;
+use std::alloc::{AllocError, Global};
 
 /// How far a text has come.
 #[derive(Clone, Copy)]
@@ -46,7 +46,7 @@ const MOST_CLASSES: usize = 32;
 /// The parts that were read, the class whose statements follow, how far the text has come, and which statements stood.
 #[derive(Drop)]
 pub struct Draft {
-    pub parts: Parts,
+    pub parts: Box<Parts>,
     pub open_class: Option<OpenClass>,
     phase: Phase,
     timer_stood: bool,
@@ -260,17 +260,17 @@ impl Draft {
     ghost use Rattle.fmp_names.specs.Names.{is_name};
     ghost use Rattle.fmp_config_statements.specs.Outcomes.{Leads};
 
-    /// Nothing was read.
-    pub fn blank(alloc: Global) -> Self
-        ensures { draft_of result ≡ drafts.blank_draft }
+    /// Nothing was read. The error is want of memory.
+    pub fn blank(alloc: Global) -> Result<Self, AllocError>
+        ensures { IfOk result (λ d. draft_of d ≡ drafts.blank_draft) }
     {
-        Draft {
-            parts: Parts::new(alloc, 1),
+        Ok(Draft {
+            parts: Box::new(alloc, Parts::new(alloc, 1))?,
             open_class: None,
             phase: Phase::Start,
             timer_stood: false,
             limits_stood: false,
-        }
+        })
     }
 
     /// Whether the number of processors is still to come.

@@ -10,7 +10,7 @@ use fmp_config_statements::{
 };
 use fmp_config_tokens::{End, Token, TokenKind};
 use fmp_setup::Config;
-use std::alloc::Global;
+use std::alloc::{AllocError, Global};
 use std::mem;
 
 /// What was read of a text, and the statement and the directive whose tokens follow.
@@ -59,7 +59,7 @@ fn ends_class(draft: &Draft, token: &Token<'_>) -> bool
 }
 
 impl<'a> Reader<'a> {
-    ghost use Rattle.std.specs.Prelude.{◌≡◌, ◌≤◌, ◌<◌, ◌+◌, ◌^◌, true, None, OnOk};
+    ghost use Rattle.std.specs.Prelude.{◌≡◌, ◌≤◌, ◌<◌, ◌+◌, ◌^◌, true, None, OnOk, IfOk};
     ghost use Rattle.fmp_config.specs.Reading as spec;
     ghost use Rattle.fmp_config.specs.Reading.{depth_in};
     ghost use Rattle.fmp_config.specs.Readers.{state_of};
@@ -70,17 +70,17 @@ impl<'a> Reader<'a> {
     ghost use Rattle.fmp_config_statements.specs.Parts.{depth_of};
     ghost use Rattle.fmp_config_statements.specs.Outcomes.{Leads, Gives};
 
-    /// Nothing was read.
-    pub fn new(alloc: Global) -> Self
-        ensures { state_of result ≡ spec.at_start }
+    /// Nothing was read. The error is want of memory.
+    pub fn new(alloc: Global) -> Result<Self, AllocError>
+        ensures { IfOk result (λ r. state_of r ≡ spec.at_start) }
     {
-        Reader {
+        Ok(Reader {
             alloc,
-            draft: Draft::blank(alloc),
+            draft: Draft::blank(alloc)?,
             form: Form::begun(alloc, StatementName::Include, 0),
             in_form: false,
             directive: Directive::Outside,
-        }
+        })
     }
 
     /// Reads a token between statements.

@@ -22,7 +22,7 @@ fn config_of<'a>(alloc: Global, text: &'a [u8]) -> Result<Config, ReadError<'a>>
     ensures { Gives result (spec.setup_in (lexed_text text.now)) }
 {
     let mut lexer = Lexer::new(text);
-    let mut reader = Reader::new(alloc);
+    let mut reader = Reader::new(alloc)?;
     while let Some(token) = lexer.next_token() {
         reader.take(&token)?;
     }

@@ -35,7 +35,7 @@ use Rattle.fmp_law_counts.proofs.HandlersCalls.{times_call, idle_time, cyclic_ti
 use Rattle.fmp_law_counts.proofs.HandlersTick.{left_at_tick, cyclic_left_at_tick, due_at_tick, clocks_tick, same_passed}
 
 module _ {Q : Type 0} (k : Ordering Q) (w : World Q) where
-  clocks_step : (e : Event) → Clocks w (step k w e).0
+  pub clocks_step : (e : Event) → Clocks w (step k w e).0
   clocks_step e =
       by_event k w (λ v r. Clocks w v) (λ v cs r x ps h. record { alarms = h.alarms; alarms_left = h.alarms_left; cyclics = h.cyclics; cyclics_left = h.cyclics_left; due = h.due })
       (λ p c. clocks_call w k p c) (λ p c. clocks_all w) (λ p. clocks_tick k w p) (λ p. clocks_all w) (λ p. clocks_all w) (λ p a h. clocks_all w) e
@@ -95,13 +95,13 @@ module _ (s : Setup) (valid : IsValid s) where
 
 -- Boot.
 
-clock_started : (w : State) (n : ℕ) (ss : List TaskSetup) → clock (all_started numbered w n ss) ≡ clock w
+pub clock_started : (w : State) (n : ℕ) (ss : List TaskSetup) → clock (all_started numbered w n ss) ≡ clock w
 clock_started w n [] = refl
 clock_started w n (s ∷ ss) =
     let v : State = if s.starts then start numbered w (as_task n) s.class.initial else w in
     clock_started v (n + 1) ss ∙ cond_both s.starts (start numbered w (as_task n) s.class.initial) w (λ (u : State). clock u ≡ clock w) (λ _. refl) (λ _. refl)
 
-clock_running : (w : State) (ps : List Proc) → clock (with_tops_running numbered w ps) ≡ clock w
+pub clock_running : (w : State) (ps : List Proc) → clock (with_tops_running numbered w ps) ≡ clock w
 clock_running w [] = refl
 clock_running w (p ∷ ps) = clock_running (with_top_running numbered w p) ps
 

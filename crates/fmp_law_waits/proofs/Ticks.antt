@@ -22,13 +22,14 @@ use Rattle.fmp_codes.specs.declared.records.Answer.TheVariants as answer
 use Rattle.fmp_setup.specs.Setup.{Setup}
 use Rattle.fmp_rules.specs.declared.machine.TaskRecord.{TaskRecord}
 use Rattle.fmp_rules.specs.declared.machine.Wait.{Wait}
+use Rattle.fmp_rules.specs.declared.machine.Wait.TheVariants as wait
 use Rattle.fmp_rules.specs.World.{no_task, task}
 use Rattle.fmp_rules.specs.Rows.{plain}
 use Rattle.fmp_law_safety.specs.Safe.{TicksInRange, Safe}
 use Rattle.fmp_law_safety.proofs.TellsTick.{lowered_length}
 use Rattle.fmp_law_waits.specs.Asked.{OpenWait}
 use Rattle.fmp_law_waits.specs.Waits.{OpenWaits, is_released, is_tick_for, lasts}
-use Rattle.fmp_law_waits.specs.Releases.{EndsOpenWait}
+use Rattle.fmp_law_waits.specs.Releases.{over_code, EndsOpenWait}
 use Rattle.fmp_law_waits.specs.Laws.{Waits, left_of}
 use Rattle.fmp_law_waits.proofs.Words.{SameCounts, IsKept, same_counts_then}
 use Rattle.fmp_law_waits.proofs.Follows.{Sound, Follows, follows_beside}
@@ -108,6 +109,11 @@ last_tick false None h e = absurd (none-some 0 e)
 last_tick true (Some n) h e = let least = h.0 in let was = same_Some (n - 1) 0 e in let one : n ≡ 1 = omega (arith, least, was) in (refl, ap Some one)
 last_tick false (Some n) h e = let least = h.0 in let is = same_Some n 0 e in absurd (omega (arith, least, is))
 
+-- the machine answers what is said of a wait that is over
+over_same : (x : Wait) → code_of (Some x) ≡ over_code x
+over_same wait.Delay = refl
+over_same x = refl
+
 -- handlers become due, and no task changes
 pub handlers_beside : {Q : Type 0} (p : Proc) (v : World Q) →
     ((with_handlers_due v p).tasks ≡ v.tasks) × ((with_handlers_due v p).waits_left ≡ v.waits_left) × ((with_handlers_due v p).eventflags ≡ v.eventflags) × ((with_handlers_due v p).timer ≡ v.timer)
@@ -173,7 +179,7 @@ module _ {Q : Type 0} (config : Setup) (k : Ordering Q) (once : TimedOnce k) (w 
             inr (inr (record {
               counts = ap (is_tick_for config.timer o.assigned r.answer) e ∙ ap (λ y. is_tick_for config.timer o.assigned y (event.Tick p)) a ∙ last.0;
               last = last.1;
-              code = due.2.1 ∙ ap (λ (y : Wait). code_of (Some y)) (sym (ap (λ (y : OpenWait). y.wait) same));
+              code = due.2.1 ∙ ap (λ (y : Wait). code_of (Some y)) (sym (ap (λ (y : OpenWait). y.wait) same)) ∙ over_same o.wait;
               value = due.2.2;
             })),
           )

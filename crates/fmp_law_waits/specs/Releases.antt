@@ -4,6 +4,7 @@ use Rattle.fmp_codes.specs.declared.numbers.Task.{Task}
 use Rattle.fmp_codes.specs.declared.calls.Call.TheVariants as call
 use Rattle.fmp_codes.specs.declared.calls.TaskCall.TheVariants as task
 use Rattle.fmp_codes.specs.declared.calls.SyncCall.TheVariants as sync
+use Rattle.fmp_codes.specs.declared.codes.Code.{Code}
 use Rattle.fmp_codes.specs.declared.codes.Code.TheVariants as code
 use Rattle.fmp_codes.specs.declared.numbers.Object.{Object}
 use Rattle.fmp_codes.specs.declared.records.Answer.{Answer}
@@ -16,7 +17,6 @@ use Rattle.fmp_rules.specs.declared.machine.Wait.{Wait}
 use Rattle.fmp_rules.specs.declared.machine.Wait.TheVariants as wait
 use Rattle.fmp_rules.specs.Objects.{holds}
 use Rattle.fmp_rules.specs.TaskCalls.{is_sleep}
-use Rattle.fmp_rules.specs.Tick.{code_of}
 use Rattle.fmp_law_balance.specs.Accepted.{is_accepted, names}
 use Rattle.fmp_law_balance.specs.Semaphores.{signals}
 use Rattle.fmp_law_balance.specs.Queues.{sends, receives}
@@ -66,11 +66,21 @@ pub record IsBrokenOff (o : OpenWait) (e : Event) (answered : Answer) (x : Relea
   pub code : x.code ≡ code.WaitReleased
   pub value : x.value ≡ None
 
--- a tick took the last of the ticks left: a delay is over, and any other wait timed out
+-- how a wait is over in time: a delay is done, and what any other waited for did not come
+abbrev pub over_code : Wait → Code
+over_code wait.Sleep = code.TimedOut
+over_code wait.Delay = code.Accepted
+over_code (wait.Semaphore s) = code.TimedOut
+over_code (wait.Eventflag f pattern mode) = code.TimedOut
+over_code (wait.Send d value) = code.TimedOut
+over_code (wait.Receive d) = code.TimedOut
+over_code (wait.Pool m) = code.TimedOut
+
+-- a tick took the last of the ticks left
 pub record IsOver (c : Setup) (o : OpenWait) (e : Event) (answered : Answer) (x : Release) : Type 0 where
   pub counts : is_tick_for c.timer o.assigned answered e ≡ true
   pub last : o.left ≡ Some 1
-  pub code : x.code ≡ code_of (Some o.wait)
+  pub code : x.code ≡ over_code o.wait
   pub value : x.value ≡ None
 
 -- an event with this answer may end this wait by this release

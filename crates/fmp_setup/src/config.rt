@@ -17,7 +17,8 @@ use std::marker::Model;
 /// objects and functions, and the names that are defined to stand for numbers.
 #[derive(Drop)]
 pub struct Config {
-    parts: Parts,
+    /// In a box, so that who owns a configuration lets go of it by one call.
+    parts: Box<Parts>,
 }
 
 impl Model for Config {
@@ -27,9 +28,9 @@ impl Model for Config {
 
     ghost Value = { Setup };
 
-    ghost view = { λ c. setup_of c.parts };
+    ghost view = { λ c. setup_of c.parts.value };
 
-    ghost invariant = { λ c. IsValid (setup_of c.parts) };
+    ghost invariant = { λ c. IsValid (setup_of c.parts.value) };
 }
 
 impl Config {
@@ -38,9 +39,9 @@ impl Config {
     ghost use Rattle.fmp_setup.specs.Valid.{IsValid};
 
     /// The configuration of these parts.
-    pub fn of(parts: Parts) -> Self
-        requires { IsValid (setup_of parts) }
-        ensures { result ≡ setup_of parts }
+    pub fn of(parts: Box<Parts>) -> Self
+        requires { IsValid (setup_of parts.value) }
+        ensures { result ≡ setup_of parts.value }
     {
         Config { parts }
     }

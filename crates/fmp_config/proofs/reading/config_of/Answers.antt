@@ -13,11 +13,11 @@ use Rattle.fmp_config.proofs.reading.config_of.Goals as goal
 
 pub loop-token-init : goal.loop-token-init
 loop-token-init c =
-    rw (c.new-reader.ensures, c.new-lexer.ensures) (record {
+    rw (c.in_ok-reader.ensures, c.new-lexer.ensures) (record {
       reads = refl;
       end = refl;
       sound = start_sound;
-      depth = let few = few_tokens c.args.text.now in let start : depth_in (state_of c.new-reader.result) ≡ 0 = ap (λ (s : State). depth_in s) c.new-reader.ensures in omega (arith, few, start, c.requires);
+      depth = let few = few_tokens c.args.text.now in let start : depth_in (state_of c.in_ok-reader.reader) ≡ 0 = ap (λ (s : State). depth_in s) c.in_ok-reader.ensures in omega (arith, few, start, c.requires);
     })
 
 pub loop-token-preserved : goal.loop-token-preserved
@@ -34,7 +34,7 @@ loop-token-preserved c =
 pub returns-in_err-take : goal.returns-in_err-take
 unfolding setup_in
 returns-in_err-take c =
-    let p = err_from_is_err_and c.from_residual.result c.from_residual.ensures.1 in
+    let p = err_from_is_err_and c.from_residual-in_err-take.result c.from_residual-in_err-take.ensures.1 in
     rw (p.1, p.2) (stops (state_of c.loop-token.reader) c.in-Some.token c.loop-token.lexer.lexemes c.next_token.new.self.lexemes _ c.in_err-take.field-0.0 (λ s. finished s (lexed_text c.args.text.now).end) c.in-Some.ensures.some c.in_err-take.ensures.exact c.loop-token.invariant.reads)
 
 pub returns : goal.returns

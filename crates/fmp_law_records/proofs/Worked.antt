@@ -1,0 +1,73 @@
+-- What the records of runs tell, computed: suspension, priorities, and the locked and the disabled state.
+use Rattle.std.proofs.Common.{◌≡◌, ℕ, pos, true, false, List, [], ◌∷◌, refl}
+use Rattle.fmp_codes.specs.Numbers.{as_proc, as_task, as_pri}
+use Rattle.fmp_codes.specs.declared.calls.Call.TheVariants as call
+use Rattle.fmp_codes.specs.declared.calls.TaskCall.{TaskCall}
+use Rattle.fmp_codes.specs.declared.calls.TaskCall.TheVariants as tasks
+use Rattle.fmp_codes.specs.declared.calls.SystemCall.TheVariants as system
+use Rattle.fmp_codes.specs.declared.records.Event.{Event}
+use Rattle.fmp_codes.specs.declared.records.Record.{Record}
+use Rattle.fmp_setup.specs.declared.setup.Timer.TheVariants as timer
+use Rattle.fmp_setup.specs.Setup.{Setup, of_tasks}
+use Rattle.fmp_rules.specs.World.{task, processor}
+use Rattle.fmp_rules.specs.Arrivals.{State, numbered}
+use Rattle.fmp_rules.specs.TaskCalls.{chg_pri, dly_tsk, sus_tsk, rsm_tsk}
+use Rattle.fmp_rules.specs.Tick.{counted_down, ticked, with_handlers_due}
+use Rattle.fmp_rules.specs.Step.{replay, answers, before_event, settled, unchanged}
+use Rattle.fmp_rules.specs.Boot.{booted}
+use Rattle.fmp_rules.proofs.Scenario.{a_task, both, call_on, tick_on}
+use Rattle.fmp_law_records.specs.Suspensions.{suspended_by}
+use Rattle.fmp_law_records.specs.Priorities.{told_priority}
+use Rattle.fmp_law_records.specs.Flags.{locked_by, disabled_by}
+
+abbrev pub asks : ℕ → TaskCall → Event
+asks p c = call_on p (call.Task c)
+
+abbrev pub told : Setup → List Event → List Record
+told c events = answers numbered (booted c) events
+
+abbrev pub later : Setup → List Event → State
+later c events = replay numbered (booted c) events
+
+-- A task on each of two processors.
+
+abbrev pub both_start : Setup
+both_start = of_tasks 2 (a_task (both 1) 10 true ∷ a_task (both 2) 10 true ∷ [])
+
+-- the second one waits for one tick and is suspended meanwhile; two ticks end its wait, and it is suspended still
+abbrev pub over_while_suspended : List Event
+over_while_suspended = asks 2 (tasks.DlyTsk (pos 1)) ∷ asks 1 (tasks.SusTsk (pos 2)) ∷ tick_on 2 ∷ tick_on 2 ∷ []
+
+still_suspended : suspended_by (as_task 2) (told both_start over_while_suspended) false ∷ (task (later both_start over_while_suspended) (as_task 2)).suspended ∷ [] ≡ true ∷ true ∷ []
+unfolding numbered before_event settled unchanged dly_tsk sus_tsk counted_down ticked with_handlers_due
+still_suspended = refl
+
+-- the same two tasks under a global timer: the second one is suspended and resumed, and gets another priority
+abbrev pub one_timer : Setup
+one_timer = record both_start { timer = timer.Global (as_proc 1) }
+
+abbrev pub resumed : List Event
+resumed = asks 1 (tasks.SusTsk (pos 2)) ∷ asks 1 (tasks.RsmTsk (pos 2)) ∷ []
+
+resumed_again : suspended_by (as_task 2) (told one_timer resumed) false ∷ (task (later one_timer resumed) (as_task 2)).suspended ∷ [] ≡ false ∷ false ∷ []
+unfolding numbered before_event settled unchanged sus_tsk rsm_tsk
+resumed_again = refl
+
+abbrev pub more_urgent : List Event
+more_urgent = asks 1 (tasks.ChgPri (pos 2) (pos 5)) ∷ []
+
+other_priority : told_priority one_timer (as_task 2) (told one_timer more_urgent) ∷ (task (later one_timer more_urgent) (as_task 2)).priority ∷ [] ≡ as_pri 5 ∷ as_pri 5 ∷ []
+unfolding numbered before_event settled unchanged chg_pri
+other_priority = refl
+
+-- A task of priority 1 disables dispatching, and locks its processor.
+
+abbrev pub most_urgent : Setup
+most_urgent = of_tasks 1 (a_task (both 1) 1 true ∷ [])
+
+abbrev pub holding : List Event
+holding = call_on 1 (call.System system.DisDsp) ∷ call_on 1 (call.System system.LocCpu) ∷ []
+
+held : disabled_by (as_proc 1) (told most_urgent holding) false ∷ (processor (later most_urgent holding) (as_proc 1)).disabled ∷ locked_by (as_proc 1) (told most_urgent holding) false ∷ (processor (later most_urgent holding) (as_proc 1)).locked ∷ [] ≡ true ∷ true ∷ true ∷ true ∷ []
+unfolding numbered before_event settled unchanged
+held = refl

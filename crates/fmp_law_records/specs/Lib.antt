@@ -1,0 +1,6 @@
+pub mod Suspensions  -- What records say of the suspension of a task.
+pub mod Priorities  -- What records say of the priority of a task.
+pub mod Flags  -- What records say of the locked and the disabled state of a processor.
+pub mod Locks  -- What records say of who holds a spin lock.
+pub mod Patterns  -- What records say of the pattern of an eventflag.
+pub mod Handlers  -- Where alarms and cyclic handlers are assigned, and what is left of their time, told by records alone.

@@ -1,0 +1,83 @@
+//! The laws of what records tell.
+ghost use Rattle.std.specs.Prelude.{ℕ, ◌≤◌, false, None, List, length, take};
+ghost use Rattle.fmp_codes.specs.declared.numbers.Proc.{Proc};
+ghost use Rattle.fmp_codes.specs.declared.numbers.Task.{Task};
+ghost use Rattle.fmp_codes.specs.declared.numbers.Object.{Object};
+ghost use Rattle.fmp_codes.specs.declared.records.Event.{Event};
+ghost use Rattle.fmp_setup.specs.Setup.{Setup};
+ghost use Rattle.fmp_setup.specs.Valid.{IsValid};
+ghost use Rattle.fmp_rules.specs.Arrivals.{numbered};
+ghost use Rattle.fmp_rules.specs.Step.{step, replay, answers};
+ghost use Rattle.fmp_rules.specs.Boot.{booted};
+ghost use Rattle.fmp_law_safety.specs.Runs.{processor_of, AreOn};
+ghost use Rattle.fmp_law_records.specs.Suspensions.{suspended_by, IsSuspensionTold, SuspensionFits};
+ghost use Rattle.fmp_law_records.specs.Priorities.{told_priority, IsPriorityTold, TellsPriority};
+ghost use Rattle.fmp_law_records.specs.Flags.{locked_by, disabled_by, AreFlagsTold, TellsFlags};
+ghost use Rattle.fmp_law_records.specs.Locks.{holder_by, IsHolderTold, LocksFit};
+ghost use Rattle.fmp_law_records.specs.Patterns.{clears_of, told_pattern, IsPatternTold, PatternFits};
+ghost use Rattle.fmp_law_records.specs.Handlers.{IsAlarmTold, IsCyclicTold};
+
+/// At every prefix of every list of events on the processors of a valid configuration, a task is suspended just where the records
+/// say: since an accepted `sus_tsk` of it, until an accepted `rsm_tsk` or its end. So it is with each answer, and no task that the
+/// records call suspended begins to run.
+pub fn suspensions_are_told()
+    ensures told { (c : Setup) (events : List Event) → IsValid c → AreOn c.processors events → (n : ℕ) (t : Task) → t.number ≤ length c.tasks
+        → IsSuspensionTold (take n (answers numbered (booted c) events)) (replay numbered (booted c) (take n events)) t }
+    ensures fits { (c : Setup) (events : List Event) → IsValid c → AreOn c.processors events → (event : Event) (t : Task) → (processor_of event).number ≤ c.processors
+        → t.number ≤ length c.tasks
+        → SuspensionFits t (suspended_by t (answers numbered (booted c) events) false) (step numbered (replay numbered (booted c) events) event).1 }
+{}
+
+/// At every prefix of every list of events on the processors of a valid configuration, each active task has the priority that the
+/// records say: that of the last accepted `chg_pri` of it since its last end, or else its initial one. `get_pri` answers it.
+pub fn priorities_are_told()
+    ensures told { (c : Setup) (events : List Event) → IsValid c → AreOn c.processors events → (n : ℕ) (t : Task) → t.number ≤ length c.tasks
+        → IsPriorityTold c (take n (answers numbered (booted c) events)) (replay numbered (booted c) (take n events)) t }
+    ensures answered { (c : Setup) (events : List Event) → IsValid c → AreOn c.processors events → (event : Event) (t : Task) → t.number ≤ length c.tasks
+        → TellsPriority t (told_priority c t (answers numbered (booted c) events)) (step numbered (replay numbered (booted c) events) event).1 }
+{}
+
+/// At every prefix of every list of events on the processors of a valid configuration, each processor is CPU-locked, and its
+/// dispatching disabled, just where the records say: locked since a call that locks it or takes a spin lock there, until one that
+/// unlocks it or gives a spin lock back, the return of a handler or the end of a task there. `sns_loc` and `sns_dsp` tell it.
+pub fn flags_are_told()
+    ensures told { (c : Setup) (events : List Event) → IsValid c → AreOn c.processors events → (n : ℕ) (p : Proc)
+        → AreFlagsTold (take n (answers numbered (booted c) events)) (replay numbered (booted c) (take n events)) p }
+    ensures answered { (c : Setup) (events : List Event) → IsValid c → AreOn c.processors events → (event : Event) (p : Proc)
+        → TellsFlags p (locked_by p (answers numbered (booted c) events) false) (disabled_by p (answers numbered (booted c) events) false) (step numbered (replay numbered (booted c) events) event).1 }
+{}
+
+/// At every prefix of every list of events on the processors of a valid configuration, each spin lock is held by the processor that
+/// the records say: the one that took it, until it gives it back, or a task there ends or a handler returns. A lock is taken only
+/// where nobody holds it, and given back only by the processor that does.
+pub fn locks_are_told()
+    ensures told { (c : Setup) (events : List Event) → IsValid c → AreOn c.processors events → (n : ℕ) (l : Object)
+        → IsHolderTold (take n (answers numbered (booted c) events)) (replay numbered (booted c) (take n events)) l }
+    ensures fits { (c : Setup) (events : List Event) → IsValid c → AreOn c.processors events → (event : Event) (l : Object)
+        → LocksFit l (holder_by l (answers numbered (booted c) events) None) (step numbered (replay numbered (booted c) events) event).1 }
+{}
+
+/// At every prefix of every list of events on the processors of a valid configuration, the pattern of each eventflag is what the
+/// records say: the initial one, with the bits that were set and without those that were cleared, or none once it was handed to a
+/// task and the flag clears it then. A call gets the pattern only where what it asks for is there, and each task that a call
+/// releases is told the pattern that it left there for this task.
+pub fn patterns_are_told()
+    ensures told { (c : Setup) (events : List Event) → IsValid c → AreOn c.processors events → (n : ℕ) (f : Object)
+        → IsPatternTold c (take n (answers numbered (booted c) events)) (replay numbered (booted c) (take n events)) f }
+    ensures fits { (c : Setup) (events : List Event) → IsValid c → AreOn c.processors events → (event : Event) (f : Object)
+        → PatternFits (clears_of c f) f (told_pattern c f (answers numbered (booted c) events)) (step numbered (replay numbered (booted c) events) event).1 }
+{}
+
+/// At every prefix of every list of events on the processors of a valid configuration, each alarm is assigned to the processor that
+/// the records say, the one to which a call took it last or else the initial one of its class, and so much of its time is left as
+/// they say. `handlers_become_due_in_time` asks the machine where an alarm is assigned; this law does not.
+pub fn alarms_are_told()
+    ensures { (c : Setup) (events : List Event) → IsValid c → AreOn c.processors events → (n : ℕ) (a : Object) → a.number ≤ length c.alarms
+        → IsAlarmTold c (take n (answers numbered (booted c) events)) (replay numbered (booted c) (take n events)) a }
+{}
+
+/// So it is of each cyclic handler: where it is assigned, and how many ticks are left of its phase or its period.
+pub fn cyclics_are_told()
+    ensures { (c : Setup) (events : List Event) → IsValid c → AreOn c.processors events → (n : ℕ) (o : Object) → o.number ≤ length c.cyclics
+        → IsCyclicTold c (take n (answers numbered (booted c) events)) (replay numbered (booted c) (take n events)) o }
+{}
