@@ -1,7 +1,7 @@
 //! Reports of where a trace differs, over memory. What they say of other traces stands in tests/cases.
 use crate::run::REMOTE;
 use fmp_run_events::{MemSink, MemSource, RunFault, run_report};
-use fmp_trace_check::{Shown, Verdict};
+use fmp_trace_check::Shown;
 use std::test::Fail;
 
 /// The fourth line tells another answer than the machine's.
@@ -37,23 +37,6 @@ no 4
 ",
     ),
 ];
-
-#[test]
-fn differences(rt: HostRuntime) -> Result<(), Fail> {
-    for (shown, written) in REPORTS {
-        let mut report = MemSink::with_room(rt.alloc(), 1000)?;
-        let verdict = run_report(
-            rt.alloc(),
-            &mut MemSource::new(REMOTE),
-            &mut MemSource::new(TRACE),
-            &mut report,
-            shown,
-        )?;
-        assert_eq!(rt; verdict, Verdict::No(4));
-        assert_eq!(rt; report.bytes(), written);
-    }
-    Ok(())
-}
 
 /// Wherever the room ends, a beginning of the report is out.
 #[test]

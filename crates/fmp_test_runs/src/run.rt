@@ -2,7 +2,7 @@
 ghost use Rattle.std.specs.Prelude.{◌≡◌, [], IfOk};
 ghost use Rattle.fmp_run_events.specs.Runs.{IsAnswered};
 
-use fmp_run_events::{Detail, MemSink, MemSource, RunFault, run_calls, run_check, run_events};
+use fmp_run_events::{MemSink, MemSource, RunFault, run_calls, run_check};
 use fmp_trace_check::Verdict;
 use std::alloc::Global;
 use std::process::Abort;
@@ -82,29 +82,6 @@ fn run(alloc: Global, config: &[u8], events: &[u8]) -> Result<MemSink, RunFault>
         &mut trace,
     )?;
     Ok(trace)
-}
-
-/// The state at boot stands before the first line, and behind each line the state after its event.
-#[test]
-fn states_are_told(rt: HostRuntime) -> Result<(), Fail> {
-    let mut told = MemSink::with_room(rt.alloc(), 1000)?;
-    run_events(
-        rt.alloc(),
-        Detail::State,
-        &mut MemSource::new(REMOTE),
-        &mut MemSource::new(b"P1 act_tsk(T2)\n"),
-        &mut told,
-    )?;
-    let lines = b"  P1 run=T1
-  P2 run=-
-  end
-1 P1 T1 act_tsk(T2) E_OK ipi=2
-  P1 run=T1
-  P2 run=- ready=T2 latch
-  end
-";
-    assert_eq!(rt; told.bytes(), lines.as_slice());
-    Ok(())
 }
 
 /// The run over these devices ends with this fault.

@@ -1,14 +1,11 @@
-//! A trace by its records: a line with every part that there may be, printed and read, and the verdicts of a check. What else is
-//! told of traces stands in tests/cases.
-use crate::run::REMOTE;
+//! A trace by its records: a line with every part that there may be, printed and read. What else is told of traces stands in
+//! tests/cases.
 use fmp_codes::{
     Answer, Call, Code, Event, Object, Proc, Record, Release, Releases, Requests, Runner, Task,
     TaskCall,
 };
 use fmp_config::read_config;
-use fmp_text::{TextFault, TextKind};
 use fmp_trace::{read_trace, trace_text};
-use fmp_trace_check::{Verdict, check};
 use std::test::Fail;
 
 /// Three processors, three tasks and a cyclic handler.
@@ -65,20 +62,5 @@ fn a_line_is_printed_and_read(rt: HostRuntime) -> Result<(), Fail> {
     assert_eq!(rt; records.len(), 1);
     let again = trace_text(rt.alloc(), records.as_slice(), names)?;
     assert_eq!(rt; again.as_slice(), LINE);
-    Ok(())
-}
-
-#[test]
-fn verdicts(rt: HostRuntime) -> Result<(), Fail> {
-    let config = read_config(rt.alloc(), REMOTE)?;
-    let judged = |text| check(rt.alloc(), &config, text).ok();
-    assert!(rt; judged(b"1 P1 T1 act_tsk(T2) E_OK ipi=2\n") == Some(Verdict::Yes));
-    assert!(rt; judged(b"1 P1 T1 act_tsk(T2) E_QOVR ipi=2\n") == Some(Verdict::No(1)));
-    let fault = TextFault {
-        kind: TextKind::BadWord,
-        line: 1,
-    };
-    let refused = check(rt.alloc(), &config, b"2 P1 T1 act_tsk(T2) E_OK ipi=2\n").err();
-    assert!(rt; refused == Some(fault));
     Ok(())
 }

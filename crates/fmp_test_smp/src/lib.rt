@@ -1,12 +1,10 @@
-//! Tests of whole runs of processors, by threads and by a seed: what no contract says.
+//! Tests of whole runs of processors as threads: what no contract says.
 #![tactic(auto)]
 
 #[cfg(test)]
 mod gates;
 #[cfg(test)]
 mod quiet;
-#[cfg(test)]
-mod seeded;
 #[cfg(test)]
 mod smp;
 #[cfg(test)]

@@ -3,10 +3,9 @@ ghost use Rattle.std.specs.Prelude.{◌≤◌};
 
 use crate::gates::{Crossing, Delays};
 use crate::quiet::{PLAYS, ROUNDS, holds};
-use crate::texts::{BOTH, ENDLESS, Play, Played, SPINNING, replayed};
+use crate::texts::{BOTH, ENDLESS, Play, Played, replayed};
 use fmp_codes::{Answer, Call, Code, Event, Record, TaskCall};
 use fmp_smp::{Gate, Open, run_smp};
-use fmp_trace_check::{Verdict, check};
 use fmp_world::Ended;
 use std::alloc::Global;
 use std::process::Abort;
@@ -116,21 +115,4 @@ fn fills<R: Threads + Wait + Sync + Abort>(rt: &R, alloc: Global, turns: u32) ->
 fn a_full_history_ends_a_run(rt: HostRuntime) -> Result<(), Fail> {
     fills(&rt, rt.alloc(), 1)?;
     fills(&rt, rt.alloc(), 50)
-}
-
-/// Whether a run is one of the machine.
-fn is_the_machines(alloc: Global, play: Play, run: &Played) -> Result<bool, Fail> {
-    let trace = play.printed(alloc, run)?;
-    let config = play.config(alloc)?;
-    Ok(check(alloc, &config, trace.as_slice())? == Verdict::Yes)
-}
-
-/// Two processors take one spin lock, and the trace of each run is a run of the machine.
-#[test]
-fn a_spin_lock_is_taken_in_turn(rt: HostRuntime) -> Result<(), Fail> {
-    for _ in 0..100 {
-        let run = run_of(&rt, rt.alloc(), SPINNING, 0, 100_000, &Open)?;
-        assert!(&rt; is_the_machines(rt.alloc(), SPINNING, &run)?);
-    }
-    Ok(())
 }

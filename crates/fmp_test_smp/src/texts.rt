@@ -4,7 +4,6 @@ use fmp_codes::{Answer, Event, Proc, Record};
 use fmp_config::read_config;
 use fmp_rules::Config;
 use fmp_text_scripts::{Scripts, read_scripts};
-use fmp_trace::trace_text;
 use fmp_world::{Ended, History, Receipt, SmpRun};
 use std::alloc::{AllocError, Global};
 use std::test::Fail;
@@ -60,16 +59,6 @@ impl Play {
     pub fn scripts(self, alloc: Global, config: &Config) -> Result<Scripts, Fail> {
         Ok(read_scripts(alloc, self.scripts.as_bytes(), config.names())?)
     }
-
-    /// The trace of a run of it.
-    pub fn printed(self, alloc: Global, run: &Played) -> Result<Vec<u8>, Fail> {
-        let config = self.config(alloc)?;
-        let records = run.records.as_slice();
-        if records.len() > 1_000_000 {
-            return Err("more records than turns")?;
-        }
-        Ok(trace_text(alloc, records, config.names())?)
-    }
 }
 
 const ACTIVATES_AND_ASKS: &str = "\
@@ -116,30 +105,6 @@ CLASS(C1) { CRE_TSK(T1, {TA_ACT, 0, main1, 10, 4096, NULL}); }
 CLASS(C2) { CRE_TSK(T2, {TA_ACT, 0, main2, 10, 4096, NULL}); }
 ",
     scripts: "",
-};
-
-/// Both tasks take a spin lock.
-pub const SPINNING: Play = Play {
-    config: "\
-PROCESSORS(2);
-DEF_CLASS(C1, 1, {1, 2});
-DEF_CLASS(C2, 2, {1, 2});
-CLASS(C1) {
-  CRE_TSK(T1, {TA_ACT, 0, main1, 10, 4096, NULL});
-  CRE_SPN(L, {TA_NULL});
-}
-CLASS(C2) { CRE_TSK(T2, {TA_ACT, 0, main2, 10, 4096, NULL}); }
-",
-    scripts: "\
-script main1
-  loc_spn(L)
-  unl_spn(L)
-end
-script main2
-  loc_spn(L)
-  unl_spn(L)
-end
-",
 };
 
 /// A task that activates itself again and again.

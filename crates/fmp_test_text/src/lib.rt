@@ -11,5 +11,3 @@ mod guesses;
 mod scripts;
 #[cfg(test)]
 mod text;
-#[cfg(test)]
-mod tokens;
