@@ -2,10 +2,9 @@
 use Rattle.std.specs.Prelude.{ℕ, zero, suc, ◌-◌, ◌++◌, List, length, Option, Some, option_map, option_and_then}
 use Rattle.fmp_bytes.specs.Bytes.{cut_at, line_feed}
 use Rattle.fmp_names.specs.Names.{NameLists}
-use Rattle.fmp_text.specs.Lines.{without_return}
 use Rattle.fmp_cli_hints.specs.Excerpts.{excerpt}
 use Rattle.fmp_cli_hints.specs.Hints.{hint}
-use Rattle.fmp_cli_hints.specs.Places.{Walk, event_place}
+use Rattle.fmp_cli_hints.specs.Places.{Walk}
 use Rattle.fmp_cli_hints.specs.Wanted.{wanted_text}
 
 -- the column of the first byte of the rest of a line
@@ -16,10 +15,6 @@ column_of line walk = length line - length walk.rest
 unfoldable pub context_at : NameLists → List ℕ → Walk → Option (List ℕ)
 context_at names line walk =
     option_map (λ wanted. excerpt line (column_of line walk) ++ wanted_text names wanted ++ hint names wanted walk.rest) walk.wanted
-
--- what stands beside a line of an event text
-abbrev pub event_context : NameLists → List ℕ → Option (List ℕ)
-event_context names line = context_at names (without_return line) (event_place names line)
 
 -- the line behind so many line feeds, and what follows its own, where it has one
 unfoldable pub line_behind : ℕ → List ℕ → Option (List ℕ × Option (List ℕ))

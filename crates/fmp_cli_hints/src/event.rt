@@ -1,6 +1,5 @@
 //! The first byte of an event's line that is at fault.
-ghost use Rattle.std.specs.Prelude.{◌≡◌, ◌≢◌, ◌↔◌, Err, IsTrue, IfOk, None, option_map};
-ghost use Rattle.fmp_text.specs.Lines.{line_event};
+ghost use Rattle.std.specs.Prelude.{◌≡◌, IfOk, option_map};
 ghost use Rattle.fmp_cli_hints.specs.Contexts as contexts;
 ghost use Rattle.fmp_cli_hints.specs.Places as spec;
 
@@ -10,7 +9,7 @@ use crate::walk::{Walk, behind_name, ending};
 use crate::wanted::{Wanted, put_wanted};
 use fmp_bytes::{Class, all_of, skip, split_prefix};
 use fmp_calls::find_call;
-use fmp_text::{Names, TextKind, is_skipped, line_event, processor_in, without_return};
+use fmp_text::{Names, is_skipped, processor_in, without_return};
 use std::alloc::{AllocError, Global};
 
 /// What happens on a processor.
@@ -76,16 +75,6 @@ pub fn event_place<'a>(names: &Names, line: &'a [u8]) -> Walk<'a>
     }
 }
 
-/// Whether the line of an event text has a fault of this kind.
-fn has_fault(names: &Names, line: &[u8], kind: TextKind) -> bool
-    ensures { IsTrue result ↔ (line_event names.now line.now ≡ Err kind) }
-{
-    match line_event(names, line) {
-        Ok(_) => false,
-        Err(found) => found == kind,
-    }
-}
-
 /// What stands beside a line: the line, a caret under the place, and what is wanted there, if anything is, with what is told of the word
 /// that stands there.
 #[tactic(auto, unfolding(crate::specs::Contexts::context_at))]
@@ -105,27 +94,4 @@ pub(crate) fn context_at(
     put_wanted(&mut out, names, wanted)?;
     put_hint(alloc, &mut out, names, wanted, walk.rest())?;
     Ok(Some(out))
-}
-
-/// What stands beside a fault in a line of an event text, which comes without its line feed: the line, a caret under the first
-/// byte at fault, and what is wanted there. There is nothing where the line has no fault of this kind.
-pub fn event_context(
-    alloc: Global,
-    names: &Names,
-    line: &[u8],
-    kind: TextKind,
-) -> Result<Option<Vec<u8>>, AllocError>
-    ensures fault { line_event names.now line.now ≡ Err kind
-        → IfOk result (λ found. option_map (λ text. text.items) found ≡ contexts.event_context names.now line.now) }
-    ensures none { line_event names.now line.now ≢ Err kind → IfOk result (λ found. found ≡ None) }
-{
-    if !has_fault(names, line, kind) {
-        return Ok(None);
-    }
-    context_at(
-        alloc,
-        names,
-        without_return(line),
-        &event_place(names, line),
-    )
 }

@@ -7,8 +7,7 @@
 //!
 //! [`text_spot`] is the place of the caret as numbers.
 //!
-//! That the caret is where the reader refuses is only tested. Begin at [`event_context`], [`text_context`] and
-//! [`question_context`]. What stands beside a fault of a configuration is `fmp_cli_hints_config`.
+//! That the caret is where the reader refuses is only tested. Begin at [`text_context`] and [`question_context`]. What stands beside a fault of a configuration is `fmp_cli_hints_config`.
 #![tactic(auto)]
 
 mod event;
@@ -23,7 +22,7 @@ mod trace;
 mod walk;
 mod wanted;
 
-pub use event::{event_context, event_place};
+pub use event::event_place;
 pub use excerpt::{put_excerpt, put_line};
 pub use hints::put_near;
 pub use laws::places_are_in_their_lines;
