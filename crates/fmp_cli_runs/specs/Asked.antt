@@ -11,10 +11,10 @@ use Rattle.fmp_cli.specs.declared.Asked.TheVariants as asked
 use Rattle.fmp_cli.specs.declared.Told.{Told}
 use Rattle.fmp_cli.specs.declared.Told.TheVariants.{Line, State}
 use Rattle.fmp_run_partial.specs.Partials.{FirstPartialFault}
-use Rattle.fmp_run_events.specs.declared.stream.Detail.{Detail}
-use Rattle.fmp_run_events.specs.declared.stream.Detail.TheVariants as detail
-use Rattle.fmp_run_events.specs.Details.{detail_of}
-use Rattle.fmp_run_events.specs.Runs.{Writing}
+use Rattle.fmp_run_stream.specs.declared.stream.Detail.{Detail}
+use Rattle.fmp_run_stream.specs.declared.stream.Detail.TheVariants as detail
+use Rattle.fmp_run_stream.specs.Details.{detail_of}
+use Rattle.fmp_run_stream.specs.Runs.{Writing}
 
 -- which orders are gone through
 abbrev pub rules_of : ExploreRequest → Rules

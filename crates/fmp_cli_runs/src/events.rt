@@ -7,7 +7,7 @@ ghost use Rattle.fmp_run_devices.specs.Devices.{IsKnown, bytes_of};
 ghost use Rattle.fmp_run_texts.specs.Faults.{failed_write, is_config, is_thread_fault};
 ghost use Rattle.fmp_run_texts.specs.Texts.{CountsReads, FirstConfigFault, FlushFails, SaysConfig};
 ghost use Rattle.fmp_cli_runs.specs.Asked.{detail_told, writing_of};
-ghost use Rattle.fmp_run_events.specs.Runs.{FirstTextFault, HasShortLines, IsAnswered, IsNoFaultOfText, IsPrefix, IsWantOfMemory, IsWritten, LeavesWritten};
+ghost use Rattle.fmp_run_stream.specs.Runs.{FirstTextFault, HasShortLines, IsAnswered, IsNoFaultOfText, IsPrefix, IsWantOfMemory, IsWritten, LeavesWritten};
 
 use fmp_cli::Told;
 use fmp_run_devices::{Sink, Source};

@@ -17,13 +17,13 @@ use Rattle.fmp_text_feed.proofs.Told.{never_memory}
 use Rattle.fmp_run_texts.proofs.Grammars.{one_config, only_memory}
 use Rattle.fmp_run_events.proofs.ByLine.{line_by_line, whole_by_line}
 use Rattle.fmp_run_texts.specs.declared.fault.RunFault.{RunFault}
-use Rattle.fmp_run_events.specs.declared.stream.Detail.{Detail}
+use Rattle.fmp_run_stream.specs.declared.stream.Detail.{Detail}
 use Rattle.fmp_run_texts.specs.declared.fault.RunFault.TheVariants as run
 use Rattle.fmp_run_texts.specs.Faults.{is_config, is_text, is_write}
 use Rattle.fmp_run_texts.specs.Texts.{FirstConfigFault, FlushFails, SaysConfig}
-use Rattle.fmp_run_events.specs.Runs.{FirstEventFault, FirstTextFault, IsAnswered, IsNoFaultOfText, IsPrefix, IsPrefixOut, IsWantOfMemory, IsWritten, LeavesWritten, Writing, trace_of}
-use Rattle.fmp_run_events.specs.Details.{detail_of}
-use Rattle.fmp_run_events.specs.Streams.{IsAllOut, IsAmple, Leaves}
+use Rattle.fmp_run_stream.specs.Runs.{FirstEventFault, FirstTextFault, IsAnswered, IsNoFaultOfText, IsPrefix, IsPrefixOut, IsWantOfMemory, IsWritten, LeavesWritten, Writing, trace_of}
+use Rattle.fmp_run_stream.specs.Details.{detail_of}
+use Rattle.fmp_run_stream.specs.Streams.{IsAllOut, IsAmple, Leaves}
 
 -- without a fault all events are answered, and the text spells them
 pub written : (config_text event_text old new : List ℕ) (d : Detail) (writing : Writing) (c : Setup) → ((es : List Event) → detail_of d c es ≡ writing c es) → SaysConfig config_text c → IsValid c

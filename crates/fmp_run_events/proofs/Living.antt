@@ -15,15 +15,15 @@ use Rattle.fmp_run_texts.specs.declared.fault.RunFault.{RunFault}
 use Rattle.fmp_run_texts.specs.Texts.{FlushFails, SaysConfig}
 use Rattle.fmp_run_texts.specs.Faults.{is_config}
 use Rattle.fmp_run_events.proofs.Ended.{leaves_out, prefix_as, written}
-use Rattle.fmp_run_events.specs.declared.stream.Detail.TheVariants as detail
-use Rattle.fmp_run_events.specs.Details.{detail_of}
+use Rattle.fmp_run_stream.specs.declared.stream.Detail.TheVariants as detail
+use Rattle.fmp_run_stream.specs.Details.{detail_of}
 use Rattle.fmp_run_texts.proofs.Grammars.{one_config}
 use Rattle.fmp_run_events.specs.NameFaults.{IsNoFault, IsUnchosen}
 use Rattle.fmp_run_events.specs.declared.lives.LifeFault.{LifeFault}
 use Rattle.fmp_run_events.specs.declared.lives.LifeFault.TheVariants as life
-use Rattle.fmp_run_events.specs.Lives.{IsLifeTold, chosen_life, life_from, life_of, life_since, named_life}
-use Rattle.fmp_run_events.specs.Runs.{IsPrefix, IsPrefixOut, LeavesWritten}
-use Rattle.fmp_run_events.specs.Streams.{IsAllOut, Leaves}
+use Rattle.fmp_run_stream.specs.Lives.{IsLifeTold, chosen_life, life_from, life_of, life_since, named_life}
+use Rattle.fmp_run_stream.specs.Runs.{IsPrefix, IsPrefixOut, LeavesWritten}
+use Rattle.fmp_run_stream.specs.Streams.{IsAllOut, Leaves}
 
 -- of things of which nothing was told yet
 since_nothing : (xs : List Thing) (c : Setup) (es : List Event) → life_since (map unseen xs) c es ≡ life_of xs c es

@@ -9,12 +9,12 @@ use Rattle.fmp_run_texts.specs.declared.fault.RunFault.{RunFault}
 use Rattle.fmp_run_texts.specs.declared.fault.RunFault.TheVariants as run
 use Rattle.fmp_run_texts.specs.Faults.{failed_read, is_config}
 use Rattle.fmp_run_texts.specs.Texts.{FlushFails}
-use Rattle.fmp_run_events.specs.declared.stream.Detail.{Detail}
-use Rattle.fmp_run_events.specs.Details.{detail_of}
-use Rattle.fmp_run_events.specs.Runs.{IsPrefixOut}
-use Rattle.fmp_run_events.specs.Streams.{IsAllOut, Leaves}
-use Rattle.fmp_run_events.proofs.Streaming.{all_out_begun}
-use Rattle.fmp_run_events.proofs.Traces.{all_begun, prefix_begun}
+use Rattle.fmp_run_stream.specs.declared.stream.Detail.{Detail}
+use Rattle.fmp_run_stream.specs.Details.{detail_of}
+use Rattle.fmp_run_stream.specs.Runs.{IsPrefixOut}
+use Rattle.fmp_run_stream.specs.Streams.{IsAllOut, Leaves}
+use Rattle.fmp_run_stream.proofs.Streaming.{all_out_begun}
+use Rattle.fmp_run_stream.proofs.Traces.{all_begun, prefix_begun}
 
 abbrev Ended : Type 0
 Ended = Result (Unit {0}) RunFault

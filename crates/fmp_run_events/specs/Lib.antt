@@ -1,9 +1,4 @@
-pub mod Runs  -- What a run over a configuration and events does.
-pub mod Details  -- What a run writes that tells the state after each event, too, or what of some things changed.
-pub mod Lives  -- What a run writes that tells what of some things changed.
 pub mod NameFaults  -- The faults of a run that is asked for some things by their names.
-pub mod Room  -- The room that a run takes for a line before it reads an event.
-pub mod Streams  -- What a run that answers each event as it comes has done.
 pub mod Checks  -- What a run that checks a trace writes.
 pub mod Before  -- The state of the machine before a line of a trace.
 pub mod Reports  -- What a run that reports where a trace differs does.

@@ -9,7 +9,7 @@ use Rattle.fmp_run_texts.specs.Faults.{is_config}
 use Rattle.fmp_run_texts.specs.Texts.{SaysConfig}
 use Rattle.fmp_run_events.specs.declared.lives.LifeFault.{LifeFault}
 use Rattle.fmp_run_events.specs.declared.lives.LifeFault.TheVariants.{Run, Name}
-use Rattle.fmp_run_events.specs.Runs.{IsNoFaultOfText}
+use Rattle.fmp_run_stream.specs.Runs.{IsNoFaultOfText}
 
 -- how a run ended, but for its names: what devices and memory did, and the two texts
 abbrev pub as_run : {T : Type 0} → Result T LifeFault → Result (Unit {0}) RunFault

@@ -7,16 +7,16 @@ ghost use Rattle.fmp_setup.specs.Setup.{Setup};
 ghost use Rattle.fmp_text.specs.Events.{Reading, reading_by_line};
 ghost use Rattle.fmp_text.specs.TextGrammar.{SpellsText};
 ghost use Rattle.fmp_text.specs.Limits.{most_bytes, most_events};
-ghost use Rattle.fmp_run_events.specs.Details.{detail_of};
+ghost use Rattle.fmp_run_stream.specs.Details.{detail_of};
 ghost use Rattle.fmp_run_devices.specs.Devices.{IsKnown, bytes_of};
 ghost use Rattle.fmp_run_texts.specs.Faults.{failed_read, failed_write, is_config, is_thread_fault};
 ghost use Rattle.fmp_run_texts.specs.Texts.{CountsReads, FirstConfigFault, FlushFails, SaysConfig};
-ghost use Rattle.fmp_run_events.specs.Runs.{FirstEventFault, FirstTextFault, HasShortLines, IsAnswered, IsNoFaultOfText, IsPrefix, IsPrefixOut, IsWantOfMemory, IsWritten, LeavesOut, LeavesWritten, trace_of};
-ghost use Rattle.fmp_run_events.specs.Streams.{IsAllOut, Leaves, Streams};
+ghost use Rattle.fmp_run_stream.specs.Runs.{FirstEventFault, FirstTextFault, HasShortLines, IsAnswered, IsNoFaultOfText, IsPrefix, IsPrefixOut, IsWantOfMemory, IsWritten, LeavesOut, LeavesWritten, trace_of};
+ghost use Rattle.fmp_run_stream.specs.Streams.{IsAllOut, Leaves, Streams};
 
-use crate::stream::{Answering, Detail};
 use fmp_rules::Config;
 use fmp_run_devices::{Sink, Source, new_piece};
+use fmp_run_stream::{Answering, Detail};
 use fmp_run_texts::{RunFault, config_from, pass_on};
 use std::alloc::Global;
 

@@ -1,12 +1,14 @@
 //! The runs of the program: texts in, a text out, through devices that can fail.
 //!
-//! A run reads a [`Source`] to its end and writes to a [`Sink`]; contracts speak of their bytes where these are known. [`run_calls`], [`run_events`] and [`run_life`] answer each event as its
-//! line comes, on the kernel, and tell as much as a [`Detail`] says; [`run_check`] and [`run_report`] judge a trace by the plain machine. The runs of processors that follow
-//! scripts are in `fmp_run_smp`. Devices are in `fmp_run_devices`; how texts are read and judged, and what a run's faults are, in `fmp_run_texts`.
+//! A run reads a [`Source`] to its end and writes to a [`Sink`]; contracts speak of their bytes where these are known.
+//! [`run_events`] and [`run_life`] answer each event as its line comes, on the kernel, and tell as much as a [`Detail`] says;
+//! [`run_calls`] tells lines alone; [`run_check`] and [`run_report`] judge a trace by the plain machine. The runs of processors
+//! that follow scripts are in `fmp_run_smp`. Devices are in `fmp_run_devices`; how texts are read and judged, and what a run's
+//! faults are, in `fmp_run_texts`.
 //!
 //! Each contract says what is written where all went well, which fault is told and that it is the first one, what is out after
-//! a fault, and which calls of the devices failed. Begin at `answered` of [`run_calls`], which is the headline: `IsAnswered` in
-//! `specs/Runs`.
+//! a fault, and which calls of the devices failed. Begin at `answered` of [`run_events`], which is the headline: `IsWritten` in
+//! `fmp_run_stream/specs/Runs`.
 #![tactic(auto)]
 
 mod before;
@@ -14,7 +16,6 @@ mod calls;
 mod check;
 mod lives;
 mod report;
-mod stream;
 
 pub use calls::{run_calls, run_events};
 pub use check::run_check;
@@ -22,7 +23,7 @@ pub use fmp_run_devices::{
     Failed, MemSink, MemSource, ReadFault, ReadSource, Sink, Source, WriteSink, read_up_to,
     write_all, write_out,
 };
+pub use fmp_run_stream::Detail;
 pub use fmp_run_texts::{FaultLine, Judged, RunFault, Status, config_from, judged_texts};
 pub use lives::{LifeFault, run_life};
 pub use report::run_report;
-pub use stream::Detail;

@@ -9,14 +9,14 @@ ghost use Rattle.fmp_show_life.specs.Things.{chosen_in};
 ghost use Rattle.fmp_show_life.specs.declared.things.Thing.{Thing};
 ghost use Rattle.fmp_run_texts.specs.Faults.{failed_write, is_thread_fault};
 ghost use Rattle.fmp_run_texts.specs.Texts.{CountsReads, FirstConfigFault, FlushFails, SaysConfig};
-ghost use Rattle.fmp_run_events.specs.Lives.{IsLifeTold, named_life};
+ghost use Rattle.fmp_run_stream.specs.Lives.{IsLifeTold, named_life};
 ghost use Rattle.fmp_run_events.specs.NameFaults as faults;
-ghost use Rattle.fmp_run_events.specs.Runs.{FirstTextFault, IsPrefix, LeavesWritten};
+ghost use Rattle.fmp_run_stream.specs.Runs.{FirstTextFault, IsPrefix, LeavesWritten};
 
 use crate::calls::answer_text;
-use crate::stream::Detail;
 use fmp_names::Names;
 use fmp_run_devices::{Sink, Source};
+use fmp_run_stream::Detail;
 use fmp_run_texts::{RunFault, config_from};
 use fmp_show_life::{Life, NameFault, chosen};
 use std::alloc::Global;

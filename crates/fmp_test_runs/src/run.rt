@@ -1,6 +1,6 @@
 //! Whole runs over memory. Each trace is worked out by hand from the rules of docs/PROFILE.md.
 ghost use Rattle.std.specs.Prelude.{◌≡◌, [], IfOk};
-ghost use Rattle.fmp_run_events.specs.Runs.{IsAnswered};
+ghost use Rattle.fmp_run_stream.specs.Runs.{IsAnswered};
 
 use fmp_run_events::{MemSink, MemSource, RunFault, run_calls, run_check};
 use fmp_trace_check::Verdict;

@@ -4,7 +4,7 @@ use Rattle.std.proofs.lemmas.Grind.{common_steps}
 use Rattle.std.proofs.lemmas.Result.{err_from_is_err_and}
 use Rattle.fmp_text.specs.Limits.{most_bytes}
 use Rattle.fmp_run_devices.proofs.Known.{kept_bytes, kept_known}
-use Rattle.fmp_run_events.proofs.Streaming.{measure_falls, passed_begun, stream_done, stream_passed}
+use Rattle.fmp_run_stream.proofs.Streaming.{measure_falls, passed_begun, stream_done, stream_passed}
 use Rattle.fmp_run_events.proofs.calls.answer_all.Goals as goal
 
 pub loop-trace-smaller : goal.loop-trace-smaller

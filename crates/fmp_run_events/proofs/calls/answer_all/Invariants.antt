@@ -3,8 +3,8 @@ use Rattle.fmp_run_devices.specs.Devices.{IsKnown, bytes_of}
 use Rattle.fmp_text_feed.specs.Feed.{IsDone, IsWanting}
 use Rattle.fmp_text.specs.Events.{Reading}
 use Rattle.fmp_text.specs.Limits.{most_bytes, most_events}
-use Rattle.fmp_run_events.specs.declared.stream.Detail.{Detail}
-use Rattle.fmp_run_events.specs.Streams.{Streams}
+use Rattle.fmp_run_stream.specs.declared.stream.Detail.{Detail}
+use Rattle.fmp_run_stream.specs.Streams.{Streams}
 use Rattle.fmp_run_events.proofs.calls.answer_all.Given as goal
 
 abbrev pub invariant-loop-trace : goal.invariant-loop-trace

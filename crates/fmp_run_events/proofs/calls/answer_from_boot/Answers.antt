@@ -3,7 +3,7 @@ use Rattle.std.proofs.lemmas.Bool.{false≢true}
 use Rattle.std.proofs.lemmas.Result.{err_from_is_err_and}
 use Rattle.fmp_run_devices.specs.Devices.{bytes_of}
 use Rattle.fmp_rules.specs.Boot.{booted}
-use Rattle.fmp_run_events.proofs.Streaming.{start_leaves, stream_start}
+use Rattle.fmp_run_stream.proofs.Streaming.{start_leaves, stream_start}
 use Rattle.fmp_run_events.proofs.calls.answer_from_boot.Goals as goal
 
 pub returns-in_err-piece-clause-leaves : goal.returns-in_err-piece-clause-leaves

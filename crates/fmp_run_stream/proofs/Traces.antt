@@ -12,16 +12,16 @@ use Rattle.fmp_rules.specs.World.{World}
 use Rattle.fmp_names.specs.Names.{NameLists}
 use Rattle.fmp_trace.specs.Lines.{line_text, lines_from}
 use Rattle.fmp_run_devices.specs.Devices.{BeginsWith}
-use Rattle.fmp_run_events.specs.declared.stream.Detail.{Detail}
-use Rattle.fmp_run_events.specs.declared.stream.Detail.TheVariants as detail
-use Rattle.fmp_run_events.specs.Runs.{trace_of}
+use Rattle.fmp_run_stream.specs.declared.stream.Detail.{Detail}
+use Rattle.fmp_run_stream.specs.declared.stream.Detail.TheVariants as detail
+use Rattle.fmp_run_stream.specs.Runs.{trace_of}
 use Rattle.std.specs.List.{flat_map}
 use Rattle.fmp_show_life.specs.declared.things.Thing.{Thing}
 use Rattle.fmp_show_life.specs.Lives.{Seen, changes_of, told_since}
 use Rattle.fmp_show_life.proofs.Changes.{renewed_again, told_changes}
 use Rattle.fmp_show_state.specs.States.{state_text}
-use Rattle.fmp_run_events.specs.Lives.{life_from, life_since, with_changes}
-use Rattle.fmp_run_events.specs.Details.{boot_text, detail_of, entry_text, states_from, states_of, told_in}
+use Rattle.fmp_run_stream.specs.Lives.{life_from, life_since, with_changes}
+use Rattle.fmp_run_stream.specs.Details.{boot_text, detail_of, entry_text, states_from, states_of, told_in}
 
 module _ {Q : Type 0} (k : Ordering Q) (names : NameLists) where
   pub replay_more : (w : World Q) (es : List Event) (e : Event) → replay k w (es ++ e ∷ []) ≡ (step k (replay k w es) e).0

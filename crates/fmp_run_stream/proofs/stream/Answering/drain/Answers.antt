@@ -2,7 +2,7 @@ use Rattle.std.proofs.Common.{arith, rules, false, true}
 use Rattle.std.proofs.lemmas.Bool.{false≢true}
 use Rattle.std.proofs.lemmas.Grind.{common_steps}
 use Rattle.std.proofs.lemmas.Result.{err_from_is_err_and}
-use Rattle.fmp_run_events.proofs.stream.Answering.drain.Goals as goal
+use Rattle.fmp_run_stream.proofs.stream.Answering.drain.Goals as goal
 
 pub loop-preserved : goal.loop-preserved
 loop-preserved g c =

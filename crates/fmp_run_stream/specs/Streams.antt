@@ -10,13 +10,13 @@ use Rattle.fmp_rules.specs.Step.{replay}
 use Rattle.fmp_law_lists.specs.Stands.{Stands}
 use Rattle.fmp_run_texts.specs.declared.fault.RunFault.{RunFault}
 use Rattle.fmp_run_texts.specs.declared.fault.RunFault.TheVariants as run
-use Rattle.fmp_run_events.specs.declared.stream.Answering.{Answering}
-use Rattle.fmp_run_events.specs.declared.stream.Detail.{Detail}
-use Rattle.fmp_run_events.specs.declared.stream.Detail.TheVariants as detail
+use Rattle.fmp_run_stream.specs.declared.stream.Answering.{Answering}
+use Rattle.fmp_run_stream.specs.declared.stream.Detail.{Detail}
+use Rattle.fmp_run_stream.specs.declared.stream.Detail.TheVariants as detail
 use Rattle.fmp_run_devices.specs.Devices.{BeginsWith, IsKnown, bytes_of}
-use Rattle.fmp_run_events.specs.Runs.{FirstEventFault, HasShortLines, IsOutBefore, IsPrefixOut}
-use Rattle.fmp_run_events.specs.Details.{detail_of, told_in}
-use Rattle.fmp_run_events.specs.Room.{HasLineRoom}
+use Rattle.fmp_run_stream.specs.Runs.{FirstEventFault, HasShortLines, IsOutBefore, IsPrefixOut}
+use Rattle.fmp_run_stream.specs.Details.{detail_of, told_in}
+use Rattle.fmp_run_stream.specs.Room.{HasLineRoom}
 
 -- The room that a run takes before it reads an event is enough for all that it tells: no states, and no line of the text is long.
 pub record IsAmple (d : Detail) (text : List ℕ) : Type 0 where

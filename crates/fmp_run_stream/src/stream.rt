@@ -10,15 +10,15 @@ ghost use Rattle.fmp_rules.specs.Step.{step as step_of};
 ghost use Rattle.fmp_setup.specs.Valid.{IsValid};
 ghost use Rattle.fmp_text.specs.Events.{Reading};
 ghost use Rattle.fmp_text.specs.Limits.{most_bytes, most_events};
-ghost use Rattle.fmp_run_events.specs.Details.{boot_text, entry_text, finished, told_in};
-ghost use Rattle.fmp_run_events.specs.Lives.{with_changes};
+ghost use Rattle.fmp_run_stream.specs.Details.{boot_text, entry_text, finished, told_in};
+ghost use Rattle.fmp_run_stream.specs.Lives.{with_changes};
 ghost use Rattle.std.specs.List.{flat_map};
 ghost use Rattle.fmp_show_life.specs.Lives.{renewed, told_since};
 ghost use Rattle.fmp_run_devices.specs.Devices.{BeginsWith, IsKnown, bytes_of};
 ghost use Rattle.fmp_run_texts.specs.Faults.{failed_read, failed_write, is_config, is_read, is_write, is_thread_fault};
-ghost use Rattle.fmp_run_events.specs.Runs.{FirstEventFault};
+ghost use Rattle.fmp_run_stream.specs.Runs.{FirstEventFault};
 ghost use Rattle.fmp_trace.specs.Lines.{most_line_bytes};
-ghost use Rattle.fmp_run_events.specs.Streams.{FirstFrom, Leaves, LeavesFrom, Streams, StreamsOn};
+ghost use Rattle.fmp_run_stream.specs.Streams.{FirstFrom, Leaves, LeavesFrom, Streams, StreamsOn};
 
 use fmp_codes::{Answer, Event, Proc, Record};
 use fmp_kernel::Kernel;
@@ -111,7 +111,7 @@ const LINE_ROOM: usize = 10_394;
 
 /// A run that answers each event as it comes. It keeps the unread rest of one line, the last record, and the line that it writes.
 #[derive(Drop)]
-pub(crate) struct Answering {
+pub struct Answering {
     detail: Detail,
     feed: EventFeed,
     kernel: Kernel,
@@ -122,11 +122,7 @@ pub(crate) struct Answering {
 
 impl Answering {
     /// The machine at boot, and no byte of the events yet.
-    pub(crate) fn new(
-        alloc: Global,
-        detail: Detail,
-        config: &Config,
-    ) -> Result<Answering, AllocError>
+    pub fn new(alloc: Global, detail: Detail, config: &Config) -> Result<Answering, AllocError>
         ensures detail { IfOk result (λ a. a.detail ≡ detail) }
         ensures feed { IfOk result (λ a. a.feed ≡ new_feed) }
         ensures stands { IfOk result (λ a. Stands a.kernel (booted config.now)) }
@@ -146,14 +142,14 @@ impl Answering {
     }
 
     /// Whether the text of the events has ended.
-    pub(crate) fn has_ended(&self) -> bool
+    pub fn has_ended(&self) -> bool
         ensures { result ≡ self.now.feed.ended }
     {
         self.feed.ended()
     }
 
     /// Writes what is told before the first event: the state at boot, or the lines of things, where these are told.
-    pub(crate) fn begin<W: Sink>(&mut self, names: &Names, trace: &mut W) -> Result<(), RunFault>
+    pub fn begin<W: Sink>(&mut self, names: &Names, trace: &mut W) -> Result<(), RunFault>
         requires calls { W.failures trace.old < 2 ^ 64 - 1 }
         ensures detail { (m : State) → Stands self.old.kernel m → OnOk result (self.new.detail ≡ told_in self.old.detail names.now m) }
         ensures same { (self.new.feed ≡ self.old.feed) × (self.new.kernel ≡ self.old.kernel) × (self.new.count ≡ self.old.count) }
@@ -245,7 +241,7 @@ impl Answering {
     }
 
     /// Answers each event whose line is whole.
-    pub(crate) fn drain<W: Sink>(&mut self, config: &Config, trace: &mut W) -> Result<(), RunFault>
+    pub fn drain<W: Sink>(&mut self, config: &Config, trace: &mut W) -> Result<(), RunFault>
         requires calls { W.failures trace.old < 2 ^ 64 - 1 }
         requires counted { self.old.count ≡ self.old.feed.events }
         requires few { self.old.feed.events ≤ most_events }
@@ -270,7 +266,7 @@ impl Answering {
 
     /// Reads a further piece of the text, or its end. The trace holds nothing back meanwhile, so who gives events one by one has
     /// the answers to all that were given.
-    pub(crate) fn take_piece<S: Source, W: Sink>(
+    pub fn take_piece<S: Source, W: Sink>(
         &mut self,
         events: &mut S,
         trace: &W,

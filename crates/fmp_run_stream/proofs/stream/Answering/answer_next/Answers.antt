@@ -1,12 +1,12 @@
 use Rattle.std.proofs.Common.{true, refl, ap, Err, ◌∙◌}
 use Rattle.std.proofs.lemmas.Result.{err_from_is_err_and}
-use Rattle.fmp_run_events.proofs.Streaming.{named_begins, named_detail, named_entry, named_next, named_same, stream_same, stream_step, step_leaves}
+use Rattle.fmp_run_stream.proofs.Streaming.{named_begins, named_detail, named_entry, named_next, named_same, stream_same, stream_step, step_leaves}
 use Rattle.fmp_rules.specs.Arrivals.{numbered}
 use Rattle.fmp_rules.specs.Boot.{booted}
 use Rattle.fmp_rules.specs.Step.{replay}
-use Rattle.fmp_run_events.specs.Details.{told_in}
-use Rattle.fmp_run_events.specs.declared.stream.Detail.{Detail}
-use Rattle.fmp_run_events.proofs.stream.Answering.answer_next.Goals as goal
+use Rattle.fmp_run_stream.specs.Details.{told_in}
+use Rattle.fmp_run_stream.specs.declared.stream.Detail.{Detail}
+use Rattle.fmp_run_stream.proofs.stream.Answering.answer_next.Goals as goal
 
 pub returns-in_ok-answer-in-Some-clause-streams : goal.returns-in_ok-answer-in-Some-clause-streams
 returns-in_ok-answer-in-Some-clause-streams g c = λ d tells text whole old remaining known before.

@@ -1,6 +1,6 @@
 use Rattle.std.proofs.Common.{◌+◌, arith}
 use Rattle.fmp_trace.proofs.Lengths.{line_few}
-use Rattle.fmp_run_events.proofs.stream.Answering.answer.Goals as goal
+use Rattle.fmp_run_stream.proofs.stream.Answering.answer.Goals as goal
 
 pub returns-in_err-trace_line-clause-room : goal.returns-in_err-trace_line-clause-room
 returns-in_err-trace_line-clause-room g c = λ lines ample is.

@@ -1,7 +1,7 @@
 use Rattle.std.proofs.Common.{◌≡◌, ◌∙◌, ◌<◌, length, true, rules, refl, inr}
 use Rattle.fmp_run_devices.proofs.Known.{end_bytes, read_bytes}
-use Rattle.fmp_run_events.proofs.Streaming.{piece_wanting, prefix_out, stream_close, stream_push}
-use Rattle.fmp_run_events.proofs.stream.Answering.take_piece.Goals as goal
+use Rattle.fmp_run_stream.proofs.Streaming.{piece_wanting, prefix_out, stream_close, stream_push}
+use Rattle.fmp_run_stream.proofs.stream.Answering.take_piece.Goals as goal
 
 pub returns-in-Err-clause-leaves : goal.returns-in-Err-clause-leaves
 returns-in-Err-clause-leaves g c = λ tells d config text whole old written before. prefix_out d true config text whole old c.args.self.now written _ refl before

@@ -11,7 +11,7 @@ use Rattle.fmp_trace.specs.Lines.{line_text}
 use Rattle.fmp_show_life.specs.declared.things.Thing.{Thing}
 use Rattle.fmp_show_life.specs.Lives.{Seen, changes_of, lines_of, told_since}
 use Rattle.fmp_show_life.specs.Things.{chosen_in}
-use Rattle.fmp_run_events.specs.Runs.{Written}
+use Rattle.fmp_run_stream.specs.Runs.{Written}
 
 -- the line of an event with what changed, and nothing where nothing did
 abbrev pub with_changes : List ℕ → List ℕ → List ℕ

@@ -1,8 +1,8 @@
 use Rattle.std.proofs.Common.{◌≡◌, ◌-◌, ◌≤◌, length}
 use Rattle.fmp_run_devices.specs.Devices.{IsKnown}
 use Rattle.fmp_text.specs.Limits.{most_events}
-use Rattle.fmp_run_events.specs.Streams.{StreamsOn}
-use Rattle.fmp_run_events.proofs.stream.Answering.drain.Given as goal
+use Rattle.fmp_run_stream.specs.Streams.{StreamsOn}
+use Rattle.fmp_run_stream.proofs.stream.Answering.drain.Given as goal
 
 abbrev pub invariant-loop : goal.invariant-loop
 invariant-loop g l = record {

@@ -16,18 +16,18 @@ use Rattle.fmp_text.specs.declared.fault.TextFault.{TextFault}
 use Rattle.fmp_text.specs.Events.{Reading, faultless, reading_by_line, with_events}
 use Rattle.fmp_codes.specs.declared.records.Record.{Record}
 use Rattle.fmp_names.specs.Names.{NameLists}
-use Rattle.fmp_run_events.proofs.Traces.{all_begun, begun, boot_begun, detail_more, detail_none, entry_behind, prefix_begun, state_more, told_again}
-use Rattle.fmp_run_events.specs.declared.stream.Answering.{Answering}
-use Rattle.fmp_run_events.specs.declared.stream.Detail.{Detail}
-use Rattle.fmp_run_events.specs.declared.stream.Detail.TheVariants as detail
+use Rattle.fmp_run_stream.proofs.Traces.{all_begun, begun, boot_begun, detail_more, detail_none, entry_behind, prefix_begun, state_more, told_again}
+use Rattle.fmp_run_stream.specs.declared.stream.Answering.{Answering}
+use Rattle.fmp_run_stream.specs.declared.stream.Detail.{Detail}
+use Rattle.fmp_run_stream.specs.declared.stream.Detail.TheVariants as detail
 use Rattle.fmp_run_texts.specs.declared.fault.RunFault.{RunFault}
 use Rattle.fmp_run_texts.specs.declared.fault.RunFault.TheVariants as run
 use Rattle.fmp_run_devices.specs.Devices.{BeginsWith}
-use Rattle.fmp_run_events.specs.Runs.{IsPrefixOut}
-use Rattle.fmp_run_events.specs.Details.{boot_text, detail_of, entry_text, told_in}
+use Rattle.fmp_run_stream.specs.Runs.{IsPrefixOut}
+use Rattle.fmp_run_stream.specs.Details.{boot_text, detail_of, entry_text, told_in}
 use Rattle.fmp_trace.specs.Lines.{most_line_bytes}
-use Rattle.fmp_run_events.specs.Room.{HasLineRoom}
-use Rattle.fmp_run_events.specs.Streams.{IsAllOut, IsAmple, Leaves, Streams}
+use Rattle.fmp_run_stream.specs.Room.{HasLineRoom}
+use Rattle.fmp_run_stream.specs.Streams.{IsAllOut, IsAmple, Leaves, Streams}
 
 module _ (d : Detail) (tells : Bool) (c : Setup) (text : List ℕ) (whole : Reading) (old : List ℕ) where
   -- one event was answered, and its entry written

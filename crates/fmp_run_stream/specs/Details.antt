@@ -11,10 +11,10 @@ use Rattle.fmp_rules.specs.Step.{step}
 use Rattle.fmp_trace.specs.Lines.{line_text}
 use Rattle.fmp_show_life.specs.Lives.{renewed, told_since}
 use Rattle.fmp_show_state.specs.States.{state_text}
-use Rattle.fmp_run_events.specs.declared.stream.Detail.{Detail}
-use Rattle.fmp_run_events.specs.declared.stream.Detail.TheVariants as detail
-use Rattle.fmp_run_events.specs.Lives.{life_since, with_changes}
-use Rattle.fmp_run_events.specs.Runs.{Writing, trace_of}
+use Rattle.fmp_run_stream.specs.declared.stream.Detail.{Detail}
+use Rattle.fmp_run_stream.specs.declared.stream.Detail.TheVariants as detail
+use Rattle.fmp_run_stream.specs.Lives.{life_since, with_changes}
+use Rattle.fmp_run_stream.specs.Runs.{Writing, trace_of}
 
 -- what is written of the state at boot
 abbrev pub boot_text : Detail → NameLists → State → List ℕ

@@ -1,0 +1,2 @@
+pub mod Traces  -- The trace of one event more, and beginnings of traces.
+pub mod Streaming  -- One event more of a run, one piece more of its text, and its end.
