@@ -12,6 +12,7 @@ mod output;
 mod progress;
 mod scripts;
 mod texts;
+mod words;
 
 use beside::Telling;
 use clap::error::ErrorKind;
@@ -31,13 +32,14 @@ use fmp_trace_check::Verdict;
 use output::{Ending, is_coloured, kept, settled, settled_begun, settled_life, settled_search};
 use progress::ProgressLine;
 use scripts::Misfit;
+use std::io;
 use std::io::{Input, IsTerminal, Read, Write};
 use std::process::ExitCode;
 use std::rt::{Clock, Env, Files};
 use std::sync::Wait;
 use std::thread::Threads;
-use std::{env, io};
 use texts::{both_opened, both_taken, config_alone, trace_read};
+use words::{settle_context, words_of};
 
 /// The paths where no text is at fault.
 const NO_PATHS: Paths<'static> = Paths {
@@ -509,11 +511,6 @@ fn scripted<R: Env + Files + Input + Print + Eprint + AllocGlobal + Threads + Wa
     replied(rt, &paths, telling, request.find.unwrap_or(""), run)
 }
 
-/// The words of the command line, in their order.
-fn words_of<R: Env + AllocGlobal>(rt: &R) -> io::Result<Vec<String>> {
-    Ok(env::args(rt)?.collect(rt.alloc())?)
-}
-
 /// What the text is of which this is asked.
 fn traced_form(asked: Asked) -> TextForm {
     match asked {
@@ -574,6 +571,10 @@ fn run<R: Env + Files + Input + Print + Eprint + Clock + AllocGlobal + Threads +
                 return unformed(rt);
             }
             without_option(&mut words);
+            let settled = settle_context(rt.alloc(), &mut words, line, is_told_at_terminal);
+            if settled.is_err() {
+                return failed(rt, &NO_PATHS, &RunFault::Memory);
+            }
             execute(rt, words.as_slice(), line, is_terminal, is_told_at_terminal)
         }
         Err(error) if error.kind() == io::ErrorKind::InvalidData => {
