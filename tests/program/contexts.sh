@@ -9,11 +9,11 @@ contexts() {
     from=events.txt run 1 "$(as_file echo 1 P1 T1 tick taken)" "$(as_file printf '%s\n' 'fmpsim: -: line 2: E3 unknown name' \
         '  Use the name of an object of the configuration, or a constant.')" calls "$machine" - --context
     printf 'PROCESSORS(1);\nDEF_CLASS(C, 1, {1});\nCLASS(C) { CRE_SEM(S, {TA_NULL, 0, 0}); }\n' > number.cfg
-    run 1 /dev/null "$(as_file printf '%s\n' 'fmpsim: number.cfg: line 3: F7 value out of range' '  CLASS(C) { CRE_SEM(S, {TA_NULL, 0, 0}); }' \
+    printf '%s\n' 'fmpsim: number.cfg: line 3: F7 value out of range' '  CLASS(C) { CRE_SEM(S, {TA_NULL, 0, 0}); }' \
         '                                     ^' '  wanted: CRE_SEM(semid, {sematr | .., isemcnt, maxsem});' \
         '  sematr: TA_NULL TA_TFIFO TA_TPRI' '  maxsem: within 1 to 65535' '  isemcnt: within 0 to maxsem' \
-        '  Give a number within the range that `fmpsim list` tells, without leading zeros, or a name defined before.')" \
-        check number.cfg "$late/trace.txt" --context
+        '  Give a number within the range that `fmpsim list` tells, without leading zeros, or a name defined before.' > number.told
+    run 1 /dev/null number.told check number.cfg "$late/trace.txt" --context
     printf '1 P1 T1 tick taken' > cut.txt
     run 1 /dev/null "$(as_file printf '%s\n' 'fmpsim: cut.txt: line 1: E6 cut short' '  1 P1 T1 tick taken' '                    ^' \
         '  End the last line with a line feed, and the last script with `end`.')" check "$machine" --context cut.txt
@@ -24,8 +24,49 @@ contexts() {
     sed '3s/taken/none/' "$late/trace.txt" > changed.txt
     run 5 "$(as_file echo no 3)" /dev/null check --context "$machine" changed.txt
     unread_with_causes
+    context_at_terminal
     configuration_from_a_pipe
     greatest_with_context
+}
+
+# At a terminal the line of a fault is shown by itself, for every command, unless the words say otherwise or ask for lines in another form.
+context_at_terminal() {
+    local words
+    printf '%s\n' 'fmpsim: events.txt: line 2: E3 unknown name' '  P1 act_tsk(T9)' '             ^' '  wanted: act_tsk(task)' "$task" > shown.txt
+    head -n 1 shown.txt > plain.txt
+    echo 'events.txt:2:12: error: E3 unknown name' > gcc.txt
+    told_at_terminal shown.txt calls "$machine" events.txt
+    told_at_terminal shown.txt calls "$machine" events.txt --context
+    told_at_terminal plain.txt calls --no-context "$machine" events.txt
+    told_at_terminal plain.txt --no-context calls "$machine" events.txt --context
+    told_at_terminal gcc.txt --diagnostics=gcc calls "$machine" events.txt
+    run 1 "$(as_file echo 1 P1 T1 tick taken)" plain.txt calls "$machine" events.txt --no-context --context
+    for words in 'calls number.cfg events.txt' 'check number.cfg events.txt' 'smp number.cfg name.txt --ticks 0 --turns 1' \
+        'explore number.cfg name.txt --ticks 0 --turns 1 --find end' 'shrink number.cfg events.txt --find end' 'wave number.cfg events.txt' \
+        'view number.cfg events.txt' 'list ./number.cfg'; do
+        # shellcheck disable=SC2086
+        told_at_terminal "$(as_file sed "s|number.cfg|$(echo $words | grep -o '[./]*number.cfg')|" number.told)" $words
+    done
+}
+
+# told_at_terminal TOLD WORD..: where standard error is a terminal the program on these words writes there what this file has.
+told_at_terminal() {
+    local same=no
+    python3 -c '
+import os, pty, subprocess, sys
+end, start = pty.openpty()
+run = subprocess.Popen(sys.argv[1:], stdin=subprocess.DEVNULL, stdout=subprocess.DEVNULL, stderr=start)
+os.close(start)
+told = b""
+try:
+    while piece := os.read(end, 4096):
+        told += piece
+except OSError:
+    pass
+run.wait()
+sys.stdout.buffer.write(told.replace(b"\r\n", b"\n"))
+' "$program" "${@:2}" > told && diff "$1" told && same=yes
+    count "$same" "${@:2}" '# at a terminal'
 }
 
 # A configuration from a pipe cannot be read twice, and the place of a fault is shown all the same, also of one of the events.
