@@ -24,8 +24,7 @@ use std::marker::Model;
 /// The kernel. Contracts see its state with lists, which stands for a safe state of the model.
 #[derive(Drop)]
 pub struct Kernel {
-    /// In a box, so that who owns a kernel lets go of it by one call.
-    pub(crate) machine: Box<KernelMachine>,
+    pub(crate) machine: KernelMachine,
 }
 
 impl Model for Kernel {
@@ -35,9 +34,9 @@ impl Model for Kernel {
 
     ghost Value = { World Queues };
 
-    ghost view = { λ a. a.machine.value };
+    ghost view = { λ a. a.machine };
 
-    ghost invariant = { λ a. IsKept a.machine.value };
+    ghost invariant = { λ a. IsKept a.machine };
 }
 
 impl Kernel {
@@ -54,9 +53,7 @@ impl Kernel {
     {
         let mut machine = KernelMachine::blank(config)?;
         boot(&mut machine, config);
-        Ok(Kernel {
-            machine: Box::new(config.allocator(), machine)?,
-        })
+        Ok(Kernel { machine })
     }
 
     /// Plays one event on a processor of the machine, and tells what it answers and did.
@@ -96,14 +93,14 @@ impl Kernel {
         ensures taken { TakesRequest self.old event told.new self.new }
         ensures top { RunsTop listed self.old event told.new self.new }
     {
-        step_into(&mut *self.machine, event, told);
+        step_into(&mut self.machine, event, told);
     }
     /// Whether it is the same as another kernel, so that both answer all events alike. Where it says no, contracts may see the
     /// same all the same.
     pub fn is_same(&self, other: &Kernel) -> bool
         ensures { IsTrue result → self.now ≡ other.now }
     {
-        self.machine.is_same(&*other.machine)
+        self.machine.is_same(&other.machine)
     }
 
     /// Becomes as another kernel is, in the memory that it has, and tells whether it did. It does where both have as many
@@ -113,10 +110,10 @@ impl Kernel {
         ensures refused { result ≡ false → self.new ≡ self.old }
         ensures alike { IsTrue result ↔ AreAlike self.old other.now }
     {
-        if !self.machine.is_alike(&*other.machine) {
+        if !self.machine.is_alike(&other.machine) {
             return false;
         }
-        self.machine.copy_from(&*other.machine);
+        self.machine.copy_from(&other.machine);
         true
     }
 
