@@ -17,6 +17,7 @@ from_trace() {
     makes_none 1 'x: line 1: refused: this is no line of a trace, as `1 P1 T1 act_tsk(T2) E_OK`' '\0377\0376\n'
     rm x
     makes_none 3 'x: cannot be read: No such file or directory'
+    makes_none_of_input
 }
 
 # makes EVENTS TRACE: of the trace these events are made.
@@ -34,6 +35,15 @@ makes_none() {
     "$tool" x > made 2> told
     [ $? = "$1" ] && [ "$(cat told)" = "$2" ] && [ ! -s made ] && well=yes
     count "$well" '#' tools/from-trace '#' "${3-}"
+}
+
+# A trace that comes in is told by its path, too, which is `-`.
+makes_none_of_input() {
+    local well=no
+    echo yes > x
+    "$tool" - < x > made 2> told
+    [ $? = 1 ] && [ "$(cat told)" = '-: line 1: refused: this is no line of a trace, as `1 P1 T1 act_tsk(T2) E_OK`' ] && [ ! -s made ] && well=yes
+    count "$well" '#' tools/from-trace - '#' yes
 }
 
 # The events of a trace of scripts are answered with that trace.
