@@ -137,9 +137,9 @@ class Expression:
 
     def unary(self):
         token = self.take()
-        self.depth += 1
         if self.depth > MOST_DEPTH:
             raise Refused(token, f"a number with more than {MOST_DEPTH} signs and parentheses in one another")
+        self.depth += 1
         if token.word in ("+", "-", "~"):
             number = self.unary()
             if token.word == "~":
@@ -168,14 +168,24 @@ class Expression:
             self.take(")")
             return number
         if SIZED.fullmatch(token.word) and self.word() == "(":
-            self.take()
-            number = self.level(0)
-            self.take(")")
-            bits = 64 if re.search("64|MAX|PTR|LONG", token.word) else number.bits
-            return wrapped(number.value, bits, token.word.startswith("U"))
+            return self.sized(token)
         if IDENTIFIER.fullmatch(token.word):
             raise Refused(token, f"{quoted(token.word)} is no number: no file that was read has a #define of it. Is its folder named with -I?")
         return literal(token)
+
+    def sized(self, token):
+        """What UINT_C and the like make of a number: a literal gets their suffix, since without it some have too many bits."""
+        self.take()
+        bits = 64 if re.search("64|MAX|PTR|LONG", token.word) else None
+        suffix = ("U" if token.word.startswith("U") else "") + ("L" if bits else "")
+        if self.word(1) == ")" and LITERAL.fullmatch(self.word() + suffix):
+            inside = self.take()
+            number = literal(inside._replace(word=inside.word + suffix))
+        else:
+            number = self.level(0)
+            number = wrapped(number.value, bits or number.bits, token.word.startswith("U"))
+        self.take(")")
+        return number
 
     def type_words(self, end):
         """The type that stands here before `end`, which are passed over with it; or none."""
