@@ -1,4 +1,4 @@
-"""Whole numbers as C computes them: literals with their suffixes, operators, casts, and the kernel's types of numbers.
+"""Whole numbers as C computes them: literals with their suffixes, constants of enums, operators, casts, and the kernel's types of numbers.
 
 What is read are tokens with their places, so that a number that is refused is told with its file and line.
 """
@@ -18,6 +18,10 @@ TYPES = {
     "intptr_t": (64, False), "uintptr_t": (64, True), "EXINF": (64, False),
 }
 C_TYPES = {"int", "unsigned", "signed", "long", "short", "char", "const"}
+C_WORDS = C_TYPES | {"void", "static", "extern", "typedef", "struct", "union", "enum", "inline", "return", "if", "while", "for"}
+# Words of C that may stand in a number, and that only a compiler computes.
+COMPILED = C_WORDS | {"sizeof", "float", "double", "_Alignof", "__alignof__", "__builtin_offsetof"}
+DEEPER = {"(": 1, "{": 1, "[": 1, ")": -1, "}": -1, "]": -1}
 LEVELS = (("|",), ("^",), ("&",), ("<<", ">>"), ("+", "-"), ("*", "/", "%"))
 MOST_DEPTH = 60
 
@@ -55,6 +59,28 @@ def joined(tokens):
         parts.append(" " + token.word if apart else token.word)
         last = token.word
     return "".join(parts)
+
+
+def split(tokens):
+    """What stands between the commas that are in no brackets."""
+    parts, depth = [[]], 0
+    for token in tokens:
+        depth += DEEPER.get(token.word, 0)
+        if token.word == "," and depth == 0:
+            parts.append([])
+        else:
+            parts[-1].append(token)
+    return parts
+
+
+def closing(tokens, at):
+    """The place of the bracket that closes the one at `at`, or the end."""
+    depth = 0
+    for place in range(at, len(tokens)):
+        depth += DEEPER.get(tokens[place].word, 0)
+        if depth == 0:
+            return place
+    return len(tokens)
 
 
 def wrapped(value, bits, unsigned):
@@ -101,11 +127,82 @@ def computed(token, left, right):
     return result
 
 
+class Constants:
+    """The constants of the enums that were read. `missing` are the headers that were not found, which may have others."""
+
+    def __init__(self, missing=()):
+        self.known, self.missing = {}, missing
+
+    def value(self, token):
+        """The value that a name stands for."""
+        word, found = token.word, self.known.get(token.word)
+        if isinstance(found, Value):
+            return found
+        if found:
+            raise Refused(token, f"{quoted(word)} is a constant of an enum, whose number is not known here: {found}")
+        if word in COMPILED:
+            raise Refused(token, f"{quoted(word)} is a word of C that is not computed here")
+        why = f"{quoted(word)} is no number: no file that was read has a #define of it, or an enum with it"
+        if len(self.missing) > 1:
+            raise Refused(token, f"{why}, and {', '.join(self.missing)} were not found: are their folders named with -I?")
+        if self.missing:
+            raise Refused(token, f"{why}, and {self.missing[0]} was not found: is its folder named with -I?")
+        raise Refused(token, f"{why}; -D {printable(word[:64])}=NUMBER says what it is")
+
+    def take(self, tokens):
+        """Takes the constants of the enums that stand in a text of C, outside the bodies of functions."""
+        at, last = 0, ""
+        while at < len(tokens):
+            word = tokens[at].word
+            if word == "__attribute__":
+                at = closing(tokens, at + 1)
+            elif word == "{" and last == ")":
+                at, last = closing(tokens, at), "}"
+            elif word == "enum":
+                at, last = self.take_enum(tokens, at + 1), word
+            else:
+                last = word
+            at += 1
+
+    def take_enum(self, tokens, at):
+        """Takes the constants of one enum, if it has a list of them. Answers the place of the last token that belongs to it."""
+        while at < len(tokens) and tokens[at].word != "{":
+            if tokens[at].word == "__attribute__":
+                at = closing(tokens, at + 1)
+            elif tokens[at].word != ":" and not IDENTIFIER.fullmatch(tokens[at].word):
+                return at - 1
+            at += 1
+        end = closing(tokens, at)
+        before = -1
+        for part in split(tokens[at + 1:end]):
+            if part and IDENTIFIER.fullmatch(part[0].word):
+                before = self.number(part, before)
+        return end
+
+    def number(self, part, before):
+        """The number of a constant, or why it is not known. Without a number of its own it has one more than the constant before it."""
+        number = before + 1 if isinstance(before, int) else before
+        assigned = next((at for at, token in enumerate(part) if token.word == "="), len(part) - 1)
+        try:
+            if assigned < len(part) - 1:
+                number = Expression(part[assigned + 1:], self).value()
+        except Refused as why:
+            number = str(why)
+        self.known[part[0].word] = of_enum(number) if isinstance(number, int) else number
+        return number
+
+
+def of_enum(number):
+    """A constant of an enum: an int where it fits, and else of the least type that it fits."""
+    bits = 32 if -(2**31) <= number < 2**32 else 64
+    return wrapped(number, bits, number >= 2 ** (bits - 1))
+
+
 class Expression:
     """An expression of C with integers, which is computed while it is read."""
 
-    def __init__(self, tokens):
-        self.tokens, self.at, self.depth = tokens, 0, 0
+    def __init__(self, tokens, constants):
+        self.tokens, self.constants, self.at, self.depth = tokens, constants, 0, 0
 
     def word(self, ahead=0):
         return self.tokens[self.at + ahead].word if self.at + ahead < len(self.tokens) else ""
@@ -170,7 +267,7 @@ class Expression:
         if SIZED.fullmatch(token.word) and self.word() == "(":
             return self.sized(token)
         if IDENTIFIER.fullmatch(token.word):
-            raise Refused(token, f"{quoted(token.word)} is no number: no file that was read has a #define of it. Is its folder named with -I?")
+            return self.constants.value(token)
         return literal(token)
 
     def sized(self, token):
