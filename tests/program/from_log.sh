@@ -140,7 +140,7 @@ reads_names() {
         printf "[1]:[1]: enter to $call%s.\n" 0 1 2 3 -1
     done > x.log
     printf '[1]:[1]: enter to set_flg flgid=%s, setptn=1.\n' 0 1 2 3 -1 >> x.log
-    for call in ter_tsk:T wai_sem:S rcv_dtq:D get_mpf:M sta_cyc:Y stp_alm:A try_spn:L; do
+    for call in ter_tsk:T wai_sem:S rcv_dtq:Q get_mpf:M sta_cyc:Y stp_alm:A try_spn:L; do
         printf "P1 ${call%:*}(%s)\n" 0 "${call#*:}1" "${call#*:}2" 3 -1
     done | sed 's/ter_tsk(0)/ter_tsk(TSK_SELF)/' > wanted
     printf 'P1 set_flg(%s, 1)\n' 0 F1 F2 3 -1 >> wanted
