@@ -1,10 +1,13 @@
-# Installs fmpsim, its manual and its completions. Nothing is built here: PROGRAM is what `rt run` leaves in crates/fmpsim, or ./test.sh.
+# Builds fmpsim without a proof, and installs it, its manual and its completions. `make install` builds nothing: PROGRAM is what `rt run` leaves in
+# crates/fmpsim, or ./test.sh, or `make unproved`.
 #
+#     make unproved
 #     make install PREFIX=$HOME/.local
 #     make uninstall PREFIX=$HOME/.local
 
 PREFIX = /usr/local
 PROGRAM = crates/fmpsim/out/fmpsim
+UNPROVED = out/fmpsim-unproved
 INSTALL = install
 
 share = $(DESTDIR)$(PREFIX)/share
@@ -14,7 +17,11 @@ bash = $(share)/bash-completion/completions/fmpsim
 zsh = $(share)/zsh/site-functions/_fmpsim
 fish = $(share)/fish/vendor_completions.d/fmpsim.fish
 
-.PHONY: install uninstall
+.PHONY: unproved install uninstall
+
+unproved:
+	@tests/unproved '$(UNPROVED)'
+	@echo 'to install it: make install PROGRAM=$(UNPROVED)'
 
 install:
 	@test -x '$(PROGRAM)' || { echo 'there is no program $(PROGRAM): rt run in crates/fmpsim builds one' >&2; exit 1; }
