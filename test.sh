@@ -2,34 +2,53 @@
 # The whole test: rt ci, and then the two programs that it built, by all that stands under tests. The last line is
 # 'N passed, M failed', over everything, and the status is 0 only where nothing failed.
 #
-#     ./test.sh               all of it
-#     ./test.sh --runs        the two programs only, as they were built last
-#     ./test.sh --unproved    in minutes: a program that is built without a proof, as far as such a one can do it
+#     ./test.sh                         all of it
+#     ./test.sh --runs                  the two programs only, as they were built last
+#     ./test.sh --unproved [PROGRAM]    in minutes: a program that is built without a proof, or was by `make unproved`
+#
+# What could not be played here, for want of a browser or of a compiler of C, stands before that line: 'left out: ..'.
 set -u
 exec < /dev/null
 top=$(dirname "$(realpath "${BASH_SOURCE[0]}")")
 room=$(mktemp -d) || exit 1
-trap 'rm -rf "$room"' EXIT
-passed=0 failed=0 proved=
+trap end EXIT
+passed=0 failed=0 proved='' left=$room/left_out
+declare -A running=()
 
-# What is run of a program beside the cases: the function of this name, in the file of this name in tests/program.
-subjects=(examples texts_at_fault reports contexts diagnostics states lives colours waves views lists help_texts completions command_lines paths pipes
-    host_tests devices_that_fail scripts seeds random_events searches shrinking processors greatest_texts long_lines little_memory refused_growth player
-    from_toppers from_log from_trace installing pages)
+# What is run of a program beside the cases: the function of this name, in the file of this name in tests/program. As many are played beside
+# one another as there are processors, each in a folder of its own, so those that take longest come first.
+subjects=(processors greatest_texts lives player from_toppers random_events searches refused_growth reports little_memory from_log lists
+    seeds views from_trace pipes waves colours contexts command_lines pages devices_that_fail examples long_lines completions scripts shrinking
+    help_texts diagnostics states host_tests paths texts_at_fault installing wrong_bodies)
+
+# Nothing that was begun goes on, and no file stays.
+end() {
+    local process
+    for process in "${running[@]}"; do
+        kill -KILL -- "-$process" 2> /dev/null
+    done
+    rm -rf "$room"
+}
 
 # add NAME COMMAND..: runs a command that counts for itself, and adds what its last line says. That line is passed on behind its name.
-# Without such a line the command died, which is a failure, as is a status that it does not explain.
 add() {
-    local closing='^([0-9]+) passed, ([0-9]+) failed$' status
+    local status
     "${@:2}" | tee "$room/told" | sed -u -E "s|$closing|$1: &|"
     status=${PIPESTATUS[0]}
-    if [[ $(tail -n 1 "$room/told") =~ $closing ]]; then
+    add_up "$1" "$status" "$room/told"
+}
+closing='^([0-9]+) passed, ([0-9]+) failed$'
+
+# add_up NAME STATUS FILE: adds what the last line of this file says, which a command wrote that ended so. Without such a line the command died,
+# which is a failure, as is a status that it does not explain.
+add_up() {
+    if [[ $(tail -n 1 "$3") =~ $closing ]]; then
         passed=$((passed + BASH_REMATCH[1]))
         failed=$((failed + BASH_REMATCH[2]))
-        ((status == 0 || BASH_REMATCH[2] > 0)) && return
+        (($2 == 0 || BASH_REMATCH[2] > 0)) && return
     fi
     failed=$((failed + 1))
-    echo "FAILED: $1 ended with status $status, and counts no failure"
+    echo "FAILED: $1 ended with status $2, and counts no failure"
 }
 
 # A word of a test that is no command: what it was to check is not checked.
@@ -44,7 +63,8 @@ prove() {
 
 # try PROGRAM KIND: plays all cases on a program, and runs all else of it. The kind says how it was built.
 try() {
-    local subject
+    local subject said=$SECONDS
+    # shellcheck disable=SC2034  # the tests look at the kind
     program=$1 kind=$2
     if [ ! -x "$program" ]; then
         count no is not built
@@ -52,13 +72,43 @@ try() {
     fi
     add 'tests/play' "$top/tests/play" -p "$program"
     for subject in "${subjects[@]}"; do
-        mkdir "$room/$subject" && cd "$room/$subject" || exit 1
-        # shellcheck source=/dev/null
-        source "$top/tests/program/$subject.sh" && declare -F "$subject" > function && "$subject"
-        [ -s function ] || count no tests/program/"$subject".sh
-        [ ! -e "$room/missing" ] || { count no tests/program/"$subject".sh '# a command that is not there'; rm "$room/missing"; }
-        cd "$room" && rm -r "${room:?}/$subject"
+        while ((${#running[@]} >= $(nproc))); do collect; done
+        # in a process group of its own, or a signal that a test sends to a program would be ignored by it
+        set -m
+        subject "$subject" > "$room/$subject.told" 2>&1 &
+        set +m
+        running[$subject]=$!
     done
+    while ((${#running[@]} > 0)); do collect; done
+}
+
+# subject NAME: plays one, in a process of its own. Its last line is what it counts.
+subject() {
+    passed=0 failed=0 room=$room/$1
+    mkdir -p "$room/here" && cd "$room/here" || exit 1
+    # shellcheck source=/dev/null
+    source "$top/tests/program/$1.sh" && declare -F "$1" > "$room/function" && "$1"
+    [ -s "$room/function" ] || count no tests/program/"$1".sh
+    [ ! -e "$room/missing" ] || count no tests/program/"$1".sh '# a command that is not there'
+    echo "$passed passed, $failed failed"
+    ((failed == 0))
+}
+
+# Waits a moment, and tells what ended since, each as a whole; in a minute in which none ends it tells what is played.
+collect() {
+    local subject status
+    sleep 0.1
+    for subject in "${!running[@]}"; do
+        kill -0 "${running[$subject]}" 2> /dev/null && continue
+        wait "${running[$subject]}" 2> /dev/null
+        status=$?
+        unset "running[$subject]"
+        sed -E "s|$closing|$subject: &|" "$room/$subject.told"
+        add_up "$subject" "$status" "$room/$subject.told"
+        rm -rf "${room:?}/$subject" "$room/$subject.told"
+        said=$SECONDS
+    done
+    ((SECONDS - said < 50)) || { echo "played: ${!running[*]}" && said=$SECONDS; }
 }
 
 # shellcheck source=tests/program/common.sh
@@ -74,14 +124,15 @@ case ${1-} in
     --runs) ;;
     --unproved)
         proved=': nothing was proved'
-        "$top/tests/unproved" "$room/fmpsim"
-        try "$room/fmpsim" unproved
+        [ -n "${2-}" ] || "$top/tests/unproved" "$room/fmpsim"
+        try "$(realpath -m "${2:-$room/fmpsim}")" unproved
         ;;
-    *) echo 'wanted: ./test.sh [--runs | --unproved]' >&2 && exit 2 ;;
+    *) echo 'wanted: ./test.sh [--runs | --unproved [PROGRAM]]' >&2 && exit 2 ;;
 esac
 if [ -z "$proved" ]; then
     try "$top/crates/fmpsim/out/fmpsim" llvm
     try "$top/crates/fmpsim/out/fmpsim.by-rattle" by-rattle
 fi
+[ ! -e "$left" ] || echo "left out: $(sort -u "$left" | paste -sd';' | sed 's/;/; /g')"
 echo "$passed passed, $failed failed$proved"
 [ "$failed" -eq 0 ]

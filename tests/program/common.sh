@@ -13,9 +13,10 @@ count() {
     fi
 }
 
-# left_out WHY WORD..: tells that the program is not run on these words.
+# left_out WHY WORD..: tells that the program is not run on these words, here and once more at the end of all.
 left_out() {
     printf 'left out of %s, since %s:' "${program##*/}" "$1" && printf ' %q' "${@:2}" && echo
+    printf '%s (%s: %s)\n' "${*:2}" "${program##*/}" "$1" >> "$left"
 }
 
 # as_file WORD..: the path of a file with what this command writes, or without one with what comes in. It stands where a process substitution
@@ -40,10 +41,6 @@ play() {
 # run STATUS OUTPUT ERRORS WORD..: the program on these words ends so, and writes what these two files have.
 run() {
     local ended well=yes
-    if [ "$kind" = unproved ] && [ -n "${memory-}" ]; then
-        left_out 'its checks need more memory' "${@:4}"
-        return
-    fi
     : > output
     play "${@:4}"
     ended=$?

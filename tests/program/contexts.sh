@@ -106,7 +106,7 @@ greatest_with_context() {
     { cat full.cfg && echo; } > over.cfg
     run 1 /dev/null "$(as_file echo fmpsim: over.cfg: line 0: F9 too many)" calls --context over.cfg "$late/events.txt"
     run 1 /dev/null "$(as_file printf '%s\n' 'fmpsim: /dev/zero: line 0: F9 too many')" calls /dev/zero "$late/events.txt" --context
-    if [ "$kind" != llvm ]; then
+    if [ "$kind" = by-rattle ]; then
         left_out 'it is not optimized' calls --context "$late/machine.cfg" endless.txt
         return
     fi

@@ -4,7 +4,7 @@
 from_toppers() {
     local folder tool=$top/tools/from-toppers texts=$top/tests/toppers
     if ! command -v cpp > cpp_is_here; then
-        echo 'skipped: tools/from-toppers, since there is no cpp'
+        left_out 'there is no cpp' tools/from-toppers
         return
     fi
     for folder in "$texts"/*/; do

@@ -7,10 +7,6 @@ greatest_texts() {
     head -c -1 "$late/trace.txt" > front.txt
     run 1 /dev/null "$(as_file echo fmpsim: front.txt: line 10: E6 cut short)" check "$late/machine.cfg" front.txt
     run 1 /dev/null "$(as_file echo fmpsim: /dev/zero: line 0: F9 too many)" calls /dev/zero "$late/events.txt"
-    if [ "$kind" = unproved ]; then
-        left_out 'it takes minutes for them' calls "$late/machine.cfg" long.txt '# and a trace of 5 MiB'
-        return
-    fi
     yes 'P1 tick' | head -n 1000001 > long.txt
     run 1 whole.txt "$(as_file echo fmpsim: long.txt: line 1000001: E7 too many)" calls "$late/machine.cfg" long.txt
     # taken whole, it has the same fault, and a million events before another one have none

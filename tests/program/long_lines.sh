@@ -4,7 +4,7 @@
 long_lines() {
     local seconds=5
     # the programs differ in how fast they are, and not in what they do: one of them is enough
-    if [ "$kind" != llvm ]; then
+    if [ "$kind" = by-rattle ]; then
         left_out 'it is not optimized' '# a line of 200 MB'
         return
     fi

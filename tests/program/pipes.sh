@@ -30,10 +30,6 @@ pipes() {
 # Events in pieces of each length are answered as in one piece.
 events_in_pieces() {
     local well=no
-    if [ "$kind" = unproved ]; then
-        left_out 'it takes minutes there' calls machine.cfg - '# events in pieces'
-        return
-    fi
     python3 "$top/tests/program/pieces.py" "$program" > output 2> errors && [ "$(cat output)" -gt 600 ] && well=yes || cat output errors
     count "$well" calls machine.cfg - '# pieces.py'
 }

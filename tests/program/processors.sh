@@ -2,10 +2,6 @@
 
 processors() {
     rings || return
-    if [ "$kind" = unproved ]; then
-        left_out 'it takes minutes for them' smp limits.cfg limits.txt '# and all other runs of machines with everything at its limit'
-        return
-    fi
     ticks_by_the_thousand
     limits 8 LOCAL 1000000
     limits 7 'GLOBAL, 7' 20000
@@ -113,19 +109,17 @@ ring() {
 }
 
 # Each ring in threads and in the order of seeds. In threads three runs are made, or more of them until one ends quiet: where other
-# programs keep the machine busy, the clock may come to the limit of turns while it waits for a processor. A run that does is checked
-# for minutes by a program that is compiled with checks, so there that limit is low, and none has to end quiet.
+# programs keep the machine busy, the clock may come to the limit of turns while it waits for a processor.
 rings() {
-    local numbers=({1..8}) most=20 turns=100000 n timer seed quiet tries well
-    [ "$kind" != unproved ] || { numbers=(1 3 8) && most=3 && turns=5000; }
-    for n in "${numbers[@]}"; do
+    local most=20 turns=100000 n timer seed quiet tries well
+    for n in {1..8}; do
         for timer in LOCAL 'GLOBAL, 1'; do
             write_ring "$n" "$timer" no
             quiet=0 well=no
             for ((tries = 0; tries < 3 || quiet == 0 && tries < most; tries++)); do
                 ring "$n" "$timer" no || return
             done
-            [ "$quiet" = 0 ] && [ "$kind" != unproved ] || well=yes
+            [ "$quiet" = 0 ] || well=yes
             count "$well" smp ring.cfg ring.txt "# $n processors, TIMER($timer): a run in threads ends quiet"
             for seed in 0 1 5 9223372036854775808 18446744073709551615; do
                 ring "$n" "$timer" no --seed "$seed" || return

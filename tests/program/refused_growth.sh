@@ -1,17 +1,17 @@
 # Each request of the library for memory refused in turn: a library of C counts them, and refuses one.
 
-# The program of Rattle's own compiler makes the same requests. The checks of an unproved one have an allocator of their own.
+# The program of Rattle's own compiler makes the same requests.
 refused_growth() {
     local whole=$top/examples/whole-configuration
-    if [ "$kind" != llvm ]; then
+    if [ "$kind" = by-rattle ]; then
         left_out 'its requests for memory are not what is tried' '# six runs in which each is refused in turn'
         return
     fi
-    if ! make_refusing; then
-        echo 'there is no compiler of C (cc), so no request for memory can be refused'
-        count no '# each request for memory refused in turn'
+    if ! command -v cc > cc_is_here; then
+        left_out 'there is no compiler of C (cc)' '# six runs in which each request for memory is refused in turn'
         return
     fi
+    make_refusing || { count no '# each request for memory refused in turn' && return; }
     echo yes > verdict.txt
     refused_in_turn "$late/trace.txt" calls "$late/machine.cfg" "$late/events.txt"
     refused_in_turn "$whole/trace.txt" calls "$whole/machine.cfg" "$whole/events.txt"

@@ -58,10 +58,6 @@ judged() {
 # there is not.
 has_places() {
     local cfg=$top/examples/$1/machine.cfg scripts=$top/examples/$1/scripts.txt well=no
-    if [ "$kind" = unproved ] && [ "$2" -gt 1000 ]; then
-        left_out 'it takes minutes there' explore "$1" "${@:3}" --places "$2"
-        return
-    fi
     run 0 "$(as_file echo never)" /dev/null explore "$cfg" "$scripts" "${@:3}" "${question[@]}" --places "$2"
     play explore "$cfg" "$scripts" "${@:3}" "${question[@]}" --places $(($2 - 1))
     [ $? = 6 ] && [ ! -s errors ] && grep -qxE 'not within [0-9]+' output && well=yes
@@ -164,9 +160,7 @@ strays() {
 # it with nothing written.
 tells_how_far() {
     local folder=$top/examples/explore-philosophers words well=no
-    words=(--ticks 1 --turns 100 --find E_PAR --places 200000)
-    [ "$kind" = unproved ] && words=(--ticks 0 --turns 6 --find E_PAR)
-    words=(explore "$folder/machine.cfg" "$folder/scripts.txt" "${words[@]}")
+    words=(explore "$folder/machine.cfg" "$folder/scripts.txt" --ticks 1 --turns 100 --find E_PAR --places 200000)
     if type script > /dev/null 2>&1; then
         script -qec "$(printf '%q ' "$program" "${words[@]}")" /dev/null < /dev/null > output
         grep -qaE $'[0-9]+ places, line [0-9]+, [0-9]+ s\r\033\\[K(never|not within [0-9]+)\r$' output && well=yes

@@ -8,11 +8,7 @@ shrinking() {
     # of 1,257 events six are left, within a second of processor time on the proved program
     noise 1251 "$folder/left.txt" > many.txt
     count_lines 1257 many.txt
-    if [ "$kind" = unproved ]; then
-        left_out 'it takes minutes there' shrink "$cfg" many.txt
-    else
-        seconds=2 run 0 "$folder/left.txt" /dev/null shrink "$cfg" many.txt --find "$late"
-    fi
+    seconds=2 run 0 "$folder/left.txt" /dev/null shrink "$cfg" many.txt --find "$late"
     # what is given is written in one form, whatever stood between
     printf '\n  P1   act_tsk( WORKER ) \r\n# begun\nP2 ipi\n\nP2 tslp_tsk(0x2)\nP2 tick\nP2 tick\n# over\nP2 tick\n' > loose.txt
     run 0 "$folder/left.txt" /dev/null shrink "$cfg" loose.txt --find "$late"
