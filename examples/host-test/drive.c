@@ -128,7 +128,7 @@ static void start_kernel(const char *program, const char *configuration) {
         dup2(back[1], 1);
         close(there[1]);
         close(back[0]);
-        execl(program, program, "calls", "--state", configuration, "-", (char *)NULL);
+        execlp(program, program, "calls", "--state", configuration, "-", (char *)NULL);
         _exit(127);
     }
     close(there[0]);
