@@ -56,14 +56,14 @@ module _ {Q : Type 0} (k : Ordering Q) (w : World Q) where
       (λ p. cyclic_left_at_tick k w p c here same (s.counts.cyclics c)) (λ p. refl) (λ p. refl) (λ p x h. refl) e
 
 -- there are as many handlers, counts and lists of due handlers as are configured
-record Clocked (c : Setup) (m : State) : Type 0 where
+pub record Clocked (c : Setup) (m : State) : Type 0 where
   pub alarms : length m.alarms ≡ length c.alarms
   pub alarms_left : length m.alarms_left ≡ length c.alarms
   pub cyclics : length m.cyclics ≡ length c.cyclics
   pub cyclics_left : length m.cyclics_left ≡ length c.cyclics
   pub due : length m.due ≡ c.processors
 
-clocked_next : (c : Setup) (m : State) (e : Event) → Clocked c m → Clocked c (step numbered m e).0
+pub clocked_next : (c : Setup) (m : State) (e : Event) → Clocked c m → Clocked c (step numbered m e).0
 clocked_next c m e h =
     let same = clocks_step numbered m e in
     record {
@@ -120,7 +120,7 @@ module _ (c : Setup) where
   booted_cyclic : (o : Object) → item None (booted c).cyclics_left o.number ≡ cyclic_at_boot c o
   booted_cyclic o = ap (λ (x : Clock). item None x.cyclics_left o.number) clock_booted
 
-  clocked_booted : Clocked c (booted c)
+  pub clocked_booted : Clocked c (booted c)
   clocked_booted = record {
     alarms = ap (λ (x : Clock). length x.alarms) clock_booted ∙ length-map c.alarms _;
     alarms_left = ap (λ (x : Clock). length x.alarms_left) clock_booted ∙ length-map c.alarms _;

@@ -89,7 +89,7 @@ module _ (m : State) (s : Safe numbered m) (q : Proc) where
 
   tick_told : (p : Proc) → Told (settled numbered (before_event numbered m (event.Tick p) p) (tick numbered m p))
   unfolding settled before_event
-  tick_told p = settled_flags numbered (tops numbered m) (tick numbered m p).0 p q ∙ ap (λ cs. flags (item no_processor cs q.number)) (tick_still numbered p m).processors
+  tick_told p = settled_flags numbered (tops numbered m) (tick numbered m p).0 p q ∙ ap (λ cs. flags (item no_processor cs q.number)) (tick_still numbered p m).0
 
   ipi_told : (p : Proc) (a : Answer) → Told (settled numbered (before_event numbered m (event.Ipi p) p) (m, plain a))
   unfolding settled before_event

@@ -56,7 +56,7 @@ held_step m s l few e =
     by_event numbered m (λ v r. HeldAs l m v r) (λ v cs r y ps h. record { here = h.here; count = h.count })
     (λ p c. let h = held_call numbered m s p l few c in record { here = h.here; count = h.count })
     (λ p c. record { here = sym (unchanged_holder l (told (event.Call p c) (runner_of m p) (plain answer.Idle)) (holder m l) refl (idle_ends_nobody p c)); count = refl })
-    (λ p. record { here = ap (λ hs. item None hs l.number) (tick_still numbered p m).holders; count = ap length (tick_still numbered p m).holders })
+    (λ p. record { here = ap (λ hs. item None hs l.number) (tick_still numbered p m).1; count = ap length (tick_still numbered p m).1 })
     (λ p. record { here = refl; count = refl }) (λ p. record { here = refl; count = refl }) (λ p a h. record { here = refl; count = refl }) e
 
 -- At boot nobody holds one.

@@ -42,39 +42,39 @@ use Rattle.fmp_rules.specs.Tick.{with_handlers_due, alarms_due, expired}
 use Rattle.fmp_rules.specs.TaskCalls.{is_sleep, act, mact, can_act, mig_tsk, ext_tsk, ter_tsk, chg_pri, tslp_tsk, wup, can_wup, rel_wai, sus_tsk, rsm_tsk, dly_tsk, task_row}
 use Rattle.fmp_law_safety.proofs.KeepsDue.{alarms_keep, cyclics_keep}
 
--- from w to v the processors and the holders of spin locks stay
+-- from w to v the processors, the holders of spin locks and the handlers that are due stay
 pub record Still {Q : Type 0} (w v : World Q) : Type 0 where
   pub processors : v.processors ≡ w.processors
   pub holders : v.holders ≡ w.holders
+  pub due : v.due ≡ w.due
 
 module _ {Q : Type 0} (w : World Q) where
   pub still_all : Still w w
-  still_all = record { processors = refl; holders = refl }
+  still_all = record { processors = refl; holders = refl; due = refl }
 
   pub still_then : (u v : World Q) → Still w u → Still u v → Still w v
-  still_then u v a b = record { processors = b.processors ∙ a.processors; holders = b.holders ∙ a.holders }
+  still_then u v a b = record { processors = b.processors ∙ a.processors; holders = b.holders ∙ a.holders; due = b.due ∙ a.due }
 
   module _ (k : Ordering Q) where
     pub still_done_or_wait : (p : Proc) (can : Bool) (effect : World Q × Effect) (x : Wait) (timeout : ℤ) → Still w effect.0 → Still w (done_or_wait k w p can effect x timeout).0
     still_done_or_wait p can effect x timeout at_once =
         cond_both can _ _ (λ (did : World Q × Effect). Still w did.0) (λ _. at_once)
-        (λ _. cond_both (is_zero timeout) _ _ (λ (did : World Q × Effect). Still w did.0) (λ _. still_all) (λ _. record { processors = refl; holders = refl }))
+        (λ _. cond_both (is_zero timeout) _ _ (λ (did : World Q × Effect). Still w did.0) (λ _. still_all) (λ _. record { processors = refl; holders = refl; due = refl }))
 
     pub still_ready : (u : Task) → Still w (make_ready k w u)
-    still_ready u = record { processors = refl; holders = refl }
+    still_ready u = record { processors = refl; holders = refl; due = refl }
 
--- a tick
+-- a tick leaves the processors and the holders
 module _ {Q : Type 0} (k : Ordering Q) (p : Proc) (w : World Q) where
-  pub tick_still : Still w (tick k w p).0
+  pub tick_still : ((tick k w p).0.processors ≡ w.processors) × ((tick k w p).0.holders ≡ w.holders)
   unfolding counted_down ticked with_handlers_due
   tick_still =
       let v : World Q = counted_down w p in
       let ts : List Task = tasks_expired v.waits_left (k.timed v.order v.waits_left) in
-      let S : World Q → Type 0 = λ x. Still w x in
+      let S : World Q → Type 0 = λ x. (x.processors ≡ w.processors) × (x.holders ≡ w.holders) in
       let u : World Q = (released k v ts).0 in
-      cyclics_keep p S (λ x c h. record { processors = h.processors; holders = h.holders }) (alarms_due u p (expired u.alarms_left u.alarms)) (expired u.cyclics_left u.cyclics)
-      (alarms_keep p S (λ x a h. record { processors = h.processors; holders = h.holders }) u (expired u.alarms_left u.alarms)
-      (released_keep p S k (λ x t h. record { processors = h.processors; holders = h.holders }) v ts (record { processors = refl; holders = refl })))
+      cyclics_keep p S (λ x c h. h) (alarms_due u p (expired u.alarms_left u.alarms)) (expired u.cyclics_left u.cyclics)
+      (alarms_keep p S (λ x a h. h) u (expired u.alarms_left u.alarms) (released_keep p S k (λ x t h. h) v ts (refl, refl)))
 
 module _ {Q : Type 0} (k : Ordering Q) (w : World Q) (p : Proc) where
   abbrev StillIn : World Q × Effect → Type 0
@@ -83,11 +83,11 @@ module _ {Q : Type 0} (k : Ordering Q) (w : World Q) (p : Proc) where
   -- semaphores and eventflags
 
   still_in_signal : (s : Object) (u : Option Task) → StillIn (signal k w s u)
-  still_in_signal s None = (record { processors = refl; holders = refl })
+  still_in_signal s None = (record { processors = refl; holders = refl; due = refl })
   still_in_signal s (Some u) = still_ready w k u
 
   still_in_served : (v : World Q) (f : Object) (x : ℕ) (us : List Task) → Still v (served k v f x us).0
-  still_in_served v f x [] = record { processors = refl; holders = refl }
+  still_in_served v f x [] = record { processors = refl; holders = refl; due = refl }
   still_in_served v f x (u ∷ us) =
       cond_both (is_met x (task v u).wait) _ _ (λ (did : World Q × List Release). Still v did.0)
       (λ _. still_then v (make_ready k v u) _ (still_ready v k u) (still_in_served (make_ready k v u) f (cleared v f x) us)) (λ _. still_in_served v f x us)
@@ -103,34 +103,34 @@ module _ {Q : Type 0} (k : Ordering Q) (w : World Q) (p : Proc) where
   still_in_sync (sync.SigSem id) = still_in_signal (semaphore_of id) (first (queue k w kind.Semaphore (semaphore_of id)))
   still_in_sync (sync.IsigSem id) = still_in_signal (semaphore_of id) (first (queue k w kind.Semaphore (semaphore_of id)))
   still_in_sync (sync.WaiSem id) =
-      still_done_or_wait w k p (nat_lt 0 (semaphore w (semaphore_of id)).count) (counted w (semaphore_of id)) (wait.Semaphore (semaphore_of id)) forever (record { processors = refl; holders = refl })
+      still_done_or_wait w k p (nat_lt 0 (semaphore w (semaphore_of id)).count) (counted w (semaphore_of id)) (wait.Semaphore (semaphore_of id)) forever (record { processors = refl; holders = refl; due = refl })
   still_in_sync (sync.TwaiSem id timeout) =
-      still_done_or_wait w k p (nat_lt 0 (semaphore w (semaphore_of id)).count) (counted w (semaphore_of id)) (wait.Semaphore (semaphore_of id)) timeout (record { processors = refl; holders = refl })
-  still_in_sync (sync.PolSem id) = (record { processors = refl; holders = refl })
+      still_done_or_wait w k p (nat_lt 0 (semaphore w (semaphore_of id)).count) (counted w (semaphore_of id)) (wait.Semaphore (semaphore_of id)) timeout (record { processors = refl; holders = refl; due = refl })
+  still_in_sync (sync.PolSem id) = (record { processors = refl; holders = refl; due = refl })
   still_in_sync (sync.SetFlg id x) = still_in_served w (flag_of id) _ (queue k w kind.Eventflag (flag_of id))
   still_in_sync (sync.IsetFlg id x) = still_in_served w (flag_of id) _ (queue k w kind.Eventflag (flag_of id))
-  still_in_sync (sync.ClrFlg id x) = (record { processors = refl; holders = refl })
+  still_in_sync (sync.ClrFlg id x) = (record { processors = refl; holders = refl; due = refl })
   still_in_sync (sync.WaiFlg id x m) =
-      still_done_or_wait w k p (holds (eventflag w (flag_of id)).pattern x m) (answered w (flag_of id)) (wait.Eventflag (flag_of id) x m) forever (record { processors = refl; holders = refl })
+      still_done_or_wait w k p (holds (eventflag w (flag_of id)).pattern x m) (answered w (flag_of id)) (wait.Eventflag (flag_of id) x m) forever (record { processors = refl; holders = refl; due = refl })
   still_in_sync (sync.TwaiFlg id x m timeout) =
-      still_done_or_wait w k p (holds (eventflag w (flag_of id)).pattern x m) (answered w (flag_of id)) (wait.Eventflag (flag_of id) x m) timeout (record { processors = refl; holders = refl })
-  still_in_sync (sync.PolFlg id x m) = (record { processors = refl; holders = refl })
+      still_done_or_wait w k p (holds (eventflag w (flag_of id)).pattern x m) (answered w (flag_of id)) (wait.Eventflag (flag_of id) x m) timeout (record { processors = refl; holders = refl; due = refl })
+  still_in_sync (sync.PolFlg id x m) = (record { processors = refl; holders = refl; due = refl })
 
   -- data queues and pools
 
   still_in_sent : (d : Object) (x : ℤ) (u : Option Task) → StillIn (sent k w d x u)
-  still_in_sent d x None = (record { processors = refl; holders = refl })
+  still_in_sent d x None = (record { processors = refl; holders = refl; due = refl })
   still_in_sent d x (Some u) = still_ready w k u
 
   still_in_forced : (d : Object) (x : ℤ) → StillIn (if can_send k w d then sent k w d x (receiver k w d) else forced w d x)
-  still_in_forced d x = cond_both (can_send k w d) _ _ StillIn (λ _. still_in_sent d x (receiver k w d)) (λ _. (record { processors = refl; holders = refl }))
+  still_in_forced d x = cond_both (can_send k w d) _ _ StillIn (λ _. still_in_sent d x (receiver k w d)) (λ _. (record { processors = refl; holders = refl; due = refl }))
 
   still_in_received : (d : Object) (u : Option Task) → StillIn (received k w d u)
-  still_in_received d None = (record { processors = refl; holders = refl })
-  still_in_received d (Some u) = still_then w (make_ready k w u) _ (still_ready w k u) (record { processors = refl; holders = refl })
+  still_in_received d None = (record { processors = refl; holders = refl; due = refl })
+  still_in_received d (Some u) = still_then w (make_ready k w u) _ (still_ready w k u) (record { processors = refl; holders = refl; due = refl })
 
   still_in_returned : (m : Object) (b : ℕ) (u : Option Task) → StillIn (returned k w m b u)
-  still_in_returned m b None = (record { processors = refl; holders = refl })
+  still_in_returned m b None = (record { processors = refl; holders = refl; due = refl })
   still_in_returned m b (Some u) = still_ready w k u
 
   abbrev queue_of : ℤ → Object
@@ -155,22 +155,22 @@ module _ {Q : Type 0} (k : Ordering Q) (w : World Q) (p : Proc) where
       still_done_or_wait w k p (can_receive k w (queue_of id)) (received k w (queue_of id) (sender k w (queue_of id))) (wait.Receive (queue_of id)) timeout (still_in_received (queue_of id) (sender k w (queue_of id)))
   still_in_buffer (buffer.PrcvDtq id) = still_in_received (queue_of id) (sender k w (queue_of id))
   still_in_buffer (buffer.GetMpf id) =
-      still_done_or_wait w k p (is_some (free_block w (pool_of id))) (given w (pool_of id) (unwrap_or (free_block w (pool_of id)) 0)) (wait.Pool (pool_of id)) forever (record { processors = refl; holders = refl })
+      still_done_or_wait w k p (is_some (free_block w (pool_of id))) (given w (pool_of id) (unwrap_or (free_block w (pool_of id)) 0)) (wait.Pool (pool_of id)) forever (record { processors = refl; holders = refl; due = refl })
   still_in_buffer (buffer.TgetMpf id timeout) =
-      still_done_or_wait w k p (is_some (free_block w (pool_of id))) (given w (pool_of id) (unwrap_or (free_block w (pool_of id)) 0)) (wait.Pool (pool_of id)) timeout (record { processors = refl; holders = refl })
-  still_in_buffer (buffer.PgetMpf id) = (record { processors = refl; holders = refl })
+      still_done_or_wait w k p (is_some (free_block w (pool_of id))) (given w (pool_of id) (unwrap_or (free_block w (pool_of id)) 0)) (wait.Pool (pool_of id)) timeout (record { processors = refl; holders = refl; due = refl })
+  still_in_buffer (buffer.PgetMpf id) = (record { processors = refl; holders = refl; due = refl })
   still_in_buffer (buffer.RelMpf id b) = still_in_returned (pool_of id) (block_of b) (first (queue k w kind.Pool (pool_of id)))
 
   -- handlers, the processors, spin locks
 
   still_in_time : (c : TimeCall) → StillIn (time_row w c).effect
   unfolding sta_cyc msta_cyc stp_cyc sta_alm msta_alm stp_alm
-  still_in_time (time.StaCyc id) = (record { processors = refl; holders = refl })
-  still_in_time _ = (record { processors = refl; holders = refl })
+  still_in_time (time.StaCyc id) = (record { processors = refl; holders = refl; due = refl })
+  still_in_time _ = (record { processors = refl; holders = refl; due = refl })
 
   pub still_in_rotate : (u : Option Task) → Still w (rotate k w u)
   still_in_rotate None = still_all w
-  still_in_rotate (Some u) = record { processors = refl; holders = refl }
+  still_in_rotate (Some u) = record { processors = refl; holders = refl; due = refl }
 
 -- calls on tasks, but for the end of the caller
 
@@ -179,20 +179,20 @@ module _ {Q : Type 0} (k : Ordering Q) (w : World Q) (p : Proc) where
   Same did = Still w did.0
 
   same_activate : (u : Task) (to : Proc) (kept : Option Proc) → Still w (activate k w u to kept)
-  same_activate u to kept = cond_both (task w u).active _ _ (λ (v : World Q). Still w v) (λ _. record { processors = refl; holders = refl }) (λ _. record { processors = refl; holders = refl })
+  same_activate u to kept = cond_both (task w u).active _ _ (λ (v : World Q). Still w v) (λ _. record { processors = refl; holders = refl; due = refl }) (λ _. record { processors = refl; holders = refl; due = refl })
 
   same_migrate : (u : Task) (to : Proc) → Still w (migrate k w u to)
-  same_migrate u to = cond_both ((task w u).assigned.number == to.number) _ _ (λ (v : World Q). Still w v) (λ _. still_all w) (λ _. record { processors = refl; holders = refl })
+  same_migrate u to = cond_both ((task w u).assigned.number == to.number) _ _ (λ (v : World Q). Still w v) (λ _. still_all w) (λ _. record { processors = refl; holders = refl; due = refl })
 
   same_wup : (o : Option Task) → Same (wup k w o).effect
   unfolding wup
-  same_wup o = cond_both (is_sleep (task w (unwrap_or o (as_task 1))).wait) _ _ Same (λ _. record { processors = refl; holders = refl }) (λ _. record { processors = refl; holders = refl })
+  same_wup o = cond_both (is_sleep (task w (unwrap_or o (as_task 1))).wait) _ _ Same (λ _. record { processors = refl; holders = refl; due = refl }) (λ _. record { processors = refl; holders = refl; due = refl })
 
   same_sleep : (timeout : ℤ) → Same (tslp_tsk k w p timeout).effect
   unfolding tslp_tsk
   same_sleep timeout =
-      cond_both (nat_lt 0 (task w (caller w p)).wakeups) _ _ Same (λ _. record { processors = refl; holders = refl })
-      (λ _. cond_both (is_zero timeout) _ _ Same (λ _. still_all w) (λ _. record { processors = refl; holders = refl }))
+      cond_both (nat_lt 0 (task w (caller w p)).wakeups) _ _ Same (λ _. record { processors = refl; holders = refl; due = refl })
+      (λ _. cond_both (is_zero timeout) _ _ Same (λ _. still_all w) (λ _. record { processors = refl; holders = refl; due = refl }))
 
   abbrev pub is_exit : TaskCall → Bool
   is_exit tasks.ExtTsk = true
@@ -210,7 +210,7 @@ module _ {Q : Type 0} (k : Ordering Q) (w : World Q) (p : Proc) where
   same_task (tasks.TslpTsk timeout) e = same_sleep timeout
   same_task (tasks.WupTsk id) e = same_wup (task_or_caller w p id)
   same_task (tasks.IwupTsk id) e = same_wup (task_named w id)
-  same_task _ e = record { processors = refl; holders = refl }
+  same_task _ e = record { processors = refl; holders = refl; due = refl }
 
   -- the call is none on processors, on spin locks, and no end
   abbrev pub is_elsewhere : Call → Bool

@@ -1,17 +1,22 @@
--- What the records of runs tell, computed: suspension, priorities, and the locked and the disabled state.
-use Rattle.std.proofs.Common.{◌≡◌, ℕ, pos, true, false, List, [], ◌∷◌, refl}
-use Rattle.fmp_codes.specs.Numbers.{as_proc, as_task, as_pri}
+-- What the records of runs tell, computed: suspension, priorities, the locked and the disabled state, and due handlers.
+use Rattle.std.proofs.Common.{◌≡◌, ℕ, ◌++◌, pos, true, false, List, [], ◌∷◌, refl}
+use Rattle.fmp_codes.specs.Numbers.{as_proc, as_task, as_object, as_pri}
 use Rattle.fmp_codes.specs.declared.calls.Call.TheVariants as call
 use Rattle.fmp_codes.specs.declared.calls.TaskCall.{TaskCall}
 use Rattle.fmp_codes.specs.declared.calls.TaskCall.TheVariants as tasks
 use Rattle.fmp_codes.specs.declared.calls.SystemCall.TheVariants as system
+use Rattle.fmp_codes.specs.declared.calls.TimeCall.TheVariants as time
 use Rattle.fmp_codes.specs.declared.records.Event.{Event}
 use Rattle.fmp_codes.specs.declared.records.Record.{Record}
+use Rattle.fmp_codes.specs.declared.records.Runner.{Runner}
+use Rattle.fmp_codes.specs.declared.records.Runner.TheVariants as runner
 use Rattle.fmp_setup.specs.declared.setup.Timer.TheVariants as timer
 use Rattle.fmp_setup.specs.Setup.{Setup, of_tasks}
-use Rattle.fmp_rules.specs.World.{task, processor}
+use Rattle.fmp_rules.specs.World.{item, task, processor}
 use Rattle.fmp_rules.specs.Arrivals.{State, numbered}
 use Rattle.fmp_rules.specs.TaskCalls.{chg_pri, dly_tsk, sus_tsk, rsm_tsk}
+use Rattle.fmp_rules.specs.TimeCalls.{sta_alm}
+use Rattle.fmp_rules.specs.SpinCalls.{ret_hdr}
 use Rattle.fmp_rules.specs.Tick.{counted_down, ticked, with_handlers_due}
 use Rattle.fmp_rules.specs.Step.{replay, answers, before_event, settled, unchanged}
 use Rattle.fmp_rules.specs.Boot.{booted}
@@ -19,6 +24,7 @@ use Rattle.fmp_rules.proofs.Scenario.{a_task, both, call_on, tick_on}
 use Rattle.fmp_law_records.specs.Suspensions.{suspended_by}
 use Rattle.fmp_law_records.specs.Priorities.{told_priority}
 use Rattle.fmp_law_records.specs.Flags.{locked_by, disabled_by}
+use Rattle.fmp_law_records.specs.Due.{handlers_by, handlers_at_boot}
 
 abbrev pub asks : ℕ → TaskCall → Event
 asks p c = call_on p (call.Task c)
@@ -71,3 +77,34 @@ holding = call_on 1 (call.System system.DisDsp) ∷ call_on 1 (call.System syste
 held : disabled_by (as_proc 1) (told most_urgent holding) false ∷ (processor (later most_urgent holding) (as_proc 1)).disabled ∷ locked_by (as_proc 1) (told most_urgent holding) false ∷ (processor (later most_urgent holding) (as_proc 1)).locked ∷ [] ≡ true ∷ true ∷ true ∷ true ∷ []
 unfolding numbered before_event settled unchanged
 held = refl
+
+-- An alarm and a cyclic handler of processor 2, and another cyclic handler of processor 1.
+
+abbrev pub with_handlers : Setup
+with_handlers = record both_start {
+  alarms = record { class = both 2; handler = 1 } ∷ [];
+  cyclics = record { class = both 1; handler = 1; period = 2; phase = 0; starts = true } ∷ record { class = both 2; handler = 1; period = 2; phase = 1; starts = true } ∷ [];
+}
+
+-- the alarm rings at the second tick of processor 2, with the cyclic handler of that processor and before it
+abbrev pub ringing : List Event
+ringing = call_on 1 (call.Time (time.StaAlm (pos 1) (pos 1))) ∷ tick_on 2 ∷ tick_on 2 ∷ []
+
+abbrev pub due_on : ℕ → List Event → List (List Runner)
+due_on p events = (handlers_by with_handlers (as_proc p) (told with_handlers events) (handlers_at_boot with_handlers)).due ∷ item [] (later with_handlers events).due p ∷ []
+
+both_due : due_on 2 ringing ≡ (runner.Alarm (as_object 1) ∷ runner.Cyclic (as_object 2) ∷ []) ∷ (runner.Alarm (as_object 1) ∷ runner.Cyclic (as_object 2) ∷ []) ∷ []
+unfolding numbered before_event settled unchanged sta_alm counted_down ticked with_handlers_due
+both_due = refl
+
+-- a tick that is held makes none due, and the first of them returns
+abbrev pub returning : List Event
+returning = ringing ++ tick_on 2 ∷ call_on 2 call.RetHdr ∷ []
+
+one_due : due_on 2 returning ≡ (runner.Cyclic (as_object 2) ∷ []) ∷ (runner.Cyclic (as_object 2) ∷ []) ∷ []
+unfolding numbered before_event settled unchanged sta_alm counted_down ticked with_handlers_due ret_hdr
+one_due = refl
+
+none_due : due_on 1 returning ≡ [] ∷ [] ∷ []
+unfolding numbered before_event settled unchanged sta_alm counted_down ticked with_handlers_due ret_hdr
+none_due = refl

@@ -16,6 +16,7 @@ ghost use Rattle.fmp_law_records.specs.Flags.{locked_by, disabled_by, AreFlagsTo
 ghost use Rattle.fmp_law_records.specs.Locks.{holder_by, IsHolderTold, LocksFit};
 ghost use Rattle.fmp_law_records.specs.Patterns.{clears_of, told_pattern, IsPatternTold, PatternFits};
 ghost use Rattle.fmp_law_records.specs.Handlers.{IsAlarmTold, IsCyclicTold};
+ghost use Rattle.fmp_law_records.specs.Due.{handlers_by, handlers_at_boot, AreDueTold, RunsFirst};
 
 /// At every prefix of every list of events on the processors of a valid configuration, a task is suspended just where the records
 /// say: since an accepted `sus_tsk` of it, until an accepted `rsm_tsk` or its end. So it is with each answer, and no task that the
@@ -80,4 +81,15 @@ pub fn alarms_are_told()
 pub fn cyclics_are_told()
     ensures { (c : Setup) (events : List Event) → IsValid c → AreOn c.processors events → (n : ℕ) (o : Object) → o.number ≤ length c.cyclics
         → IsCyclicTold c (take n (answers numbered (booted c) events)) (replay numbered (booted c) (take n events)) o }
+{}
+
+/// At every prefix of every list of events on the processors of a valid configuration, the handlers that are due on each processor
+/// are those that the records say, in their order: each tick that is taken there puts behind them the alarms and then the cyclic
+/// handlers that it takes the last tick from, each by number, and each return takes the first one away. The first of them runs on
+/// its processor, and where none is due no handler does.
+pub fn handlers_due_are_told()
+    ensures told { (c : Setup) (events : List Event) → IsValid c → AreOn c.processors events → (n : ℕ) (p : Proc) → p.number ≤ c.processors
+        → AreDueTold c (take n (answers numbered (booted c) events)) (replay numbered (booted c) (take n events)) p }
+    ensures runs { (c : Setup) (events : List Event) → IsValid c → AreOn c.processors events → (event : Event) → (processor_of event).number ≤ c.processors
+        → RunsFirst (handlers_by c (processor_of event) (answers numbered (booted c) events) (handlers_at_boot c)).due (step numbered (replay numbered (booted c) events) event).1.runner }
 {}
