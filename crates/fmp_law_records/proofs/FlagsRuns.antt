@@ -46,18 +46,18 @@ use Rattle.fmp_law_waits.proofs.Events.{by_event}
 use Rattle.std.proofs.lemmas.Option.{none-some, same_Some}
 use Rattle.std.proofs.lemmas.Bool.{both_ways, eqb-true}
 use Rattle.fmp_law_records.proofs.Still.{tick_still}
-use Rattle.fmp_law_records.proofs.Flags.{Flags, flags, flags_with, undone, flags_call}
+use Rattle.fmp_law_records.proofs.Flags.{Flags, flags, Marks, marks, flags_with, undone, flags_call}
 
 -- The end of an event leaves them.
 
-latched_flags : (cs : List Processor) (ps : List Proc) (q : ℕ) → flags (item no_processor (with_latches cs ps) q) ≡ flags (item no_processor cs q)
+pub latched_flags : (cs : List Processor) (ps : List Proc) (q : ℕ) → flags (item no_processor (with_latches cs ps) q) ≡ flags (item no_processor cs q)
 latched_flags cs [] q = refl
 latched_flags cs (p ∷ ps) q =
     let x : Processor = record (item no_processor cs p.number) { latch = true } in
     latched_flags (with_item cs p.number x) ps q
     ∙ item_after no_processor cs p.number x (λ (c : Processor). flags c ≡ flags (item no_processor cs q)) q (λ i. ap (λ j. flags (slice_index_or cs j no_processor)) (sym i)) refl
 
-settled_flags : {Q : Type 0} (k : Ordering Q) (before : List (Option Task)) (v : World Q) (p q : Proc) → flags (processor (settle k before v p) q) ≡ flags (processor v q)
+pub settled_flags : {Q : Type 0} (k : Ordering Q) (before : List (Option Task)) (v : World Q) (p q : Proc) → flags (processor (settle k before v p) q) ≡ flags (processor v q)
 settled_flags k before v p q =
     let cs : List Processor = with_latches v.processors (requests k before v p) in
     let x : Processor = record (item no_processor cs p.number) { running = top k v p; latch = false } in
@@ -109,31 +109,34 @@ module _ (m : State) (s : Safe numbered m) (q : Proc) where
       cond_both (is_some (runner_of m p)) _ _ Told
       (λ there.
       ⊎_elim
-      (λ (e : p.number ≡ q.number). subst (λ (x : Proc). x.number ≤ length m.processors → Told (settled numbered (before_event numbered m (event.Call x c) x) (called m x (row_of numbered m x c)))) (sym (processors_same p q e)) (λ here. here_told c (called m q (row_of numbered m q c)) (flags_call numbered m q here c).here) n)
+      (λ (e : p.number ≡ q.number). subst (λ (x : Proc). x.number ≤ length m.processors → Told (settled numbered (before_event numbered m (event.Call x c) x) (called m x (row_of numbered m x c)))) (sym (processors_same p q e)) (λ here. here_told c (called m q (row_of numbered m q c)) (ap (λ (x : Marks). x.flags) (flags_call numbered m q here c).here)) n)
       (λ (d : p.number ≡ q.number → ⊥). there_told p c (called m p (row_of numbered m p c)) d (keeps_call numbered m numbered_lists s p (p.least, n) there c)) (cases_eq p.number q.number))
       (λ _. sym (undone (call_on q (event.Call p c)) answer.Idle (flags (processor m q)) refl (idle_leaves p c)))
   flags_step (event.Tick p) n =
       cond_both (has_time m.timer p) _ _ Told (λ _. cond_both ((processor m p).locked || is_some (handler m p)) _ _ Told (λ _. refl) (λ _. tick_told p)) (λ _. refl)
   flags_step (event.Ipi p) n = cond_both (is_held m p) _ _ Told (λ _. refl) (λ _. ipi_told p _)
 
--- At boot no processor is locked, and dispatching is disabled on none.
+-- At boot no processor is locked, dispatching is disabled on none, and no request is pending.
 
 abbrev none_set : Flags
 none_set = record { locked = false; disabled = false }
 
-running_flags : (w : State) (ps : List Proc) (n : ℕ) → flags (item no_processor (with_tops_running numbered w ps).processors n) ≡ flags (item no_processor w.processors n)
-running_flags w [] n = refl
-running_flags w (p ∷ ps) n =
+running_marks : (w : State) (ps : List Proc) (n : ℕ) → marks (item no_processor (with_tops_running numbered w ps).processors n) ≡ marks (item no_processor w.processors n)
+running_marks w [] n = refl
+running_marks w (p ∷ ps) n =
     let x : Processor = record (processor w p) { running = top numbered w p } in
-    running_flags (with_top_running numbered w p) ps n
-    ∙ item_after no_processor w.processors p.number x (λ (c : Processor). flags c ≡ flags (item no_processor w.processors n)) n (λ i. ap (λ j. flags (slice_index_or w.processors j no_processor)) (sym i)) refl
+    running_marks (with_top_running numbered w p) ps n
+    ∙ item_after no_processor w.processors p.number x (λ (c : Processor). marks c ≡ marks (item no_processor w.processors n)) n (λ i. ap (λ j. marks (slice_index_or w.processors j no_processor)) (sym i)) refl
+
+pub booted_marks : (c : Setup) (q : Proc) → marks (processor (booted c) q) ≡ marks no_processor
+booted_marks c q =
+    let first : State = blank (unnumbered c) c in
+    running_marks (all_started numbered first 1 c.tasks) (processors_to c.processors) q.number
+    ∙ ap (λ cs. marks (item no_processor cs q.number)) (started_processors numbered first 1 c.tasks)
+    ∙ item_holds (λ (x : Processor). marks x ≡ marks no_processor) no_processor first.processors q.number refl (All-replicate (λ (x : Processor). marks x ≡ marks no_processor) c.processors no_processor refl)
 
 booted_flags : (c : Setup) (q : Proc) → flags (processor (booted c) q) ≡ none_set
-booted_flags c q =
-    let first : State = blank (unnumbered c) c in
-    running_flags (all_started numbered first 1 c.tasks) (processors_to c.processors) q.number
-    ∙ ap (λ cs. flags (item no_processor cs q.number)) (started_processors numbered first 1 c.tasks)
-    ∙ item_holds (λ (x : Processor). flags x ≡ none_set) no_processor first.processors q.number refl (All-replicate (λ (x : Processor). flags x ≡ none_set) c.processors no_processor refl)
+booted_flags c q = ap (λ (x : Marks). x.flags) (booted_marks c q)
 
 module _ (c : Setup) (q : Proc) where
   flags_run : (pending : OpenWaits) (m : State) (es : List Event) (x : Flags) → Ready c pending m es → flags (processor m q) ≡ x →
@@ -143,12 +146,15 @@ module _ (c : Setup) (q : Proc) where
       flags_run (after_record c pending (step numbered m e).1) (step numbered m e).0 es (flags_after q (step numbered m e).1 x) (ready_next c pending m e es h)
       (flags_step m h.safe q e (h.on 0 e (omega arith)) ∙ ap (flags_after q (step numbered m e).1) old)
 
+  -- after all of these events
+  pub flags_after_all : (es : List Event) → IsValid c → AreOn c.processors es → AreFlagsTold (answers numbered (booted c) es) (replay numbered (booted c) es) q
+  flags_after_all es valid on =
+      let all = flags_run nobody_waits (booted c) es none_set (ready_at_boot c valid es on) (booted_flags c q) in
+      record { locked = ap (λ (x : Flags). x.locked) all; disabled = ap (λ (x : Flags). x.disabled) all }
+
   pub flags_told : (events : List Event) → IsValid c → AreOn c.processors events → (n : ℕ) → AreFlagsTold (take n (answers numbered (booted c) events)) (replay numbered (booted c) (take n events)) q
   flags_told events valid on n =
-      let es : List Event = take n events in
-      let all = flags_run nobody_waits (booted c) es none_set (ready_at_boot c valid es (prefix_on n c.processors events on)) (booted_flags c q) in
-      subst (λ rs. AreFlagsTold rs (replay numbered (booted c) es) q) (answers_take n (booted c) events)
-      (record { locked = ap (λ (x : Flags). x.locked) all; disabled = ap (λ (x : Flags). x.disabled) all })
+      subst (λ rs. AreFlagsTold rs (replay numbered (booted c) (take n events)) q) (answers_take n (booted c) events) (flags_after_all (take n events) valid (prefix_on n c.processors events on))
 
 -- Who asks is told.
 

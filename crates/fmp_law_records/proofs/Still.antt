@@ -1,4 +1,4 @@
--- Which calls leave the processors and the spin locks alone: all but those on them and the end of a task. A tick does so, too.
+-- Which calls leave the processors, the spin locks and the handlers that are due alone: all but those on them and the end of a task. A tick leaves the processors and the spin locks, too.
 use Rattle.std.proofs.Common.{◌≡◌, ℕ, ℤ, true, false, List, [], ◌∷◌, refl, Option, Some, None, Bool, sym}
 use Rattle.std.specs.Prelude.{if◌then◌else◌, is_some, nat_lt, unwrap_or}
 use Rattle.std.proofs.lemmas.Bool.{cond_both, false≢true}

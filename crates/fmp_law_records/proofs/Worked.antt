@@ -1,5 +1,5 @@
--- What the records of runs tell, computed: suspension, priorities, the locked and the disabled state, and due handlers.
-use Rattle.std.proofs.Common.{◌≡◌, ℕ, ◌++◌, pos, true, false, List, [], ◌∷◌, refl}
+-- What the records of runs tell, computed: suspension, priorities, the locked and the disabled state, due handlers and requests.
+use Rattle.std.proofs.Common.{◌≡◌, ℕ, ◌++◌, pos, Bool, true, false, List, [], ◌∷◌, refl}
 use Rattle.fmp_codes.specs.Numbers.{as_proc, as_task, as_object, as_pri}
 use Rattle.fmp_codes.specs.declared.calls.Call.TheVariants as call
 use Rattle.fmp_codes.specs.declared.calls.TaskCall.{TaskCall}
@@ -20,11 +20,12 @@ use Rattle.fmp_rules.specs.SpinCalls.{ret_hdr}
 use Rattle.fmp_rules.specs.Tick.{counted_down, ticked, with_handlers_due}
 use Rattle.fmp_rules.specs.Step.{replay, answers, before_event, settled, unchanged}
 use Rattle.fmp_rules.specs.Boot.{booted}
-use Rattle.fmp_rules.proofs.Scenario.{a_task, both, call_on, tick_on}
+use Rattle.fmp_rules.proofs.Scenario.{a_task, both, call_on, tick_on, ipi_on}
 use Rattle.fmp_law_records.specs.Suspensions.{suspended_by}
 use Rattle.fmp_law_records.specs.Priorities.{told_priority}
 use Rattle.fmp_law_records.specs.Flags.{locked_by, disabled_by}
 use Rattle.fmp_law_records.specs.Due.{handlers_by, handlers_at_boot}
+use Rattle.fmp_law_records.specs.Requests.{told_processor}
 
 abbrev pub asks : ℕ → TaskCall → Event
 asks p c = call_on p (call.Task c)
@@ -108,3 +109,20 @@ one_due = refl
 none_due : due_on 1 returning ≡ [] ∷ [] ∷ []
 unfolding numbered before_event settled unchanged sta_alm counted_down ticked with_handlers_due ret_hdr
 none_due = refl
+
+-- A task suspends one of processor 2, whose dispatching is disabled: the interrupt is held back, and the request waits for it to be
+-- enabled.
+
+abbrev pub pending_on_second : List Event → List Bool
+pending_on_second events = (told_processor both_start (as_proc 2) (told both_start events)).pending ∷ (processor (later both_start events) (as_proc 2)).latch ∷ []
+
+abbrev pub asking : List Event
+asking = call_on 2 (call.System system.DisDsp) ∷ asks 1 (tasks.SusTsk (pos 2)) ∷ ipi_on 2 ∷ []
+
+request_pending : pending_on_second asking ≡ true ∷ true ∷ []
+unfolding numbered before_event settled unchanged sus_tsk
+request_pending = refl
+
+request_over : pending_on_second (asking ++ call_on 2 (call.System system.EnaDsp) ∷ []) ≡ false ∷ false ∷ []
+unfolding numbered before_event settled unchanged sus_tsk
+request_over = refl

@@ -17,6 +17,7 @@ ghost use Rattle.fmp_law_records.specs.Locks.{holder_by, IsHolderTold, LocksFit}
 ghost use Rattle.fmp_law_records.specs.Patterns.{clears_of, told_pattern, IsPatternTold, PatternFits};
 ghost use Rattle.fmp_law_records.specs.Handlers.{IsAlarmTold, IsCyclicTold};
 ghost use Rattle.fmp_law_records.specs.Due.{handlers_by, handlers_at_boot, AreDueTold, RunsFirst};
+ghost use Rattle.fmp_law_records.specs.Requests.{told_processor, IsRequestTold, SignalsFit};
 
 /// At every prefix of every list of events on the processors of a valid configuration, a task is suspended just where the records
 /// say: since an accepted `sus_tsk` of it, until an accepted `rsm_tsk` or its end. So it is with each answer, and no task that the
@@ -92,4 +93,15 @@ pub fn handlers_due_are_told()
         → AreDueTold c (take n (answers numbered (booted c) events)) (replay numbered (booted c) (take n events)) p }
     ensures runs { (c : Setup) (events : List Event) → IsValid c → AreOn c.processors events → (event : Event) → (processor_of event).number ≤ c.processors
         → RunsFirst (handlers_by c (processor_of event) (answers numbered (booted c) events) (handlers_at_boot c)).due (step numbered (replay numbered (booted c) events) event).1.runner }
+{}
+
+/// At every prefix of every list of events on the processors of a valid configuration, a request is pending on each processor just
+/// where the records say: since a record that sends it there, until an event on that processor that comes to its end and leaves its
+/// dispatching not held. An interrupt takes a request just where one is pending and dispatching is not held, and is held back just
+/// where it is. A tick that counts is held back just where its processor is locked or a handler is due there, or else taken.
+pub fn requests_are_told()
+    ensures told { (c : Setup) (events : List Event) → IsValid c → AreOn c.processors events → (n : ℕ) (p : Proc) → p.number ≤ c.processors
+        → IsRequestTold c (take n (answers numbered (booted c) events)) (replay numbered (booted c) (take n events)) p }
+    ensures fits { (c : Setup) (events : List Event) → IsValid c → AreOn c.processors events → (event : Event) (p : Proc) → p.number ≤ c.processors
+        → SignalsFit c p (told_processor c p (answers numbered (booted c) events)) (step numbered (replay numbered (booted c) events) event).1 }
 {}
