@@ -71,11 +71,15 @@ suspensions_fit c events valid on e t within here =
           ∙ begins_unsuspended m t ready.safe e (before_last.on 0 e (omega arith)) h;
     }
 
+-- after all of these events
+pub priority_after_all : (c : Setup) (events : List Event) → IsValid c → AreOn c.processors events → (t : Task) → t.number ≤ length c.tasks → IsPriorityTold c (answers numbered (booted c) events) (replay numbered (booted c) events) t
+priority_after_all c events valid on t here = (priority_from_boot c t here events valid on).active
+
 pub priorities_told : (c : Setup) (events : List Event) → IsValid c → AreOn c.processors events → (n : ℕ) (t : Task) → t.number ≤ length c.tasks →
     IsPriorityTold c (take n (answers numbered (booted c) events)) (replay numbered (booted c) (take n events)) t
 priorities_told c events valid on n t here =
     let es : List Event = take n events in
-    subst (λ rs. IsPriorityTold c rs (replay numbered (booted c) es) t) (answers_take n (booted c) events) (priority_from_boot c t here es valid (prefix_on n c.processors events on)).active
+    subst (λ rs. IsPriorityTold c rs (replay numbered (booted c) es) t) (answers_take n (booted c) events) (priority_after_all c es valid (prefix_on n c.processors events on) t here)
 
 pub priorities_answered : (c : Setup) (events : List Event) → IsValid c → AreOn c.processors events → (e : Event) (t : Task) → t.number ≤ length c.tasks →
     TellsPriority t (told_priority c t (answers numbered (booted c) events)) (step numbered (replay numbered (booted c) events) e).1

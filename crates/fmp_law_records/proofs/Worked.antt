@@ -1,31 +1,40 @@
--- What the records of runs tell, computed: suspension, priorities, the locked and the disabled state, due handlers and requests.
-use Rattle.std.proofs.Common.{◌≡◌, ℕ, ◌++◌, pos, Bool, true, false, List, [], ◌∷◌, refl}
+-- What the records of runs tell, computed: suspension, priorities, the locked and the disabled state, due handlers, requests, and the order in which waiting tasks are served.
+use Rattle.std.proofs.Common.{◌≡◌, ℕ, ◌++◌, pos, Bool, true, false, List, [], ◌∷◌, map, arith, refl, sym, None}
+use Rattle.std.proofs.lemmas.Bool.{false≢true}
 use Rattle.fmp_codes.specs.Numbers.{as_proc, as_task, as_object, as_pri}
 use Rattle.fmp_codes.specs.declared.calls.Call.TheVariants as call
 use Rattle.fmp_codes.specs.declared.calls.TaskCall.{TaskCall}
 use Rattle.fmp_codes.specs.declared.calls.TaskCall.TheVariants as tasks
+use Rattle.fmp_codes.specs.declared.calls.SyncCall.TheVariants as sync
 use Rattle.fmp_codes.specs.declared.calls.SystemCall.TheVariants as system
 use Rattle.fmp_codes.specs.declared.calls.TimeCall.TheVariants as time
 use Rattle.fmp_codes.specs.declared.records.Event.{Event}
 use Rattle.fmp_codes.specs.declared.records.Record.{Record}
+use Rattle.fmp_codes.specs.declared.codes.Code.TheVariants as code
+use Rattle.fmp_codes.specs.declared.records.Release.{Release}
 use Rattle.fmp_codes.specs.declared.records.Runner.{Runner}
 use Rattle.fmp_codes.specs.declared.records.Runner.TheVariants as runner
+use Rattle.fmp_setup.specs.declared.setup.Order.TheVariants as order
 use Rattle.fmp_setup.specs.declared.setup.Timer.TheVariants as timer
 use Rattle.fmp_setup.specs.Setup.{Setup, of_tasks}
+use Rattle.fmp_rules.specs.declared.machine.Wait.TheVariants as wait
 use Rattle.fmp_rules.specs.World.{item, task, processor}
 use Rattle.fmp_rules.specs.Arrivals.{State, numbered}
 use Rattle.fmp_rules.specs.TaskCalls.{chg_pri, dly_tsk, sus_tsk, rsm_tsk}
+use Rattle.fmp_rules.specs.SyncCalls.{twai_sem, sig_sem}
 use Rattle.fmp_rules.specs.TimeCalls.{sta_alm}
 use Rattle.fmp_rules.specs.SpinCalls.{ret_hdr}
 use Rattle.fmp_rules.specs.Tick.{counted_down, ticked, with_handlers_due}
-use Rattle.fmp_rules.specs.Step.{replay, answers, before_event, settled, unchanged}
+use Rattle.fmp_rules.specs.Step.{step, replay, answers, before_event, settled, unchanged}
 use Rattle.fmp_rules.specs.Boot.{booted}
-use Rattle.fmp_rules.proofs.Scenario.{a_task, both, call_on, tick_on, ipi_on}
+use Rattle.fmp_rules.proofs.Scenario.{a_task, sole, both, call_on, tick_on, ipi_on}
 use Rattle.fmp_law_records.specs.Suspensions.{suspended_by}
 use Rattle.fmp_law_records.specs.Priorities.{told_priority}
 use Rattle.fmp_law_records.specs.Flags.{locked_by, disabled_by}
 use Rattle.fmp_law_records.specs.Due.{handlers_by, handlers_at_boot}
 use Rattle.fmp_law_records.specs.Requests.{told_processor}
+use Rattle.fmp_law_records.specs.Served.{Places, places_by, places_at_boot, began_before, is_served_before, ServesInOrder}
+use Rattle.fmp_law_waits.specs.Asked.{OpenWait}
 
 abbrev pub asks : ℕ → TaskCall → Event
 asks p c = call_on p (call.Task c)
@@ -126,3 +135,55 @@ request_pending = refl
 request_over : pending_on_second (asking ++ call_on 2 (call.System system.EnaDsp) ∷ []) ≡ false ∷ false ∷ []
 unfolding numbered before_event settled unchanged sus_tsk
 request_over = refl
+
+-- A task of each of two processors waits for a semaphore that is served by priority. The third task, which comes second, is the more
+-- urgent one.
+
+abbrev pub queueing : Setup
+queueing = record (of_tasks 3 (a_task (sole 1) 10 true ∷ a_task (sole 2) 10 true ∷ a_task (sole 3) 5 true ∷ [])) {
+  semaphores = record { order = order.Priority; initial = 0; most = 1 } ∷ [];
+}
+
+abbrev pub waiting : List Event
+waiting = call_on 2 (call.Sync (sync.WaiSem (pos 1))) ∷ call_on 3 (call.Sync (sync.WaiSem (pos 1))) ∷ []
+
+abbrev pub giving : Event
+giving = call_on 1 (call.Sync (sync.SigSem (pos 1)))
+
+abbrev pub places : List Event → Places
+places events = places_by queueing (told queueing events) (places_at_boot queueing)
+
+abbrev pub given_by : List Event → Record
+given_by events = (step numbered (later queueing events) giving).1
+
+-- the second task began to wait first, and the third one is served
+order_told : began_before (places waiting) (as_task 2) (as_task 3) ∷ is_served_before (places waiting) true (as_task 3) (as_task 2) ∷ [] ≡ true ∷ true ∷ []
+unfolding numbered before_event settled unchanged twai_sem
+order_told = refl
+
+third_served : map (λ x. x.task.number) (given_by waiting).releases ≡ 3 ∷ []
+unfolding numbered before_event settled unchanged twai_sem sig_sem
+third_served = refl
+
+-- with the same priority as the third task the second one comes behind it, since its wait begins anew
+abbrev pub as_urgent : List Event
+as_urgent = waiting ++ asks 1 (tasks.ChgPri (pos 2) (pos 5)) ∷ []
+
+anew_told : is_served_before (places as_urgent) true (as_task 3) (as_task 2) ∷ is_served_before (places as_urgent) true (as_task 2) (as_task 3) ∷ [] ≡ true ∷ false ∷ []
+unfolding numbered before_event settled unchanged twai_sem chg_pri
+anew_told = refl
+
+third_served_again : map (λ x. x.task.number) (given_by as_urgent).releases ≡ 3 ∷ []
+unfolding numbered before_event settled unchanged twai_sem sig_sem chg_pri
+third_served_again = refl
+
+-- a record in which the second task is served is refused
+abbrev pub wrong_release : Release
+wrong_release = record { task = as_task 2; code = code.Accepted; value = None }
+
+wrong_refused : ServesInOrder queueing (places waiting) (record (given_by waiting) { releases = wrong_release ∷ [] }) → ⊥
+unfolding numbered before_event settled unchanged twai_sem sig_sem
+wrong_refused h =
+    let second : OpenWait = record { wait = wait.Semaphore (as_object 1); left = None; assigned = as_proc 2 } in
+    let third : OpenWait = record { wait = wait.Semaphore (as_object 1); left = None; assigned = as_proc 3 } in
+    false≢true (sym (h.next refl 0 wrong_release (omega arith) refl refl second third (as_task 3) refl refl refl))

@@ -6,3 +6,4 @@ pub mod Patterns  -- What records say of the pattern of an eventflag.
 pub mod Handlers  -- Where alarms and cyclic handlers are assigned, and what is left of their time, told by records alone.
 pub mod Due  -- Which handlers are due on a processor, told by records alone.
 pub mod Requests  -- Whether a request is pending on a processor, told by records alone.
+pub mod Served  -- In which order waiting tasks are served, told by records alone.

@@ -18,6 +18,7 @@ ghost use Rattle.fmp_law_records.specs.Patterns.{clears_of, told_pattern, IsPatt
 ghost use Rattle.fmp_law_records.specs.Handlers.{IsAlarmTold, IsCyclicTold};
 ghost use Rattle.fmp_law_records.specs.Due.{handlers_by, handlers_at_boot, AreDueTold, RunsFirst};
 ghost use Rattle.fmp_law_records.specs.Requests.{told_processor, IsRequestTold, SignalsFit};
+ghost use Rattle.fmp_law_records.specs.Served.{places_by, places_at_boot, ServesInOrder};
 
 /// At every prefix of every list of events on the processors of a valid configuration, a task is suspended just where the records
 /// say: since an accepted `sus_tsk` of it, until an accepted `rsm_tsk` or its end. So it is with each answer, and no task that the
@@ -104,4 +105,14 @@ pub fn requests_are_told()
         → IsRequestTold c (take n (answers numbered (booted c) events)) (replay numbered (booted c) (take n events)) p }
     ensures fits { (c : Setup) (events : List Event) → IsValid c → AreOn c.processors events → (event : Event) (p : Proc) → p.number ≤ c.processors
         → SignalsFit c p (told_processor c p (answers numbered (booted c) events)) (step numbered (replay numbered (booted c) events) event).1 }
+{}
+
+/// After every list of events on the processors of a valid configuration, each event serves the waiting tasks in the order that the
+/// records tell. A task that a call gives something is the next in its queue: in a queue by priority the most urgent one, and among
+/// equals, as in every other queue, the one whose wait began first. All that a call on an eventflag releases come in the order of
+/// its queue, and those whose time is over in the order in which their waits began. A task that is given a priority while it waits
+/// in a queue by priority begins its wait anew.
+pub fn served_in_order()
+    ensures { (c : Setup) (events : List Event) → IsValid c → AreOn c.processors events → (event : Event)
+        → ServesInOrder c (places_by c (answers numbered (booted c) events) (places_at_boot c)) (step numbered (replay numbered (booted c) events) event).1 }
 {}
