@@ -8,6 +8,7 @@ use Rattle.fmp_codes.specs.declared.calls.TaskCall.TheVariants as tasks
 use Rattle.fmp_codes.specs.declared.calls.SyncCall.TheVariants as sync
 use Rattle.fmp_codes.specs.declared.calls.SystemCall.TheVariants as system
 use Rattle.fmp_codes.specs.declared.calls.TimeCall.TheVariants as time
+use Rattle.fmp_codes.specs.declared.records.Answer.TheVariants as answer
 use Rattle.fmp_codes.specs.declared.records.Event.{Event}
 use Rattle.fmp_codes.specs.declared.records.Record.{Record}
 use Rattle.fmp_codes.specs.declared.codes.Code.TheVariants as code
@@ -32,7 +33,7 @@ use Rattle.fmp_law_records.specs.Suspensions.{suspended_by}
 use Rattle.fmp_law_records.specs.Priorities.{told_priority}
 use Rattle.fmp_law_records.specs.Flags.{locked_by, disabled_by}
 use Rattle.fmp_law_records.specs.Due.{handlers_by, handlers_at_boot}
-use Rattle.fmp_law_records.specs.Requests.{told_processor}
+use Rattle.fmp_law_records.specs.Requests.{told_processor, SignalsFit}
 use Rattle.fmp_law_records.specs.Served.{Places, places_by, places_at_boot, began_before, is_served_before, ServesInOrder}
 use Rattle.fmp_law_waits.specs.Asked.{OpenWait}
 
@@ -131,6 +132,14 @@ asking = call_on 2 (call.System system.DisDsp) ∷ asks 1 (tasks.SusTsk (pos 2))
 request_pending : pending_on_second asking ≡ true ∷ true ∷ []
 unfolding numbered before_event settled unchanged sus_tsk
 request_pending = refl
+
+-- a record in which the interrupt takes the request there is refused
+abbrev pub asked : List Event
+asked = call_on 2 (call.System system.DisDsp) ∷ asks 1 (tasks.SusTsk (pos 2)) ∷ []
+
+wrong_answer_refused : SignalsFit both_start (as_proc 2) (told_processor both_start (as_proc 2) (told both_start asked)) (record (step numbered (later both_start asked) (ipi_on 2)).1 { answer = answer.Taken }) → ⊥
+unfolding numbered before_event settled unchanged sus_tsk
+wrong_answer_refused h = false≢true (sym (h.interrupt_taken refl))
 
 request_over : pending_on_second (asking ++ call_on 2 (call.System system.EnaDsp) ∷ []) ≡ false ∷ false ∷ []
 unfolding numbered before_event settled unchanged sus_tsk

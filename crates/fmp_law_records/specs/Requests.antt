@@ -73,7 +73,7 @@ abbrev pub IsRequestTold : {Q : Type 0} → Setup → List Record → World Q �
 IsRequestTold c records w p = (world.processor w p).latch ≡ (told_processor c p records).pending
 
 -- where this is told of p, an interrupt on p is held back just where p is held, and else takes a request just where one is pending;
--- a tick on p that counts is held back just where p is locked or a handler is due there, and is taken everywhere else
+-- a tick on p that counts is held back just where p is locked or a handler is due there, and else taken
 pub record SignalsFit (c : Setup) (p : Proc) (before : ProcessorTold) (r : Record) : Type 0 where
   pub interrupt_held : r.event ≡ event.Ipi p → is_held_back r.answer ≡ is_held_told before
   pub interrupt_taken : r.event ≡ event.Ipi p → is_taken r.answer ≡ (before.pending && not (is_held_told before))
