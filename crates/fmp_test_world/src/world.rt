@@ -221,18 +221,30 @@ fn take_tick(world: &mut World<'_>, seats: &mut Seats, digit: u8) -> Option<Turn
     Some(world.tick(&mut seats.clock, Proc::from_index(usize::from(place))))
 }
 
-/// Whether a turn or a tick made a record.
-fn is_made(turn: Option<Turn>) -> bool {
-    matches!(turn, Some(Turn::Made(_)))
+/// What became of a turn or a tick, as a letter: `+` where it made a record, `-` where there was nothing to do, `=` where the history
+/// is full.
+fn letter(turn: Turn) -> u8 {
+    match turn {
+        Turn::Made(_) => b'+',
+        Turn::Nothing => b'-',
+        Turn::Full => b'=',
+    }
+}
+
+/// Whether that became of it.
+fn became(turn: Option<Turn>, wanted: u8) -> bool {
+    match turn {
+        Some(turn) => letter(turn) == wanted,
+        None => false,
+    }
 }
 
 /// Whether a move goes as it is to go.
 fn goes(world: &mut World<'_>, seats: &mut Seats, step: &[u8]) -> bool {
     match step {
-        [b'+', p] => is_made(take_tick(world, seats, *p)),
-        [p] => is_made(take_turn(world, seats, *p)),
-        [p, b'-'] => matches!(take_turn(world, seats, *p), Some(Turn::Nothing)),
-        [p, b'='] => matches!(take_turn(world, seats, *p), Some(Turn::Full)),
+        [b'+', p] => became(take_tick(world, seats, *p), b'+'),
+        [p] => became(take_turn(world, seats, *p), b'+'),
+        [p, wanted] => became(take_turn(world, seats, *p), *wanted),
         _ => false,
     }
 }
