@@ -22,13 +22,13 @@ use Rattle.fmp_law_counts.proofs.Tasks.{after_change, changed_here, changed_ther
 use Rattle.fmp_law_counts.proofs.Lives.{life}
 
 module _ {Q : Type 0} (k : Ordering Q) where
-  abbrev started_if : World Q → Task → TaskSetup → World Q
+  abbrev pub started_if : World Q → Task → TaskSetup → World Q
   started_if w t s = if s.starts then start k w t s.class.initial else w
 
-  tasks_started_if : (w : World Q) (t : Task) (s : TaskSetup) → length (started_if w t s).tasks ≡ length w.tasks
+  pub tasks_started_if : (w : World Q) (t : Task) (s : TaskSetup) → length (started_if w t s).tasks ≡ length w.tasks
   tasks_started_if w t s = cond_both s.starts _ _ (λ (v : World Q). length v.tasks ≡ length w.tasks) (λ _. length-set w.tasks _ _) (λ _. refl)
 
-  other_started : (w : World Q) (u t : Task) (s : TaskSetup) → (t.number ≡ u.number → ⊥) → task (started_if w u s) t ≡ task w t
+  pub other_started : (w : World Q) (u t : Task) (s : TaskSetup) → (t.number ≡ u.number → ⊥) → task (started_if w u s) t ≡ task w t
   other_started w u t s d = cond_both s.starts _ _ (λ (v : World Q). task v t ≡ task w t) (λ _. changed_there w u (started (task w u) s.class.initial) t d) (λ _. refl)
 
   this_started : (w : World Q) (t : Task) (s : TaskSetup) → t.number ≤ length w.tasks → life (task w t) ≡ 0 → life (task (started_if w t s) t) ≡ one_if s.starts
@@ -42,7 +42,7 @@ module _ {Q : Type 0} (k : Ordering Q) where
   tasks_started w n (s ∷ ss) = tasks_started (started_if w (as_task n) s) (n + 1) ss ∙ tasks_started_if w (as_task n) s
 
   -- a task of a lesser number is started no more
-  later_started : (w : World Q) (n : ℕ) (ss : List TaskSetup) (t : Task) → n + length ss ≤ 65 → t.number < n → task (all_started k w n ss) t ≡ task w t
+  pub later_started : (w : World Q) (n : ℕ) (ss : List TaskSetup) (t : Task) → n + length ss ≤ 65 → t.number < n → task (all_started k w n ss) t ≡ task w t
   later_started w n [] t few before = refl
   later_started w n (s ∷ ss) t few before =
       let number : within 64 n ≡ n = omega (arith, few, before) in

@@ -13,31 +13,33 @@ use Rattle.fmp_rules.specs.declared.machine.TaskRecord.{TaskRecord}
 use Rattle.fmp_rules.specs.World.{World, task, runner_of}
 use Rattle.fmp_rules.specs.Ordering.{Ordering}
 use Rattle.fmp_rules.specs.Rows.{Row, called, refused, in_handler}
-use Rattle.fmp_rules.specs.Arguments.{task_named, task_or_caller}
-use Rattle.fmp_rules.specs.TaskCalls.{is_dormant, act, mact, ter_tsk, chg_pri, get_pri, wup, can_wup, rel_wai, sus_tsk, rsm_tsk, task_row}
+use Rattle.fmp_rules.specs.Arguments.{task_named, task_or_caller, processor_or_initial}
+use Rattle.fmp_rules.specs.TaskCalls.{is_dormant, act, mact, mig_tsk, ter_tsk, chg_pri, get_pri, wup, can_wup, rel_wai, sus_tsk, rsm_tsk, task_row}
 use Rattle.fmp_law_safety.proofs.Calls.{Accepts, from_task}
 use Rattle.fmp_law_balance.proofs.Called.{AllRefuse, by_called}
 use Rattle.fmp_law_waits.proofs.Named.{task_known}
 use Rattle.fmp_law_counts.proofs.Tasks.{named_or_caller_is}
-use Rattle.fmp_law_records.proofs.Edits.{is_about, is_done, refusal}
+use Rattle.fmp_law_records.specs.Accepting.{is_about}
+use Rattle.fmp_law_records.proofs.Edits.{is_done, refusal}
 
--- a task of which it may be accepted
-abbrev pub allows : TaskCall → TaskRecord → Bool
-allows (tasks.ActTsk id) r = not (r.active && r.activations == 1)
-allows (tasks.IactTsk id) r = not (r.active && r.activations == 1)
-allows (tasks.MactTsk id to) r = not (r.active && r.activations == 1)
-allows (tasks.ImactTsk id to) r = not (r.active && r.activations == 1)
-allows (tasks.TerTsk id) r = r.active
-allows (tasks.ChgPri id n) r = r.active
-allows (tasks.GetPri id) r = r.active
-allows (tasks.WupTsk id) r = r.active
-allows (tasks.IwupTsk id) r = r.active
-allows (tasks.CanWup id) r = r.active
-allows (tasks.RelWai id) r = is_some r.wait
-allows (tasks.IrelWai id) r = is_some r.wait
-allows (tasks.SusTsk id) r = r.active && not r.suspended
-allows (tasks.RsmTsk id) r = r.suspended
-allows other r = true
+-- a task of which it may be accepted, made on p
+abbrev pub allows : {Q : Type 0} → World Q → Proc → TaskCall → TaskRecord → Bool
+allows w p (tasks.ActTsk id) r = not (r.active && r.activations == 1)
+allows w p (tasks.IactTsk id) r = not (r.active && r.activations == 1)
+allows w p (tasks.MactTsk id to) r = not (r.active && r.activations == 1) && is_some (processor_or_initial w r.setup.class to)
+allows w p (tasks.ImactTsk id to) r = not (r.active && r.activations == 1) && is_some (processor_or_initial w r.setup.class to)
+allows w p (tasks.MigTsk id to) r = r.assigned.number == p.number && is_some (processor_or_initial w r.setup.class to)
+allows w p (tasks.TerTsk id) r = r.active && r.assigned.number == p.number
+allows w p (tasks.ChgPri id n) r = r.active
+allows w p (tasks.GetPri id) r = r.active
+allows w p (tasks.WupTsk id) r = r.active
+allows w p (tasks.IwupTsk id) r = r.active
+allows w p (tasks.CanWup id) r = r.active
+allows w p (tasks.RelWai id) r = is_some r.wait
+allows w p (tasks.IrelWai id) r = is_some r.wait
+allows w p (tasks.SusTsk id) r = r.active && not r.suspended
+allows w p (tasks.RsmTsk id) r = r.suspended
+allows w p other r = true
 
 pub some_wait : {X : Type 0} (o : Option X) → is_none o ≡ false → is_some o ≡ true
 some_wait None e = absurd (false≢true (sym e))
@@ -50,16 +52,16 @@ is_true false e = refl
 module _ {Q : Type 0} (k : Ordering Q) (w : World Q) (p : Proc) (t : Task) (few : length w.tasks ≤ 64) where
   -- where it is done t is such a task, if it is about it
   pub record Allowed (c : TaskCall) (did : World Q × Effect) : Type 0 where
-    pub found : (is_done c did.1.answer && is_about t (runner_of w p) c) ≡ true → allows c (task w t) ≡ true
+    pub found : (is_done c did.1.answer && is_about t (runner_of w p) c) ≡ true → allows w p c (task w t) ≡ true
 
   abbrev the : Option Task → Task
   the o = unwrap_or o (as_task 1)
 
   -- what is so of the task that is named
-  of_named : (c : TaskCall) (did : World Q × Effect) (u : Task) → is_about t (runner_of w p) c ≡ (u.number == t.number) → allows c (task w u) ≡ true → Allowed c did
+  of_named : (c : TaskCall) (did : World Q × Effect) (u : Task) → is_about t (runner_of w p) c ≡ (u.number == t.number) → allows w p c (task w u) ≡ true → Allowed c did
   of_named c did u named h = record {
     found = λ both.
-        subst (λ (x : Task). allows c (task w x) ≡ true) (tasks_same u t (eqb-true u.number t.number (sym named ∙ (and_parts (is_done c did.1.answer) (is_about t (runner_of w p) c) both).1))) h;
+        subst (λ (x : Task). allows w p c (task w x) ≡ true) (tasks_same u t (eqb-true u.number t.number (sym named ∙ (and_parts (is_done c did.1.answer) (is_about t (runner_of w p) c) both).1))) h;
   }
 
   unless_refused : (c : TaskCall) (row : Row Q) → AllRefuse row.errors → (Accepts w p row → Allowed c row.effect) → Allowed c (called w p row)
@@ -70,7 +72,7 @@ module _ {Q : Type 0} (k : Ordering Q) (w : World Q) (p : Proc) (t : Task) (few 
   active_of u e = not-false _ e
 
   pub task_allows : (c : TaskCall) → Allowed c (called w p (task_row k w p c))
-  unfolding act mact ter_tsk chg_pri wup can_wup rel_wai sus_tsk rsm_tsk
+  unfolding act mact mig_tsk ter_tsk chg_pri wup can_wup rel_wai sus_tsk rsm_tsk
   task_allows (tasks.ActTsk id) =
       let o : Option Task = task_or_caller w p id in
       unless_refused (tasks.ActTsk id) (act k w o) (refl, tt) (λ a. of_named _ _ (the o) (named_or_caller_is w p t id few (from_task w p false false a.rule) a.known) (is_true _ a.errors.0))
@@ -79,13 +81,17 @@ module _ {Q : Type 0} (k : Ordering Q) (w : World Q) (p : Proc) (t : Task) (few 
       unless_refused (tasks.IactTsk id) (in_handler (act k w o)) (refl, tt) (λ a. of_named _ _ (the o) (task_known w id few a.known t) (is_true _ a.errors.0))
   task_allows (tasks.MactTsk id to) =
       let o : Option Task = task_or_caller w p id in
-      unless_refused (tasks.MactTsk id to) (mact k w o to) (refl, tt) (λ a. of_named _ _ (the o) (named_or_caller_is w p t id few (from_task w p false false a.rule) (and_parts (is_some o) _ a.known).0) (is_true _ a.errors.0))
+      unless_refused (tasks.MactTsk id to) (mact k w o to) (refl, tt) (λ a. of_named _ _ (the o) (named_or_caller_is w p t id few (from_task w p false false a.rule) (and_parts (is_some o) _ a.known).0) (and_from _ _ (is_true _ a.errors.0) (and_parts (is_some o) _ a.known).1))
   task_allows (tasks.ImactTsk id to) =
       let o : Option Task = task_named w id in
-      unless_refused (tasks.ImactTsk id to) (in_handler (mact k w o to)) (refl, tt) (λ a. of_named _ _ (the o) (task_known w id few (and_parts (is_some o) _ a.known).0 t) (is_true _ a.errors.0))
+      unless_refused (tasks.ImactTsk id to) (in_handler (mact k w o to)) (refl, tt) (λ a. of_named _ _ (the o) (task_known w id few (and_parts (is_some o) _ a.known).0 t) (and_from _ _ (is_true _ a.errors.0) (and_parts (is_some o) _ a.known).1))
+  task_allows (tasks.MigTsk id to) =
+      let o : Option Task = task_or_caller w p id in
+      unless_refused (tasks.MigTsk id to) (mig_tsk k w p o to) (refl, tt)
+      (λ a. of_named _ _ (the o) (named_or_caller_is w p t id few (from_task w p false _ a.rule) (and_parts (is_some o) _ a.known).0) (and_from _ _ (not-false _ a.errors.0) (and_parts (is_some o) _ a.known).1))
   task_allows (tasks.TerTsk id) =
       let u : Task = the (task_named w id) in
-      unless_refused (tasks.TerTsk id) (ter_tsk k w p (task_named w id)) (refl, (refl, tt)) (λ a. of_named _ _ u (task_known w id few a.known t) (active_of u (or_parts (is_dormant w u) _ a.errors.1.0).0))
+      unless_refused (tasks.TerTsk id) (ter_tsk k w p (task_named w id)) (refl, (refl, tt)) (λ a. of_named _ _ u (task_known w id few a.known t) (let parts = or_parts (is_dormant w u) _ a.errors.1.0 in and_from _ _ (active_of u parts.0) (not-false _ parts.1)))
   task_allows (tasks.ChgPri id n) =
       let o : Option Task = task_or_caller w p id in
       unless_refused (tasks.ChgPri id n) (chg_pri k w o n) (refl, tt) (λ a. of_named _ _ (the o) (named_or_caller_is w p t id few (from_task w p false false a.rule) a.known) (active_of (the o) a.errors.0))

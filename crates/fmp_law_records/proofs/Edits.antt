@@ -11,7 +11,6 @@ use Rattle.fmp_codes.specs.declared.codes.Code.{Code}
 use Rattle.fmp_codes.specs.declared.codes.Code.TheVariants as code
 use Rattle.fmp_codes.specs.declared.records.Answer.{Answer}
 use Rattle.fmp_codes.specs.declared.records.Answer.TheVariants as answer
-use Rattle.fmp_codes.specs.declared.records.Runner.{Runner}
 use Rattle.fmp_codes.specs.Records.{is_gone}
 use Rattle.fmp_rules.specs.Effects.{Effect}
 use Rattle.fmp_rules.specs.declared.machine.TaskRecord.{TaskRecord}
@@ -27,34 +26,10 @@ use Rattle.fmp_law_safety.proofs.Calls.{from_task}
 use Rattle.fmp_law_balance.specs.Accepted.{is_accepted}
 use Rattle.fmp_law_balance.specs.Queues.{is_task}
 use Rattle.fmp_law_balance.proofs.Called.{refuses, by_called, not_accepted}
-use Rattle.fmp_law_waits.specs.Waits.{is_number_of}
 use Rattle.fmp_law_waits.proofs.Named.{by_task, task_known}
-use Rattle.fmp_law_counts.specs.Naming.{names_task}
 use Rattle.fmp_law_counts.proofs.Tasks.{is_caller_of, named_or_caller_is, changed_here, changed_there}
+use Rattle.fmp_law_records.specs.Accepting.{is_about}
 use Rattle.fmp_law_records.proofs.Beside.{besides, Leaves, leaves_all, leaves_ready, leaves_begin}
-
--- the task that the call is about, where this runs: the one that its argument names, or who makes it
-abbrev pub is_about : Task → Option Runner → TaskCall → Bool
-is_about t r (tasks.ActTsk id) = names_task t r id
-is_about t r (tasks.IactTsk id) = is_number_of t id
-is_about t r (tasks.MactTsk id to) = names_task t r id
-is_about t r (tasks.ImactTsk id to) = is_number_of t id
-is_about t r (tasks.CanAct id) = names_task t r id
-is_about t r (tasks.MigTsk id to) = names_task t r id
-is_about t r tasks.ExtTsk = is_task t r
-is_about t r (tasks.TerTsk id) = is_number_of t id
-is_about t r (tasks.ChgPri id n) = names_task t r id
-is_about t r (tasks.GetPri id) = names_task t r id
-is_about t r tasks.SlpTsk = is_task t r
-is_about t r (tasks.TslpTsk timeout) = is_task t r
-is_about t r (tasks.WupTsk id) = names_task t r id
-is_about t r (tasks.IwupTsk id) = is_number_of t id
-is_about t r (tasks.CanWup id) = names_task t r id
-is_about t r (tasks.RelWai id) = is_number_of t id
-is_about t r (tasks.IrelWai id) = is_number_of t id
-is_about t r (tasks.SusTsk id) = names_task t r id
-is_about t r (tasks.RsmTsk id) = is_number_of t id
-is_about t r (tasks.DlyTsk time) = is_task t r
 
 -- the answer with which it is done
 abbrev pub is_done : TaskCall → Answer → Bool

@@ -38,7 +38,8 @@ use Rattle.fmp_law_waits.specs.Waits.{is_number_of}
 use Rattle.fmp_law_counts.specs.Naming.{names_task}
 use Rattle.fmp_law_records.specs.Priorities.{given_by, given_or, asks_priority, priority_after, TellsPriority}
 use Rattle.fmp_law_records.proofs.Beside.{besides}
-use Rattle.fmp_law_records.proofs.Edits.{is_about, is_done, activated_as, edited}
+use Rattle.fmp_law_records.specs.Accepting.{is_about}
+use Rattle.fmp_law_records.proofs.Edits.{is_done, activated_as, edited}
 use Rattle.fmp_law_records.proofs.Allows.{allows}
 use Rattle.fmp_law_records.proofs.Told.{is_of_tasks, either, told_step}
 
@@ -114,7 +115,7 @@ module _ {Q : Type 0} (w : World Q) (t : Task) (initial x : Pri) (old : HasPrior
       cond_both (nat_lt 0 o.activations) _ _ (HasPriority initial initial) (λ _. record { active = λ _. old.setup; dormant = λ _. refl; setup = old.setup })
       (λ _. record { active = λ e. absurd (false≢true e); dormant = λ _. refl; setup = old.setup })
 
-  priority_edits : (p : Proc) (c : TaskCall) (did : Effect) → ((is_done c did.answer && is_about t (runner_of w p) c) ≡ true → allows c o ≡ true) →
+  priority_edits : (p : Proc) (c : TaskCall) (did : Effect) → ((is_done c did.answer && is_about t (runner_of w p) c) ≡ true → allows w p c o ≡ true) →
       HasPriority initial (priority_after initial t (told (event.Call p (call.Task c)) (runner_of w p) did) x) (if is_done c did.answer && is_about t (runner_of w p) c then edited w c o else o)
   priority_edits p (tasks.ActTsk id) did may = kept _ _ _ (activated _ _)
   priority_edits p (tasks.IactTsk id) did may = kept _ _ _ (activated _ _)

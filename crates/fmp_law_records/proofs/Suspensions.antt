@@ -39,7 +39,8 @@ use Rattle.fmp_law_balance.proofs.Steps.{told}
 use Rattle.fmp_law_waits.specs.Waits.{is_number_of}
 use Rattle.fmp_law_counts.specs.Naming.{names_task}
 use Rattle.fmp_law_records.specs.Suspensions.{suspends, resumes, suspended_after, is_overflow}
-use Rattle.fmp_law_records.proofs.Edits.{is_about, is_done, activated_as, edited}
+use Rattle.fmp_law_records.specs.Accepting.{is_about}
+use Rattle.fmp_law_records.proofs.Edits.{is_done, activated_as, edited}
 use Rattle.fmp_law_records.proofs.Allows.{allows, task_allows}
 use Rattle.fmp_law_records.proofs.Told.{is_of_tasks, either, swapped, told_step}
 
@@ -75,7 +76,7 @@ module _ {Q : Type 0} (w : World Q) (t : Task) where
     none_at_end : (words.ended o).suspended ≡ false
     none_at_end = cond_both (nat_lt 0 o.activations) _ _ (IsSo false) (λ _. refl) (λ _. refl)
 
-    suspension_edits : (p : Proc) (c : TaskCall) (did : Effect) → ((is_done c did.answer && is_about t (runner_of w p) c) ≡ true → allows c o ≡ true) →
+    suspension_edits : (p : Proc) (c : TaskCall) (did : Effect) → ((is_done c did.answer && is_about t (runner_of w p) c) ≡ true → allows w p c o ≡ true) →
         (if is_done c did.answer && is_about t (runner_of w p) c then edited w c o else o).suspended ≡ suspended_after t (told (event.Call p (call.Task c)) (runner_of w p) did) x
     suspension_edits p (tasks.ActTsk id) did may = kept _ _ (activated _ _)
     suspension_edits p (tasks.IactTsk id) did may = kept _ _ (activated _ _)

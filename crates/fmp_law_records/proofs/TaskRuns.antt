@@ -37,7 +37,7 @@ module _ (c : Setup) (t : Task) (here : t.number ≤ length c.tasks) where
       priority_run initial (after_record c pending (step numbered m e).1) (step numbered m e).0 es (priority_after initial t (step numbered m e).1 x) (ready_next c pending m e es h)
       (priority_step numbered m t initial x old h.sound.few_tasks (rw h.tasks here) e)
 
-  suspension_from_boot : (es : List Event) → IsValid c → AreOn c.processors es → (task (replay numbered (booted c) es) t).suspended ≡ suspended_by t (answers numbered (booted c) es) false
+  pub suspension_from_boot : (es : List Event) → IsValid c → AreOn c.processors es → (task (replay numbered (booted c) es) t).suspended ≡ suspended_by t (answers numbered (booted c) es) false
   suspension_from_boot es valid on = suspension_run nobody_waits (booted c) es false (ready_at_boot c valid es on) (booted_unsuspended c valid.few_tasks t)
 
   priority_from_boot : (es : List Event) → IsValid c → AreOn c.processors es → HasPriority (setup_of c t).priority (told_priority c t (answers numbered (booted c) es)) (task (replay numbered (booted c) es) t)

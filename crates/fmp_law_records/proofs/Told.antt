@@ -22,7 +22,8 @@ use Rattle.fmp_law_balance.proofs.Steps.{told}
 use Rattle.fmp_law_waits.proofs.Events.{by_event}
 use Rattle.fmp_law_records.proofs.Beside.{besides, Leaves, is_on_tasks, call_leaves, tick_leaves}
 use Rattle.std.proofs.lemmas.Bool.{and_parts, both_ways}
-use Rattle.fmp_law_records.proofs.Edits.{is_about, is_done, edited, task_edits}
+use Rattle.fmp_law_records.specs.Accepting.{is_about}
+use Rattle.fmp_law_records.proofs.Edits.{is_done, edited, task_edits}
 use Rattle.fmp_law_records.proofs.Allows.{allows, task_allows}
 
 -- the event is a call on tasks
@@ -56,7 +57,7 @@ module _ {X : Type 0} (R : X → TaskRecord → Type 0) (after : Record → X �
   -- what calls on tasks make of it is told
   abbrev pub EditsTold : X → Type 0
   EditsTold x =
-      (p : Proc) (c : TaskCall) (did : Effect) → ((is_done c did.answer && is_about t (runner_of w p) c) ≡ true → allows c (task w t) ≡ true) →
+      (p : Proc) (c : TaskCall) (did : Effect) → ((is_done c did.answer && is_about t (runner_of w p) c) ≡ true → allows w p c (task w t) ≡ true) →
       R (after (told (event.Call p (call.Task c)) (runner_of w p) did) x) (if is_done c did.answer && is_about t (runner_of w p) c then edited w c (task w t) else task w t)
 
   module _ (x : X) (old : R x (task w t)) (edits : EditsTold x) where

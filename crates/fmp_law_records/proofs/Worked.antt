@@ -1,5 +1,5 @@
--- What the records of runs tell, computed: suspension, priorities, the locked and the disabled state, due handlers, requests, and the order in which waiting tasks are served.
-use Rattle.std.proofs.Common.{◌≡◌, ℕ, ◌++◌, pos, Bool, true, false, List, [], ◌∷◌, map, arith, refl, sym, None}
+-- What the records of runs tell, computed: suspension, priorities, lives, which calls are due, the locked and the disabled state, due handlers, requests, and the order in which waiting tasks are served.
+use Rattle.std.proofs.Common.{◌≡◌, ℕ, ◌++◌, pos, Bool, true, false, List, [], ◌∷◌, map, arith, refl, sym, Some, None}
 use Rattle.std.proofs.lemmas.Bool.{false≢true}
 use Rattle.fmp_codes.specs.Numbers.{as_proc, as_task, as_object, as_pri}
 use Rattle.fmp_codes.specs.declared.calls.Call.TheVariants as call
@@ -21,7 +21,9 @@ use Rattle.fmp_setup.specs.Setup.{Setup, of_tasks}
 use Rattle.fmp_rules.specs.declared.machine.Wait.TheVariants as wait
 use Rattle.fmp_rules.specs.World.{item, task, processor}
 use Rattle.fmp_rules.specs.Arrivals.{State, numbered}
-use Rattle.fmp_rules.specs.TaskCalls.{chg_pri, dly_tsk, sus_tsk, rsm_tsk}
+use Rattle.fmp_rules.specs.TaskCalls.{mact, ext_tsk, chg_pri, dly_tsk, sus_tsk, rsm_tsk}
+use Rattle.fmp_rules.specs.Tasks.{finish}
+use Rattle.fmp_rules.specs.Processors.{opened}
 use Rattle.fmp_rules.specs.SyncCalls.{twai_sem, sig_sem}
 use Rattle.fmp_rules.specs.TimeCalls.{sta_alm}
 use Rattle.fmp_rules.specs.SpinCalls.{ret_hdr}
@@ -31,6 +33,8 @@ use Rattle.fmp_rules.specs.Boot.{booted}
 use Rattle.fmp_rules.proofs.Scenario.{a_task, sole, both, call_on, tick_on, ipi_on}
 use Rattle.fmp_law_records.specs.Suspensions.{suspended_by}
 use Rattle.fmp_law_records.specs.Priorities.{told_priority}
+use Rattle.fmp_law_records.specs.Lives.{LifeTold, told_life}
+use Rattle.fmp_law_records.specs.Accepting.{told_task, TaskCallFits}
 use Rattle.fmp_law_records.specs.Flags.{locked_by, disabled_by}
 use Rattle.fmp_law_records.specs.Due.{handlers_by, handlers_at_boot}
 use Rattle.fmp_law_records.specs.Requests.{told_processor, SignalsFit}
@@ -76,6 +80,42 @@ more_urgent = asks 1 (tasks.ChgPri (pos 2) (pos 5)) ∷ []
 other_priority : told_priority one_timer (as_task 2) (told one_timer more_urgent) ∷ (task (later one_timer more_urgent) (as_task 2)).priority ∷ [] ≡ as_pri 5 ∷ as_pri 5 ∷ []
 unfolding numbered before_event settled unchanged chg_pri
 other_priority = refl
+
+-- The second task is activated for processor 1 while it is active, ends, and begins another life there.
+
+abbrev pub living_again : List Event
+living_again = asks 1 (tasks.MactTsk (pos 2) (pos 1)) ∷ asks 2 tasks.ExtTsk ∷ []
+
+abbrev pub second_life : List Event → LifeTold
+second_life events = told_life both_start (as_task 2) (told both_start events)
+
+queued_told : (second_life (asks 1 (tasks.MactTsk (pos 2) (pos 1)) ∷ [])).queued ≡ Some (Some (as_proc 1))
+unfolding numbered before_event settled unchanged mact
+queued_told = refl
+
+another_life : (second_life living_again).active ∷ (task (later both_start living_again) (as_task 2)).active ∷ [] ≡ true ∷ true ∷ []
+unfolding numbered before_event settled unchanged mact ext_tsk finish opened
+another_life = refl
+
+moved_life : (second_life living_again).at ∷ (task (later both_start living_again) (as_task 2)).assigned ∷ [] ≡ as_proc 1 ∷ as_proc 1 ∷ []
+unfolding numbered before_event settled unchanged mact ext_tsk finish opened
+moved_life = refl
+
+-- it cannot be resumed where it is not suspended: a record in which that is accepted is refused, and so is one in which its
+-- suspension is refused as unsuited
+abbrev pub resuming : Record
+resuming = (step numbered (booted both_start) (asks 1 (tasks.RsmTsk (pos 2)))).1
+
+abbrev pub suspending : Record
+suspending = (step numbered (booted both_start) (asks 1 (tasks.SusTsk (pos 2)))).1
+
+needless_acceptance_refused : TaskCallFits (as_task 2) (told_task both_start (as_task 2) []) (record resuming { answer = answer.Done code.Accepted None }) → ⊥
+unfolding numbered before_event settled unchanged rsm_tsk
+needless_acceptance_refused h = false≢true ((h refl).suited refl)
+
+needless_refusal_refused : TaskCallFits (as_task 2) (told_task both_start (as_task 2) []) (record suspending { answer = answer.Done code.ObjectState None }) → ⊥
+unfolding numbered before_event settled unchanged sus_tsk
+needless_refusal_refused h = false≢true (sym ((h refl).unsuited refl))
 
 -- A task of priority 1 disables dispatching, and locks its processor.
 

@@ -11,6 +11,8 @@ ghost use Rattle.fmp_rules.specs.Step.{step, replay, answers};
 ghost use Rattle.fmp_rules.specs.Boot.{booted};
 ghost use Rattle.fmp_law_safety.specs.Runs.{processor_of, AreOn};
 ghost use Rattle.fmp_law_records.specs.Suspensions.{suspended_by, IsSuspensionTold, SuspensionFits};
+ghost use Rattle.fmp_law_records.specs.Lives.{IsLifeTold};
+ghost use Rattle.fmp_law_records.specs.Accepting.{told_task, TaskCallFits};
 ghost use Rattle.fmp_law_records.specs.Priorities.{told_priority, IsPriorityTold, TellsPriority};
 ghost use Rattle.fmp_law_records.specs.Flags.{locked_by, disabled_by, AreFlagsTold, TellsFlags};
 ghost use Rattle.fmp_law_records.specs.Locks.{holder_by, IsHolderTold, LocksFit};
@@ -29,6 +31,25 @@ pub fn suspensions_are_told()
     ensures fits { (c : Setup) (events : List Event) → IsValid c → AreOn c.processors events → (event : Event) (t : Task) → (processor_of event).number ≤ c.processors
         → t.number ≤ length c.tasks
         → SuspensionFits t (suspended_by t (answers numbered (booted c) events) false) (step numbered (replay numbered (booted c) events) event).1 }
+{}
+
+/// At every prefix of every list of events on the processors of a valid configuration, a task is active, an activation of it is
+/// queued, and it is assigned to a processor, just as the records say. An accepted activation begins the life of a dormant task, on
+/// the processor that the call names if it names one, and of an active task it is queued; an end begins the next life by the queued
+/// activation, if there is one; and a migration takes the task to another processor.
+pub fn lives_are_told()
+    ensures { (c : Setup) (events : List Event) → IsValid c → AreOn c.processors events → (n : ℕ) (t : Task) → t.number ≤ length c.tasks
+        → IsLifeTold c (take n (answers numbered (booted c) events)) (replay numbered (booted c) (take n events)) t }
+{}
+
+/// After every list of events on the processors of a valid configuration, each call on a task is answered as the records before it say
+/// of this task. It is accepted only of a task whose state suits it: an active one for `chg_pri`, `wup_tsk` and others, a waiting one
+/// for `rel_wai`, a suspended one for `rsm_tsk`, one of the processor of the call for `mig_tsk` and `ter_tsk`; and only where no
+/// activation is queued yet, or the task is not suspended yet. It answers E_OBJ only where the state does not suit it, and E_QOVR
+/// only where it does and an activation is queued already or the task is suspended already, or for wakeups.
+pub fn calls_on_tasks_were_due()
+    ensures { (c : Setup) (events : List Event) → IsValid c → AreOn c.processors events → (event : Event) (t : Task) → t.number ≤ length c.tasks
+        → TaskCallFits t (told_task c t (answers numbered (booted c) events)) (step numbered (replay numbered (booted c) events) event).1 }
 {}
 
 /// At every prefix of every list of events on the processors of a valid configuration, each active task has the priority that the
