@@ -20,7 +20,8 @@ use Rattle.fmp_law_balance.proofs.Called.{AllRefuse, by_called}
 use Rattle.fmp_law_waits.proofs.Named.{task_known}
 use Rattle.fmp_law_counts.proofs.Tasks.{named_or_caller_is}
 use Rattle.fmp_law_records.specs.Accepting.{is_about}
-use Rattle.fmp_law_records.proofs.Edits.{is_done, refusal}
+use Rattle.fmp_law_records.specs.Line.{is_done}
+use Rattle.fmp_law_records.proofs.Edits.{refusal}
 
 -- a task of which it may be accepted, made on p
 abbrev pub allows : {Q : Type 0} → World Q → Proc → TaskCall → TaskRecord → Bool

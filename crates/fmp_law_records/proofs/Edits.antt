@@ -11,7 +11,6 @@ use Rattle.fmp_codes.specs.declared.codes.Code.{Code}
 use Rattle.fmp_codes.specs.declared.codes.Code.TheVariants as code
 use Rattle.fmp_codes.specs.declared.records.Answer.{Answer}
 use Rattle.fmp_codes.specs.declared.records.Answer.TheVariants as answer
-use Rattle.fmp_codes.specs.Records.{is_gone}
 use Rattle.fmp_rules.specs.Effects.{Effect}
 use Rattle.fmp_rules.specs.declared.machine.TaskRecord.{TaskRecord}
 use Rattle.fmp_rules.specs.declared.machine.Wait.TheVariants as wait
@@ -29,12 +28,8 @@ use Rattle.fmp_law_balance.proofs.Called.{refuses, by_called, not_accepted}
 use Rattle.fmp_law_waits.proofs.Named.{by_task, task_known}
 use Rattle.fmp_law_counts.proofs.Tasks.{is_caller_of, named_or_caller_is, changed_here, changed_there}
 use Rattle.fmp_law_records.specs.Accepting.{is_about}
+use Rattle.fmp_law_records.specs.Line.{is_done}
 use Rattle.fmp_law_records.proofs.Beside.{besides, Leaves, leaves_all, leaves_ready, leaves_begin}
-
--- the answer with which it is done
-abbrev pub is_done : TaskCall → Answer → Bool
-is_done tasks.ExtTsk a = is_gone a
-is_done c a = is_accepted a
 
 pub refusal : (c : TaskCall) (x : Code) → refuses x ≡ true → is_done c (refused x).answer ≡ false
 refusal tasks.ExtTsk x e = refl

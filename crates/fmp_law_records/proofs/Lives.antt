@@ -33,7 +33,8 @@ use Rattle.fmp_law_records.specs.Lives.{LifeTold, life_activated, life_ended, li
 use Rattle.fmp_law_records.proofs.Alarms.{taken_is}
 use Rattle.fmp_law_records.proofs.Beside.{besides}
 use Rattle.fmp_law_records.specs.Accepting.{is_about}
-use Rattle.fmp_law_records.proofs.Edits.{is_done, activated_as, edited}
+use Rattle.fmp_law_records.specs.Line.{is_done}
+use Rattle.fmp_law_records.proofs.Edits.{activated_as, edited}
 use Rattle.fmp_law_records.proofs.Allows.{allows}
 use Rattle.fmp_law_records.proofs.Told.{is_of_tasks, either, told_step}
 

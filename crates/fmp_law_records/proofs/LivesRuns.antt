@@ -31,7 +31,7 @@ module _ (c : Setup) (t : Task) (here : t.number ≤ length c.tasks) where
       life_run (after_record c pending (step numbered m e).1) (step numbered m e).0 es (life_after class t (step numbered m e).1 x) (ready_next c pending m e es h)
       (life_step numbered m t class x old h.sound.few_tasks (rw h.tasks here) e)
 
-  booted_life : IsValid c → HasLife class (life_at_boot c t) (task (booted c) t)
+  pub booted_life : IsValid c → HasLife class (life_at_boot c t) (task (booted c) t)
   booted_life valid =
       let s = setup_of c t in
       subst (HasLife class (life_at_boot c t)) (sym (booted_task c valid.few_tasks t here))

@@ -39,7 +39,8 @@ use Rattle.fmp_law_counts.specs.Naming.{names_task}
 use Rattle.fmp_law_records.specs.Priorities.{given_by, given_or, asks_priority, priority_after, TellsPriority}
 use Rattle.fmp_law_records.proofs.Beside.{besides}
 use Rattle.fmp_law_records.specs.Accepting.{is_about}
-use Rattle.fmp_law_records.proofs.Edits.{is_done, activated_as, edited}
+use Rattle.fmp_law_records.specs.Line.{is_done}
+use Rattle.fmp_law_records.proofs.Edits.{activated_as, edited}
 use Rattle.fmp_law_records.proofs.Allows.{allows}
 use Rattle.fmp_law_records.proofs.Told.{is_of_tasks, either, told_step}
 
@@ -61,7 +62,7 @@ others_leave initial t r no_call x = go r.event no_call
     go e h = same r.answer
 
 -- what a call gives is what the machine takes
-given_same : (initial : Pri) (n : ℤ) → priority_or initial n ≡ given_by initial n
+pub given_same : (initial : Pri) (n : ℤ) → priority_or initial n ≡ given_by initial n
 given_same initial (pos n) = refl
 given_same initial (negsuc n) = refl
 

@@ -40,7 +40,8 @@ use Rattle.fmp_law_waits.specs.Waits.{is_number_of}
 use Rattle.fmp_law_counts.specs.Naming.{names_task}
 use Rattle.fmp_law_records.specs.Suspensions.{suspends, resumes, suspended_after, is_overflow}
 use Rattle.fmp_law_records.specs.Accepting.{is_about}
-use Rattle.fmp_law_records.proofs.Edits.{is_done, activated_as, edited}
+use Rattle.fmp_law_records.specs.Line.{is_done}
+use Rattle.fmp_law_records.proofs.Edits.{activated_as, edited}
 use Rattle.fmp_law_records.proofs.Allows.{allows, task_allows}
 use Rattle.fmp_law_records.proofs.Told.{is_of_tasks, either, swapped, told_step}
 

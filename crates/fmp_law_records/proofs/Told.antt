@@ -23,7 +23,8 @@ use Rattle.fmp_law_waits.proofs.Events.{by_event}
 use Rattle.fmp_law_records.proofs.Beside.{besides, Leaves, is_on_tasks, call_leaves, tick_leaves}
 use Rattle.std.proofs.lemmas.Bool.{and_parts, both_ways}
 use Rattle.fmp_law_records.specs.Accepting.{is_about}
-use Rattle.fmp_law_records.proofs.Edits.{is_done, edited, task_edits}
+use Rattle.fmp_law_records.specs.Line.{is_done}
+use Rattle.fmp_law_records.proofs.Edits.{edited, task_edits}
 use Rattle.fmp_law_records.proofs.Allows.{allows, task_allows}
 
 -- the event is a call on tasks
@@ -43,7 +44,7 @@ swapped true false P both neither = neither
 swapped false true P both neither = neither
 swapped false false P both neither = neither
 
-idle_undone : (c : TaskCall) → is_done c answer.Idle ≡ false
+pub idle_undone : (c : TaskCall) → is_done c answer.Idle ≡ false
 idle_undone tasks.ExtTsk = refl
 idle_undone c = refl
 

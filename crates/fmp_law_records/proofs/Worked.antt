@@ -1,5 +1,6 @@
--- What the records of runs tell, computed: suspension, priorities, lives, which calls are due, the locked and the disabled state, due handlers, requests, and the order in which waiting tasks are served.
-use Rattle.std.proofs.Common.{◌≡◌, ℕ, ◌++◌, pos, Bool, true, false, List, [], ◌∷◌, map, arith, refl, sym, Some, None}
+-- What the records of runs tell, computed: suspension, priorities, lives, which calls are due, the locked and the disabled state, due
+-- handlers, requests, the order in which waiting tasks are served, and that of the ready tasks.
+use Rattle.std.proofs.Common.{◌≡◌, ℕ, ◌++◌, pos, Bool, true, false, List, [], ◌∷◌, map, arith, refl, sym, ap, Some, None}
 use Rattle.std.proofs.lemmas.Bool.{false≢true}
 use Rattle.fmp_codes.specs.Numbers.{as_proc, as_task, as_object, as_pri}
 use Rattle.fmp_codes.specs.declared.calls.Call.TheVariants as call
@@ -24,6 +25,8 @@ use Rattle.fmp_rules.specs.Arrivals.{State, numbered}
 use Rattle.fmp_rules.specs.TaskCalls.{mact, ext_tsk, chg_pri, dly_tsk, sus_tsk, rsm_tsk}
 use Rattle.fmp_rules.specs.Tasks.{finish}
 use Rattle.fmp_rules.specs.Processors.{opened}
+use Rattle.std.specs.Prelude.{unwrap_or, option_map}
+use Rattle.fmp_rules.specs.SystemCalls.{rotation}
 use Rattle.fmp_rules.specs.SyncCalls.{twai_sem, sig_sem}
 use Rattle.fmp_rules.specs.TimeCalls.{sta_alm}
 use Rattle.fmp_rules.specs.SpinCalls.{ret_hdr}
@@ -39,6 +42,7 @@ use Rattle.fmp_law_records.specs.Flags.{locked_by, disabled_by}
 use Rattle.fmp_law_records.specs.Due.{handlers_by, handlers_at_boot}
 use Rattle.fmp_law_records.specs.Requests.{told_processor, SignalsFit}
 use Rattle.fmp_law_records.specs.Served.{Places, places_by, places_at_boot, began_before, is_served_before, ServesInOrder}
+use Rattle.fmp_law_records.specs.Standing.{Standing, told_standing, ready_told, AreReadyTold}
 use Rattle.fmp_law_waits.specs.Asked.{OpenWait}
 
 abbrev pub asks : ℕ → TaskCall → Event
@@ -236,3 +240,39 @@ wrong_refused h =
     let second : OpenWait = record { wait = wait.Semaphore (as_object 1); left = None; assigned = as_proc 2 } in
     let third : OpenWait = record { wait = wait.Semaphore (as_object 1); left = None; assigned = as_proc 3 } in
     false≢true (sym (h.next refl 0 wrong_release (omega arith) refl refl second third (as_task 3) refl refl refl))
+
+-- Three tasks of one processor: the first one rotates the ready tasks of its priority, and later the third one is released.
+
+abbrev pub lining_up : Setup
+lining_up = record (of_tasks 1 (a_task (sole 1) 10 true ∷ a_task (sole 1) 10 true ∷ a_task (sole 1) 10 true ∷ [])) {
+  semaphores = record { order = order.First; initial = 0; most = 1 } ∷ [];
+}
+
+abbrev pub rotating : List Event
+rotating = call_on 1 (call.System (system.RotRdq (pos 10))) ∷ []
+
+abbrev pub stand : List Event → Standing
+stand events = told_standing lining_up (told lining_up events)
+
+abbrev pub line_told : List Event → List ℕ
+line_told events = map (λ t. t.number) (ready_told lining_up (stand events) (as_proc 1) (as_pri 10))
+
+abbrev pub line_there : List Event → List ℕ
+line_there events = let m = later lining_up events in map (λ t. t.number) (numbered.ready m.order m.tasks (as_proc 1) (as_pri 10))
+
+second_first : line_told rotating ∷ line_there rotating ∷ [] ≡ (2 ∷ 3 ∷ 1 ∷ []) ∷ (2 ∷ 3 ∷ 1 ∷ []) ∷ []
+unfolding numbered before_event settled unchanged rotation
+second_first = refl
+
+-- the second and the third task wait, and the second one is served: it comes behind the first one, which runs
+abbrev pub serving : List Event
+serving = rotating ++ call_on 1 (call.Sync (sync.WaiSem (pos 1))) ∷ call_on 1 (call.Sync (sync.WaiSem (pos 1))) ∷ call_on 1 (call.Sync (sync.SigSem (pos 1))) ∷ []
+
+second_behind : line_told serving ∷ line_there serving ∷ [] ≡ (1 ∷ 2 ∷ []) ∷ (1 ∷ 2 ∷ []) ∷ []
+unfolding numbered before_event settled unchanged rotation twai_sem sig_sem
+second_behind = refl
+
+-- a state in which the first task is still the top is refused
+wrong_top_refused : AreReadyTold lining_up (stand rotating) (booted lining_up) (as_proc 1) → ⊥
+unfolding numbered before_event settled unchanged rotation
+wrong_top_refused h = let e : 1 ≡ 2 = ap (λ o. unwrap_or (option_map (λ t. t.number) o) 0) h.top in omega (arith, e)

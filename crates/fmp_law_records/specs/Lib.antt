@@ -9,3 +9,5 @@ pub mod Requests  -- Whether a request is pending on a processor, told by record
 pub mod Served  -- In which order waiting tasks are served, told by records alone.
 pub mod Lives  -- What records say of the life of a task: whether it is active, which activation is queued, and where it is assigned.
 pub mod Accepting  -- Which calls on a task are due, by what the records before them say of this task.
+pub mod Line  -- The order in which tasks were put last, and which calls on a task put it last.
+pub mod Standing  -- Which tasks are ready on each processor and in which order, told by records alone, and so who is the top.

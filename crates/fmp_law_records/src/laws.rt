@@ -20,6 +20,7 @@ ghost use Rattle.fmp_law_records.specs.Patterns.{clears_of, told_pattern, IsPatt
 ghost use Rattle.fmp_law_records.specs.Handlers.{IsAlarmTold, IsCyclicTold};
 ghost use Rattle.fmp_law_records.specs.Due.{handlers_by, handlers_at_boot, AreDueTold, RunsFirst};
 ghost use Rattle.fmp_law_records.specs.Requests.{told_processor, IsRequestTold, SignalsFit};
+ghost use Rattle.fmp_law_records.specs.Standing.{told_standing, AreReadyTold};
 ghost use Rattle.fmp_law_records.specs.Served.{places_by, places_at_boot, ServesInOrder};
 
 /// At every prefix of every list of events on the processors of a valid configuration, a task is suspended just where the records
@@ -126,6 +127,16 @@ pub fn requests_are_told()
         → IsRequestTold c (take n (answers numbered (booted c) events)) (replay numbered (booted c) (take n events)) p }
     ensures fits { (c : Setup) (events : List Event) → IsValid c → AreOn c.processors events → (event : Event) (p : Proc) → p.number ≤ c.processors
         → SignalsFit c p (told_processor c p (answers numbered (booted c) events)) (step numbered (replay numbered (booted c) events) event).1 }
+{}
+
+/// At every prefix of every list of events on the processors of a valid configuration, the ready tasks of each processor and priority
+/// stand in the order that the records tell, and the top of each processor is the first of the most urgent ones. A task is ready
+/// that is active, waits for nothing and is not suspended. It stands behind those of its priority since it was put last: it was
+/// released, its life began or ended, it got a priority, went to another processor, was resumed, or was the first of a priority that
+/// was rotated. At boot the tasks stand by number.
+pub fn ready_order_is_told()
+    ensures { (c : Setup) (events : List Event) → IsValid c → AreOn c.processors events → (n : ℕ) (p : Proc)
+        → AreReadyTold c (told_standing c (take n (answers numbered (booted c) events))) (replay numbered (booted c) (take n events)) p }
 {}
 
 /// After every list of events on the processors of a valid configuration, each event serves the waiting tasks in the order that the
