@@ -76,7 +76,7 @@ module _ (c : Setup) where
       subst (λ k. OrderedIn (by_number k) (booted c)) none
       (running_line (by_number (0 + length c.tasks)) (all_started numbered at_first 1 c.tasks) (processors_to c.processors) (started_line at_first 0 c.tasks (omega (arith, none, few)) first_line))
 
-  stands_next : (s : Standing) (m : State) (e : Event) (es : List Event) → Ready c s.waits m (e ∷ es) → Stands c s m → Stands c (standing_after c (step numbered m e).1 s) (step numbered m e).0
+  pub stands_next : (s : Standing) (m : State) (e : Event) (es : List Event) → Ready c s.waits m (e ∷ es) → Stands c s m → Stands c (standing_after c (step numbered m e).1 s) (step numbered m e).0
   stands_next s m e es ready h =
       let next = ready_next c s.waits m e es ready in
       let same : length (step numbered m e).0.tasks ≡ length m.tasks = next.tasks ∙ sym ready.tasks in

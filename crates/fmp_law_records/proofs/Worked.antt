@@ -22,7 +22,7 @@ use Rattle.fmp_setup.specs.Setup.{Setup, of_tasks}
 use Rattle.fmp_rules.specs.declared.machine.Wait.TheVariants as wait
 use Rattle.fmp_rules.specs.World.{item, task, processor}
 use Rattle.fmp_rules.specs.Arrivals.{State, numbered}
-use Rattle.fmp_rules.specs.TaskCalls.{mact, ext_tsk, chg_pri, dly_tsk, sus_tsk, rsm_tsk}
+use Rattle.fmp_rules.specs.TaskCalls.{act, mact, ext_tsk, chg_pri, dly_tsk, sus_tsk, rsm_tsk}
 use Rattle.fmp_rules.specs.Tasks.{finish}
 use Rattle.fmp_rules.specs.Processors.{opened}
 use Rattle.std.specs.Prelude.{unwrap_or, option_map}
@@ -42,6 +42,7 @@ use Rattle.fmp_law_records.specs.Flags.{locked_by, disabled_by}
 use Rattle.fmp_law_records.specs.Due.{handlers_by, handlers_at_boot}
 use Rattle.fmp_law_records.specs.Requests.{told_processor, SignalsFit}
 use Rattle.fmp_law_records.specs.Served.{Places, places_by, places_at_boot, began_before, is_served_before, ServesInOrder}
+use Rattle.fmp_law_records.specs.Tops.{changes_top, RequestsAreDue}
 use Rattle.fmp_law_records.specs.Standing.{Standing, told_standing, ready_told, AreReadyTold}
 use Rattle.fmp_law_waits.specs.Asked.{OpenWait}
 
@@ -276,3 +277,35 @@ second_behind = refl
 wrong_top_refused : AreReadyTold lining_up (stand rotating) (booted lining_up) (as_proc 1) → ⊥
 unfolding numbered before_event settled unchanged rotation
 wrong_top_refused h = let e : 1 ≡ 2 = ap (λ o. unwrap_or (option_map (λ t. t.number) o) 0) h.top in omega (arith, e)
+
+-- The task of processor 1 activates one of processor 2 that is more urgent than what runs there, and so sends it a request.
+
+abbrev pub urgent : Setup
+urgent = of_tasks 2 (a_task (sole 1) 10 true ∷ a_task (sole 2) 10 true ∷ a_task (sole 2) 5 false ∷ [])
+
+abbrev pub activation : Record
+activation = (step numbered (booted urgent) (asks 1 (tasks.ActTsk (pos 3)))).1
+
+request_sent : map (λ p. p.number) activation.requests ≡ 2 ∷ []
+unfolding numbered before_event settled unchanged act
+request_sent = refl
+
+top_changes : changes_top urgent (told_standing urgent []) activation (as_proc 2) ≡ true
+unfolding numbered before_event settled unchanged act
+top_changes = refl
+
+-- a record without the request is refused
+lost_request_refused : RequestsAreDue urgent (told_standing urgent []) (record activation { requests = [] }) → ⊥
+unfolding numbered before_event settled unchanged act
+lost_request_refused h = false≢true (h.sent (as_proc 2) (omega arith))
+
+abbrev pub lining_up_apart : Setup
+lining_up_apart = of_tasks 2 (a_task (sole 1) 10 true ∷ a_task (sole 2) 10 true ∷ a_task (sole 2) 10 false ∷ [])
+
+-- so is one in which the task of processor 1 activates one that is no more urgent, and sends a request
+abbrev pub needless : Record
+needless = (step numbered (booted lining_up_apart) (asks 1 (tasks.ActTsk (pos 3)))).1
+
+needless_request_refused : RequestsAreDue lining_up_apart (told_standing lining_up_apart []) (record needless { requests = as_proc 2 ∷ [] }) → ⊥
+unfolding numbered before_event settled unchanged act
+needless_request_refused h = false≢true (sym (h.sent (as_proc 2) (omega arith)))

@@ -11,3 +11,4 @@ pub mod Lives  -- What records say of the life of a task: whether it is active, 
 pub mod Accepting  -- Which calls on a task are due, by what the records before them say of this task.
 pub mod Line  -- The order in which tasks were put last, and which calls on a task put it last.
 pub mod Standing  -- Which tasks are ready on each processor and in which order, told by records alone, and so who is the top.
+pub mod Tops  -- To which processors a record sends a request, and who begins to run, by the tops that the records tell.

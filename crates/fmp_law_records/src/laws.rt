@@ -21,6 +21,7 @@ ghost use Rattle.fmp_law_records.specs.Handlers.{IsAlarmTold, IsCyclicTold};
 ghost use Rattle.fmp_law_records.specs.Due.{handlers_by, handlers_at_boot, AreDueTold, RunsFirst};
 ghost use Rattle.fmp_law_records.specs.Requests.{told_processor, IsRequestTold, SignalsFit};
 ghost use Rattle.fmp_law_records.specs.Standing.{told_standing, AreReadyTold};
+ghost use Rattle.fmp_law_records.specs.Tops.{RequestsAreDue};
 ghost use Rattle.fmp_law_records.specs.Served.{places_by, places_at_boot, ServesInOrder};
 
 /// At every prefix of every list of events on the processors of a valid configuration, a task is suspended just where the records
@@ -137,6 +138,14 @@ pub fn requests_are_told()
 pub fn ready_order_is_told()
     ensures { (c : Setup) (events : List Event) → IsValid c → AreOn c.processors events → (n : ℕ) (p : Proc)
         → AreReadyTold c (told_standing c (take n (answers numbered (booted c) events))) (replay numbered (booted c) (take n events)) p }
+{}
+
+/// After every list of events on the processors of a valid configuration, each event sends a request to just those processors, but its
+/// own, whose top changes by what its record says. A task begins to run on the processor of the event, or nothing is to run there from
+/// then on, only if that is what the records tell to be its top.
+pub fn requests_are_due()
+    ensures { (c : Setup) (events : List Event) → IsValid c → AreOn c.processors events → (event : Event) → (processor_of event).number ≤ c.processors
+        → RequestsAreDue c (told_standing c (answers numbered (booted c) events)) (step numbered (replay numbered (booted c) events) event).1 }
 {}
 
 /// After every list of events on the processors of a valid configuration, each event serves the waiting tasks in the order that the
