@@ -27,13 +27,14 @@ as_file() {
 }
 
 # play WORD..: runs the program in so many KiB of memory and seconds of processor time, if $memory and $seconds say how many, with
-# its output into the file $to and its input from the file $from. In little memory there is room for nothing beside the program;
-# else it is ended after ten minutes, so that one that waits for ever does not stop the test.
+# its output into the file $to and its input from the file $from. In little memory there is room for nothing beside the program, not even
+# for a shell that is still to make it, so prlimit does; else it is ended after ten minutes, so that one that waits for ever does not stop
+# the test.
 play() {
     local patience=(timeout --foreground 600)
     (
         [ -z "${seconds-}" ] || ulimit -t "$seconds"
-        [ -z "${memory-}" ] || { patience=() && ulimit -v "$memory"; }
+        [ -z "${memory-}" ] || patience=(prlimit --as=$((memory * 1024)))
         exec "${patience[@]}" "$program" "$@"
     ) < "${from:-/dev/null}" > "${to:-output}" 2> errors
 }
