@@ -34,8 +34,22 @@ colours() {
     at_terminal coloured.txt calls machine.cfg events.txt
     NO_COLOR='' at_terminal coloured.txt calls machine.cfg events.txt
     NO_COLOR=1 at_terminal trace.txt calls machine.cfg events.txt
+    NO_COLOR=$'\xff' at_terminal trace.txt calls machine.cfg events.txt
     NO_COLOR=1 at_terminal coloured.txt calls --color=always machine.cfg events.txt
     at_terminal trace.txt calls --color=never machine.cfg events.txt
+    lives_by_output
+}
+
+# What is told of some things is coloured by where it is written, and not by where faults are told.
+lives_by_output() {
+    local well=no
+    terminal "$program" calls --of T1 machine.cfg events.txt > output && grep -qF "${cyan}run=T1$off" output && well=yes
+    count "$well" calls --of T1 '# at a terminal'
+    well=no
+    # standard error is a terminal, and standard output goes into a file
+    terminal bash -c '"$@" 2>&1 > plain' bash "$program" calls --of T1 machine.cfg events.txt > told \
+        && [ ! -s told ] && grep -qF 'run=T1' plain && ! grep -qF $'\e' plain && well=yes
+    count "$well" calls --of T1 '# where standard error is a terminal'
 }
 
 # at_terminal OUTPUT WORD..: at a terminal the program on these words writes what this file has.

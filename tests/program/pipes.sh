@@ -16,6 +16,7 @@ pipes() {
     count "$ended" calls "$late/machine.cfg" - '|' head -n 1
     unread_output list
     unread_output calls --help
+    unread_output smp "$spin/machine.cfg" "$spin/scripts.txt" --ticks 1 --turns 100 --seed 11
     unread_output calls --color=always "$late/machine.cfg" "$late/events.txt"
     # Lines are held back, so that 64 KiB of them are one write. This pipe keeps apart what was written apart, and what was not in
     # pieces of 4 KiB: of 120 KiB there are some thirty, and would be 5000 if each line were written by itself.

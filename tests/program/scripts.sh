@@ -61,6 +61,16 @@ waiting() {
             run 6 "$(as_file echo "${trace[0]}")" "$(as_file head -n 1 waits.txt)" "${words[@]}" --turns 1 $seed
         }
     done
+    # each of twenty is told
+    printf 'PROCESSORS(1);\nDEF_CLASS(C, 1, {1});\nCLASS(C) {\n' > twenty.cfg
+    printf 'CRE_TSK(T%d, {TA_ACT, 0, sleeper, 1, 4096, NULL});\n' {1..20} >> twenty.cfg
+    echo '}' >> twenty.cfg
+    printf 'script sleeper\nslp_tsk()\nend\n' > twenty.txt
+    for seed in {1..19}; do
+        echo "$seed P1 T$seed slp_tsk() wait run=T$((seed + 1))"
+    done > twenty.trace
+    echo '20 P1 T20 slp_tsk() wait run=idle' >> twenty.trace
+    run 0 twenty.trace "$(as_file printf 'fmpsim: T%d waits slp\n' {1..20})" smp twenty.cfg twenty.txt --ticks 0 --turns 100 --seed 0
     # nobody waits where all came to the ends of their scripts
     run 0 "$(as_file printf '%s\n' '1 P1 T3 get_tid() E_OK:1' '2 P1 T3 ext_tsk() gone run=idle')" /dev/null smp one.cfg one.txt --ticks 0 --turns 9 --strict
     # what cannot be written is told alone

@@ -21,6 +21,7 @@ searches() {
     unwritten explore "$folder/machine.cfg" "$folder/scripts.txt" --ticks 0 --turns 100 --find 'end & waits sem'
     begins_behind
     leaves_traces
+    takes_each_word
     tells_how_far
     # no room for a table of a hundred million places
     memory=400000 run 4 /dev/null "$(as_file echo fmpsim: want of memory)" \
@@ -156,6 +157,19 @@ strays() {
     run 1 /dev/null "$(as_file echo "fmpsim: stray.txt: line $1: no order of these scripts has it here")" "${words[@]}" "${@:2}" --from stray.txt
 }
 
+# Each word of a trace and of a state may stand in a question.
+takes_each_word() {
+    local word
+    for word in tick ipi wait spin gone idle held taken none rel lost run ready due locked disabled latch suspended waits slp dly sem flg sdtq rdtq \
+        mpf left stopped pri act wup count pattern values free end TSK_SELF TWF_ANDW TWF_ORW; do
+        play explore "$spin/machine.cfg" "$spin/scripts.txt" --ticks 0 --turns 2 --find "$word"
+        case $? in
+            0 | 5 | 6) [ ! -s errors ] && count yes explore --find "$word" || count no explore --find "$word" ;;
+            *) count no explore --find "$word" ;;
+        esac
+    done
+}
+
 # tells_how_far: at a terminal a search of more than a second tells how far it has come, and takes that away before its answer. A signal ends
 # it with nothing written.
 tells_how_far() {
@@ -163,7 +177,9 @@ tells_how_far() {
     words=(explore "$folder/machine.cfg" "$folder/scripts.txt" --ticks 1 --turns 100 --find E_PAR --places 200000)
     if type script > /dev/null 2>&1; then
         script -qec "$(printf '%q ' "$program" "${words[@]}")" /dev/null < /dev/null > output
-        grep -qaE $'[0-9]+ places, line [0-9]+, [0-9]+ s\r\033\\[K(never|not within [0-9]+)\r$' output && well=yes
+        # of more places than there are lines in an order
+        grep -qaE $'[0-9]+ places, line [0-9]+, [0-9]+ s\r\033\\[K(never|not within [0-9]+)\r$' output \
+            && grep -aoE '[0-9]+ places, line [0-9]+' output | awk '$1 + 0 <= $4 + 0 { wrong = 1 } END { exit wrong }' && well=yes
         count "$well" "${words[@]}" '# at a terminal'
     else
         left_out 'there is no command script' "${words[@]}"
