@@ -11,6 +11,7 @@ little_memory() {
     # what the system's loader has no room for ends with 127 or by a signal
     until { memory=$least play --help; } 2> /dev/null || [ $? = 4 ]; do
         least=$((least + 25))
+        ((least < 100000)) || { count no --help '# in no room does it start' && return; }
     done
     mapfile -t rooms < "$({ seq "$least" 25 $((least + 1000)) && echo 100000; } | as_file)"
     echo yes > verdict.txt
