@@ -21,7 +21,7 @@ fish = $(share)/fish/vendor_completions.d/fmpsim.fish
 # What stands below share/fmpsim as it stands here, so that the links from page to page and to the examples hold there too. Each tool is also
 # a command, fmpsim-from-toppers and so on.
 own = $(share)/fmpsim
-tools = from-toppers from-log from-trace
+tools = from-toppers from-log from-trace run-list
 pages = GUIDE.md FORMATS.md PROFILE.md DECISIONS.md view.png wave.png
 files = LICENSE $(tools:%=tools/%) tools/c_numbers.py $(pages:%=docs/%) $(shell find tools/toppers-stub docs/formats examples -type f)
 

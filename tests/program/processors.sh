@@ -294,6 +294,8 @@ limits() {
     count "$well" wave limits.cfg limits.told '# read by waves.py'
     turns_at_limits --turns "$3" --seed 18446744073709551615
     turns_at_limits --turns 20000
+    others_at_limits
+    searches_at_limits
 }
 
 # states_at_limits N: the trace with states has a line for each processor at boot and behind each event, and where all handlers are
@@ -324,4 +326,47 @@ turns_at_limits() {
         sed -E 's/^[0-9]+ (P[0-9]) [^ ]+ ([a-z_]+\([^)]*\)|[a-z_]+) .*/\1 \2/' trace.txt > events.txt &&
         ends 900 0 calls limits.cfg events.txt && cmp output trace.txt && well=yes
     count "$well" "${words[@]}"
+}
+
+# All other commands of a trace or of events. A configuration is listed with a line for each thing: of statements that stand alone three, 32
+# classes, 64 tasks, 32 of each of seven kinds of objects, and 128 functions.
+others_at_limits() {
+    local well=no words all
+    run 0 "$(as_file echo yes)" /dev/null check --partial limits.cfg limits.told
+    within 900 view limits.cfg limits.told && [ "$(tail -n 1 output)" = '</html>' ] && [ ! -s errors ] && well=yes
+    count "$well" view limits.cfg limits.told
+    well=no
+    within 900 view --differences limits.cfg wrong.txt
+    [ $? = 5 ] && [ "$(tail -n 1 output)" = '</html>' ] && [ ! -s errors ] && well=yes
+    count "$well" view --differences limits.cfg wrong.txt
+    well=no
+    within 900 list limits.cfg && [ "$(wc -l < output)" = 451 ] && [ "$(grep -c '^class ' output)" = 32 ] && [ ! -s errors ] && well=yes
+    count "$well" list limits.cfg
+    # the life of everything that has one: all of it at boot, and then the trace's lines that change some of it
+    all=$(sed -nE 's/^ *CRE_[A-Z]{3}\(([A-Za-z0-9_]+),.*/\1/p' limits.cfg | paste -sd,)
+    well=no
+    within 900 calls --of "$all" limits.cfg limits.events && [ "$(sed '/^1 /,$d' output | wc -l)" = 288 ] && [ ! -s errors ] \
+        && ! grep -vE '^( .*)?$' output | grep -E '^[0-9]' | grep -vxFf limits.told && well=yes
+    count "$well" calls --of all limits.cfg limits.events
+    # of all events one alone asks for a priority out of range
+    run 0 "$(as_file grep 'chg_pri(.*, 33)' limits.events)" /dev/null shrink limits.cfg limits.events --find 'chg_pri(*) E_PAR'
+}
+
+# Searches by the scripts, and the last seeds there are. The first call of the first task polls the second semaphore, and each call names
+# an object that is there.
+searches_at_limits() {
+    local words=(limits.cfg limits.txt --ticks 1) last=18446744073709551615 seed name task
+    named T 1
+    task=$name
+    named S 2
+    echo "1 P1 $task pol_sem($name) E_OK" > first.txt
+    run 6 "$(as_file echo not within 1)" /dev/null explore "${words[@]}" --turns 1 --find E_ID
+    run 5 first.txt /dev/null explore "${words[@]}" --turns 1 --find "$task pol_sem($name) E_OK"
+    run 6 "$(as_file echo not within 2)" /dev/null explore "${words[@]}" --turns 2 --find E_ID --from first.txt
+    run 0 /dev/null /dev/null smp "${words[@]}" --turns 2000 --seeds 18446744073709551614..$last --find E_ID
+    for seed in 18446744073709551614 $last; do
+        play smp "${words[@]}" --turns 2000 --seed "$seed"
+        mv output seed.trace && mv errors seed.waits
+        run 5 seed.trace "$({ echo "fmpsim: seed $seed" && cat seed.waits; } | as_file)" smp "${words[@]}" --turns 2000 --seeds "$seed..$last" --find E_OK
+    done
 }
