@@ -18,6 +18,7 @@ diagnostics() {
     run 1 /dev/null "$(as_file echo name.txt:2:9: error: E3 unknown name)" explore again.cfg name.txt --ticks 0 --turns 1 --find end --diagnostics=gcc
     traces_and_questions
     configurations
+    differences_and_waits
     run 3 /dev/null "$(as_file printf 'fmpsim: read failed\n  missing: No such file or directory (os error 2)\n')" --diagnostics=gcc calls missing events.txt
     run 2 /dev/null "$(as_file echo 'fmpsim: --diagnostics: wanted plain or gcc, as in --diagnostics=gcc')" calls --diagnostics=json "$machine" events.txt
     run 2 /dev/null "$(as_file echo 'fmpsim: --diagnostics: wanted plain or gcc, as in --diagnostics=gcc')" calls --diagnostics gcc "$machine" events.txt
@@ -33,6 +34,34 @@ traces_and_questions() {
     run 1 /dev/null "$(as_file echo word.txt:2:9: error: E2 bad word)" wave "$machine" word.txt --diagnostics=gcc
     run 1 /dev/null "$(as_file echo word.txt:2:1: error: E2 bad word)" check --partial "$machine" word.txt --diagnostics=gcc
     run 1 /dev/null "$(as_file echo '--find:1:10: error: E2 bad word')" shrink "$machine" "$late/events.txt" --find 'tick then' --diagnostics=gcc
+}
+
+# The first line of a trace that is not the machine's, and the script of each task that waits at the end.
+differences_and_waits() {
+    local machine=$late/machine.cfg dead=$top/examples/explore-lock-order words heads told
+    sed '5s/E_OK/E_ID/; 7s/E_OK/E_ID/' "$late/trace.txt" > other.txt
+    told=$(as_file echo "other.txt:5: error: this line is not the machine's")
+    run 5 "$(as_file echo no 5)" "$told" check --diagnostics=gcc "$machine" other.txt
+    run 5 "$(as_file echo no 5)" /dev/null check "$machine" other.txt
+    run 5 "$(as_file echo no 5)" "$told" check --partial --diagnostics=gcc "$machine" other.txt
+    run 5 /dev/null "$told" wave --diagnostics=gcc "$machine" other.txt
+    run 5 /dev/null "$told" view --diagnostics=gcc "$machine" other.txt
+    run 5 /dev/null "$(as_file echo 'fmpsim: other.txt: no 5: see fmpsim check --show')" view --diagnostics=plain "$machine" other.txt
+    run 0 "$(as_file echo yes)" /dev/null check --diagnostics=gcc "$machine" "$late/trace.txt"
+    # each of the two takes one of two semaphores, and waits for the other
+    cp "$dead/scripts.txt" dead.txt
+    words=(smp "$dead/machine.cfg" dead.txt --ticks 0 --turns 100 --diagnostics=gcc)
+    heads=$(grep -nE 'script (reader|writer)$' dead.txt | cut -d: -f1 | paste -sd' ')
+    play smp "$dead/machine.cfg" dead.txt --ticks 0 --turns 100 --seeds 0..99 --strict
+    cp output dead.trace && head -n 1 errors > dead.seed
+    # shellcheck disable=SC2086
+    printf 'dead.txt:%d: error: READER waits sem BUFFER\ndead.txt:%d: error: WRITER waits sem FLASH\n' $heads > dead.errors
+    run 7 dead.trace "$(as_file cat dead.seed dead.errors)" "${words[@]}" --seeds 0..99
+    local seed
+    read -r _ _ seed < dead.seed
+    run 7 dead.trace dead.errors "${words[@]}" --seed "$seed" --strict
+    run 0 dead.trace "$(as_file sed 's/error/warning/' dead.errors)" "${words[@]}" --seed "$seed"
+    from=dead.txt run 0 dead.trace "$(as_file sed 's/dead.txt:[0-9]*: error/-: warning/' dead.errors)" "${words[@]/dead.txt/-}" --seed "$seed"
 }
 
 # The place of the token at fault, or of what is missing before it; the line alone where there is no token; and no line at all.

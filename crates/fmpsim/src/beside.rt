@@ -35,7 +35,7 @@ enum Found {
 }
 
 /// A file, read up to a limit. There is none where it cannot be read, or is longer.
-fn whole<R: Files + AllocGlobal>(rt: &R, path: &str, limit: usize) -> Option<Vec<u8>> {
+pub fn whole<R: Files + AllocGlobal>(rt: &R, path: &str, limit: usize) -> Option<Vec<u8>> {
     let file = fs::open(rt, path).ok()?;
     let text = read_up_to(rt.alloc(), &mut ReadSource::new(file), limit).ok()?;
     if text.len() <= limit {
@@ -68,9 +68,9 @@ fn text_fault(alloc: Global, form: TextForm, text: &[u8], config: &Config) -> Op
     }
 }
 
-/// Whether the other text came from standard input, which a trace never does.
-fn is_input(paths: &Paths<'_>, form: TextForm) -> bool {
-    paths.text == STANDARD_INPUT && matches!(form, TextForm::Events | TextForm::Scripts)
+/// Whether the other text came from standard input.
+fn is_input(paths: &Paths<'_>) -> bool {
+    paths.text == STANDARD_INPUT
 }
 
 /// The fault of the other text, where it can be read once more and has that still.
@@ -81,7 +81,7 @@ fn text_again<R: Files + AllocGlobal>(
     config: &[u8],
     fault: TextFault,
 ) -> Option<Found> {
-    if fault.kind == TextKind::Memory || fault.line == 0 || is_input(paths, form) {
+    if fault.kind == TextKind::Memory || fault.line == 0 || is_input(paths) {
         return None;
     }
     let config = read_config(rt.alloc(), config).ok()?;
@@ -153,7 +153,7 @@ fn beside(alloc: Global, form: TextForm, config: &[u8], found: &Found) -> Option
 fn advice(alloc: Global, paths: &Paths<'_>, form: TextForm, fault: &RunFault) -> Option<Vec<u8>> {
     match fault {
         RunFault::Text(fault) if fault.kind == TextKind::Memory => None,
-        RunFault::Text(fault) if fault.line == 0 || is_input(paths, form) => {
+        RunFault::Text(fault) if fault.line == 0 || is_input(paths) => {
             text_advice(alloc, fault.kind).ok()
         }
         _ => None,
@@ -174,8 +174,11 @@ pub fn tell_path<R: Eprint>(rt: &R, path: &str, error: &io::Error) {
     let _ = eprintln!(rt; "  {path}: {error}");
 }
 
-/// Tells why a file cannot be read, if it cannot.
+/// Tells why a file cannot be read, if it cannot. Standard input is none.
 pub fn tell_cause<R: Files + Eprint>(rt: &R, path: &str) {
+    if path == STANDARD_INPUT {
+        return;
+    }
     if let Some(error) = cause(rt, path) {
         tell_path(rt, path, &error);
     }
@@ -223,7 +226,7 @@ pub fn tell<R: Files + Eprint + AllocGlobal>(
     fault: &RunFault,
 ) {
     let found = tell_line(rt, paths, telling, config, fault);
-    if matches!(fault, RunFault::Read) && paths.text != STANDARD_INPUT {
+    if matches!(fault, RunFault::Read) {
         tell_cause(rt, paths.text);
     }
     if paths.context.is_none() {

@@ -1,5 +1,5 @@
 //! The lines that tell faults, in this program's own form or in that of compilers.
-use fmp_cli::Paths;
+use fmp_cli::{Asked, Paths};
 use fmp_cli_diagnostics::{Diagnostic, LineForm, Spot};
 use fmp_cli_hints::question_kind;
 use fmp_run_events::{FaultLine, RunFault};
@@ -38,6 +38,20 @@ pub fn tell_placed<R: Eprint>(rt: &R, paths: &Paths<'_>, fault: &RunFault, spot:
         word,
     };
     let _ = eprintln!(rt; "{line}");
+}
+
+/// Reports the first line of a trace that is not the machine's. Where a verdict is asked for standard output has it, so that only the form of
+/// compilers says it once more. Of a page with its differences each is written.
+pub fn tell_differs<R: Eprint>(rt: &R, form: LineForm, path: &str, asked: Asked, line: u32) {
+    let _ = match (form, asked) {
+        (LineForm::Gcc, _) => {
+            eprintln!(rt; "{path}:{line}: error: this line is not the machine's")
+        }
+        (_, Asked::Waveform | Asked::Page) => {
+            eprintln!(rt; "fmpsim: {path}: no {line}: see fmpsim check --show")
+        }
+        _ => return,
+    };
 }
 
 /// Tells the line of a trace that no order has there.

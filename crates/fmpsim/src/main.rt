@@ -1,4 +1,4 @@
-//! fmpsim: reads a configuration and another text from files, or that text from standard input. Writes the trace of the
+//! fmpsim: reads a configuration and another text from files, or one of them from standard input. Writes the trace of the
 //! machine's answers to events or of processors that follow scripts, or what every order of these shows, or whether and where
 //! a trace is what the machine answers, or the waveform of a trace, or a page that shows it. From a configuration alone it
 //! writes the save file by which a viewer shows all of a waveform.
@@ -12,6 +12,7 @@ mod output;
 mod progress;
 mod scripts;
 mod texts;
+mod waiting;
 mod words;
 
 use beside::Telling;
@@ -38,7 +39,7 @@ use std::process::ExitCode;
 use std::rt::{Clock, Env, Files};
 use std::sync::Wait;
 use std::thread::Threads;
-use texts::{both_opened, both_taken, config_alone, trace_read};
+use texts::{STANDARD_INPUT, both_opened, config_alone, trace_read};
 use words::{settle_context, words_of};
 
 /// The paths where no text is at fault.
@@ -80,7 +81,7 @@ fn calls<R: Files + Input + Print + AllocGlobal>(
     told: Told,
     coloured: bool,
 ) -> Result<Status, Ending> {
-    let (config, events) = both_taken(rt, paths)?;
+    let (config, events) = both_opened(rt, paths)?;
     let run = answered(rt, config.as_slice(), events, told, coloured);
     kept(run, config)
 }
@@ -120,7 +121,7 @@ fn life<R: Files + Input + Print + AllocGlobal>(
     names: &str,
     coloured: bool,
 ) -> Result<Status, Ending> {
-    let (config, events) = both_taken(rt, paths)?;
+    let (config, events) = both_opened(rt, paths)?;
     let run = followed(rt, config.as_slice(), events, names, coloured);
     kept(run, config)
 }
@@ -143,7 +144,7 @@ fn lived<R: Files + Eprint + AllocGlobal>(
 }
 
 /// Writes what is asked of a trace, and judges it.
-fn judged<R: Files + Print + AllocGlobal>(
+fn judged<R: Files + Input + Print + AllocGlobal>(
     rt: &R,
     paths: &Paths<'_>,
     asked: Asked,
@@ -162,23 +163,25 @@ fn judged<R: Files + Print + AllocGlobal>(
     kept(settled(run, sink.is_closed()), config)
 }
 
-/// Writes what is asked of a trace. Of one that is not the machine's there is no waveform, and a page only with its differences: else
-/// that is told.
-fn trace<R: Files + Print + Eprint + AllocGlobal>(
+/// Writes what is asked of a trace, and reports the first line that is not the machine's where nothing that is written does.
+fn trace<R: Files + Input + Print + Eprint + AllocGlobal>(
     rt: &R,
     paths: &Paths<'_>,
     asked: Asked,
+    line: LineForm,
 ) -> Result<Status, Ending> {
     let verdict = judged(rt, paths, asked)?;
-    if let (Asked::Waveform | Asked::Page, Verdict::No(line)) = (asked, verdict) {
-        let path = paths.text;
-        let _ = eprintln!(rt; "fmpsim: {path}: no {line}: see fmpsim check --show");
+    if let Verdict::No(number) = verdict {
+        lines::tell_differs(rt, line, paths.text, asked, number);
     }
     Ok(Status::of_verdict(verdict))
 }
 
 /// Writes GTKWave's save file for a configuration.
-fn saved<R: Files + Print + AllocGlobal>(rt: &R, paths: &Paths<'_>) -> Result<Status, Ending> {
+fn saved<R: Files + Input + Print + AllocGlobal>(
+    rt: &R,
+    paths: &Paths<'_>,
+) -> Result<Status, Ending> {
     let alloc = rt.alloc();
     let config = config_alone(rt, paths)?;
     let mut sink = WriteSink::new(alloc, io::writer(rt))?;
@@ -198,7 +201,7 @@ fn explore<R: Files + Input + Print + Eprint + Clock + AllocGlobal>(
     if let Some(folder) = request.layer {
         layer::folder_made(rt, folder)?;
     }
-    let (config, scripts) = both_taken(rt, paths)?;
+    let (config, scripts) = both_opened(rt, paths)?;
     let mut scripts = ReadSource::new(scripts);
     let mut output = WriteSink::new(alloc, io::writer(rt))?;
     let run = search(
@@ -225,7 +228,10 @@ fn explore_from<R: Files + Input + Print + Eprint + Clock + AllocGlobal>(
     line: &mut ProgressLine<'_, R>,
 ) -> Result<Status, Ending> {
     let alloc = rt.alloc();
-    let (config, scripts) = both_taken(rt, paths)?;
+    if begun == STANDARD_INPUT && (paths.config == begun || paths.text == begun) {
+        return Err(Ending::OneInput);
+    }
+    let (config, scripts) = both_opened(rt, paths)?;
     let begun = trace_read(rt, begun)?;
     let mut scripts = ReadSource::new(scripts);
     let mut output = WriteSink::new(alloc, io::writer(rt))?;
@@ -308,7 +314,7 @@ fn shortened<R: Files + Input + Print + AllocGlobal>(
     request: &ShrinkRequest<'_>,
 ) -> Result<Status, Ending> {
     let alloc = rt.alloc();
-    let (config, events) = both_taken(rt, paths)?;
+    let (config, events) = both_opened(rt, paths)?;
     let mut events = ReadSource::new(events);
     let mut output = WriteSink::new(alloc, io::writer(rt))?;
     let run = shrink(
@@ -369,7 +375,10 @@ fn list<R: Print + Eprint + AllocGlobal>(rt: &R, name: Option<&str>) -> Result<S
 }
 
 /// Writes what was read of a configuration.
-fn configured<R: Files + Print + AllocGlobal>(rt: &R, paths: &Paths<'_>) -> Result<Status, Ending> {
+fn configured<R: Files + Input + Print + AllocGlobal>(
+    rt: &R,
+    paths: &Paths<'_>,
+) -> Result<Status, Ending> {
     let alloc = rt.alloc();
     let config = config_alone(rt, paths)?;
     let mut output = WriteSink::new(alloc, io::writer(rt))?;
@@ -379,7 +388,7 @@ fn configured<R: Files + Print + AllocGlobal>(rt: &R, paths: &Paths<'_>) -> Resu
 }
 
 /// How telling what was read of a configuration ends the program. A fault is told.
-fn described<R: Files + Print + Eprint + AllocGlobal>(
+fn described<R: Files + Input + Print + Eprint + AllocGlobal>(
     rt: &R,
     request: &Described<'_>,
     line: LineForm,
@@ -419,6 +428,10 @@ fn ended<R: Files + Eprint + AllocGlobal>(
         Err(Ending::Unread | Ending::NoTrace) => Status::Device,
         Err(Ending::LongTrace | Ending::Stray(_)) => Status::Faulty,
         Err(Ending::Name(_)) => Status::Usage,
+        Err(Ending::OneInput) => {
+            let _ = eprintln!(rt; "fmpsim: only one text can come from standard input");
+            Status::Usage
+        }
         Err(Ending::Unmade(error, path)) => {
             let status = failed(rt, paths, &RunFault::Write);
             beside::tell_path(rt, path.as_str(), &error);
@@ -507,7 +520,7 @@ fn scripted<R: Env + Files + Input + Print + Eprint + AllocGlobal + Threads + Wa
         line,
         text: TextForm::Scripts,
     };
-    let run = scripts::smp(rt, &paths, request, coloured);
+    let run = scripts::smp(rt, &paths, request, coloured, line);
     replied(rt, &paths, telling, request.find.unwrap_or(""), run)
 }
 
@@ -544,7 +557,7 @@ fn execute<R: Env + Files + Input + Print + Eprint + Clock + AllocGlobal + Threa
             None => uncoloured(rt),
         },
         Ok(Request::Trace(paths, asked)) => {
-            let run = trace(rt, &paths, asked);
+            let run = trace(rt, &paths, asked, line);
             let text = traced_form(asked);
             ended(rt, &paths, Telling { line, text }, run)
         }

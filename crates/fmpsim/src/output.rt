@@ -20,6 +20,8 @@ pub enum Ending {
     NoConfig(io::Error),
     /// The other text cannot be opened, for this cause.
     NoText(io::Error),
+    /// More than one text was to come from standard input.
+    OneInput,
     /// Nobody reads the output any more, as behind `head`. Nothing is told of that.
     Unread,
     /// The question has this fault, at the byte of this number from 0.

@@ -2,9 +2,12 @@
 ghost use Rattle.std.specs.Prelude.{◌-◌, ◌<◌, ◌^◌};
 
 use crate::output::{Ending, kept, settled_search};
-use crate::texts::both_taken;
+use crate::texts::both_opened;
+use crate::waiting;
+use crate::waiting::Waiting;
 use fmp_cli::Paths;
 use fmp_cli_colour::ColourSink;
+use fmp_cli_diagnostics::LineForm;
 use fmp_cli_runs::{Played, play, seek, seek_shown};
 use fmp_cli_table::{Seeds, SmpRequest};
 use fmp_run_events::{MemSource, ReadSource, Sink, Source, Status, WriteSink};
@@ -54,16 +57,25 @@ impl Outcome {
         }
     }
 
-    /// Tells it on standard error: the seed, and then the tasks.
-    fn tell<R: Eprint>(&self, rt: &R) {
+    /// Reports it on standard error: the seed, and then the tasks.
+    fn tell<R: Files + Eprint + AllocGlobal>(
+        &self,
+        rt: &R,
+        paths: &Paths<'_>,
+        form: LineForm,
+        config: &[u8],
+    ) {
         if let Some(seed) = self.seed {
             let _ = eprintln!(rt; "fmpsim: seed {seed}");
         }
-        if let Ok(waiting) = str::from_utf8(self.waiting.as_slice()) {
-            for line in waiting.lines() {
-                let _ = eprintln!(rt; "fmpsim: {line}");
-            }
-        }
+        let lines = str::from_utf8(self.waiting.as_slice()).unwrap_or("");
+        let status = self.status;
+        let waiting = Waiting {
+            lines,
+            status,
+            config,
+        };
+        waiting::tell(rt, paths, form, waiting);
     }
 }
 
@@ -156,39 +168,42 @@ fn made<R: AllocGlobal + Threads + Wait + Sync, S: Read + Drop, W: Sink>(
     Ok(Outcome::of_run(played))
 }
 
-/// Writes the trace, in colours or not, and tells the rest of it.
-fn told<R, S>(
+/// Writes the trace, in colours or not.
+fn written<R, S>(
     rt: &R,
     config: &[u8],
     scripts: S,
     request: &SmpRequest<'_>,
     coloured: bool,
-) -> Result<Status, Ending>
+) -> Result<Outcome, Ending>
 where
-    R: Print + Eprint + AllocGlobal + Threads + Wait + Sync,
+    R: Print + AllocGlobal + Threads + Wait + Sync,
     S: Read + Drop,
 {
     let mut trace = WriteSink::new(rt.alloc(), io::writer(rt))?;
-    let run = if coloured {
+    if coloured {
         let mut colours = ColourSink::new(trace);
         let run = made(rt, config, scripts, &mut colours, request);
-        settled_search(run, colours.below().is_closed())?
-    } else {
-        let run = made(rt, config, scripts, &mut trace, request);
-        settled_search(run, trace.is_closed())?
-    };
-    run.tell(rt);
-    Ok(run.status)
+        return settled_search(run, colours.below().is_closed());
+    }
+    let run = made(rt, config, scripts, &mut trace, request);
+    settled_search(run, trace.is_closed())
 }
 
-/// Reads both texts, and has processors follow the scripts.
+/// Reads both texts, and has processors follow the scripts. What is reported beside the trace has this form.
 pub fn smp<R: Files + Input + Print + Eprint + AllocGlobal + Threads + Wait + Sync>(
     rt: &R,
     paths: &Paths<'_>,
     request: &SmpRequest<'_>,
     coloured: bool,
+    form: LineForm,
 ) -> Result<Status, Ending> {
-    let (config, scripts) = both_taken(rt, paths)?;
-    let run = told(rt, config.as_slice(), scripts, request, coloured);
-    kept(run, config)
+    let (config, scripts) = both_opened(rt, paths)?;
+    match written(rt, config.as_slice(), scripts, request, coloured) {
+        Ok(run) => {
+            run.tell(rt, paths, form, config.as_slice());
+            Ok(run.status)
+        }
+        Err(ending) => kept(Err(ending), config),
+    }
 }

@@ -1,4 +1,4 @@
-//! The texts that a run reads: a configuration, and beside it another text, from a file or from standard input.
+//! The texts that a run reads: a configuration, and beside it another text. One of them may come from standard input.
 use crate::output::Ending;
 use fmp_cli::Paths;
 use fmp_config::MOST_BYTES as MOST_CONFIG_BYTES;
@@ -8,7 +8,7 @@ use std::io::{Input, Read};
 use std::rt::Files;
 use std::{fs, io};
 
-/// The path in whose place events or scripts are read from standard input.
+/// The path in whose place a text is read from standard input.
 pub const STANDARD_INPUT: &str = "-";
 
 /// A text that is read as it comes: from a file, or from standard input.
@@ -27,59 +27,61 @@ impl<F: Read, I: Read> Read for Text<F, I> {
     }
 }
 
-/// The configuration, opened to be read.
-fn config_opened<R: Files>(rt: &R, paths: &Paths<'_>) -> Result<R::File, Ending> {
-    fs::open(rt, paths.config).map_err(Ending::NoConfig)
-}
-
-/// The other text, opened to be read.
-fn text_opened<R: Files>(rt: &R, paths: &Paths<'_>) -> Result<R::File, Ending> {
-    fs::open(rt, paths.text).map_err(Ending::NoText)
+/// The text at a path, opened to be read, or standard input where the path says so.
+fn opened<R: Files + Input>(rt: &R, path: &str) -> io::Result<Text<R::File, R::Reader>> {
+    if path == STANDARD_INPUT {
+        return Ok(Text::Input(rt.reader()));
+    }
+    let file = fs::open(rt, path)?;
+    Ok(Text::File(file))
 }
 
 /// A configuration, read to its end, or beyond its greatest length. It is kept for what stands beside a fault, since a pipe cannot be
 /// read twice.
-fn config_read<R: Files + AllocGlobal>(rt: &R, file: R::File) -> Result<Vec<u8>, Ending> {
-    match read_up_to(rt.alloc(), &mut ReadSource::new(file), MOST_CONFIG_BYTES) {
+fn config_read<R: AllocGlobal, T: Read + Drop>(rt: &R, text: T) -> Result<Vec<u8>, Ending> {
+    match read_up_to(rt.alloc(), &mut ReadSource::new(text), MOST_CONFIG_BYTES) {
         Ok(text) => Ok(text),
         Err(fault) => Err(Ending::Fault(RunFault::from(fault))),
     }
 }
 
-/// The configuration, read where no other file is.
-pub fn config_alone<R: Files + AllocGlobal>(rt: &R, paths: &Paths<'_>) -> Result<Vec<u8>, Ending> {
-    config_read(rt, config_opened(rt, paths)?)
+/// The configuration, read where no other text is.
+pub fn config_alone<R: Files + Input + AllocGlobal>(
+    rt: &R,
+    paths: &Paths<'_>,
+) -> Result<Vec<u8>, Ending> {
+    match opened(rt, paths.config) {
+        Ok(text) => config_read(rt, text),
+        Err(error) => Err(Ending::NoConfig(error)),
+    }
 }
 
 /// The trace with which a search begins, read to its end, or beyond its greatest length.
-pub fn trace_read<R: Files + AllocGlobal>(rt: &R, path: &str) -> Result<Vec<u8>, Ending> {
-    let Ok(file) = fs::open(rt, path) else {
+pub fn trace_read<R: Files + Input + AllocGlobal>(rt: &R, path: &str) -> Result<Vec<u8>, Ending> {
+    let Ok(text) = opened(rt, path) else {
         return Err(Ending::NoTrace);
     };
-    match read_up_to(rt.alloc(), &mut ReadSource::new(file), MOST_BYTES) {
+    match read_up_to(rt.alloc(), &mut ReadSource::new(text), MOST_BYTES) {
         Ok(text) => Ok(text),
         Err(fault) => Err(Ending::of_trace(RunFault::from(fault))),
     }
 }
 
-/// The configuration, read, and the other text's file, opened. Both files are opened before either is read.
-pub fn both_opened<R: Files + AllocGlobal>(
-    rt: &R,
-    paths: &Paths<'_>,
-) -> Result<(Vec<u8>, R::File), Ending> {
-    let config = config_opened(rt, paths)?;
-    let text = text_opened(rt, paths)?;
-    Ok((config_read(rt, config)?, text))
-}
-
-/// The configuration, read, and the other text, which stands on standard input where its path says so.
-pub fn both_taken<R: Files + Input + AllocGlobal>(
+/// The configuration, read, and the other text, opened. Both are opened before either is read.
+pub fn both_opened<R: Files + Input + AllocGlobal>(
     rt: &R,
     paths: &Paths<'_>,
 ) -> Result<(Vec<u8>, Text<R::File, R::Reader>), Ending> {
-    if paths.text == STANDARD_INPUT {
-        return Ok((config_alone(rt, paths)?, Text::Input(rt.reader())));
+    if paths.config == STANDARD_INPUT && paths.text == STANDARD_INPUT {
+        return Err(Ending::OneInput);
     }
-    let (config, text) = both_opened(rt, paths)?;
-    Ok((config, Text::File(text)))
+    let config = match opened(rt, paths.config) {
+        Ok(config) => config,
+        Err(error) => return Err(Ending::NoConfig(error)),
+    };
+    let text = match opened(rt, paths.text) {
+        Ok(text) => text,
+        Err(error) => return Err(Ending::NoText(error)),
+    };
+    Ok((config_read(rt, config)?, text))
 }
