@@ -1,6 +1,6 @@
-//! What stands before the data of a page: its style, and the frame into which is drawn.
+//! Made by `tools/page-texts` of `page/head.html`: a change is made there.
 
-/// The page up to its data. It has no quotation mark, no backslash and no byte beyond ASCII, so that it stands here as it is.
+/// What stands before the texts of a page: its style, and the frame into which is drawn.
 pub const HEAD: &[u8] = b"<!doctype html>
 <html lang='en'>
 <head>

@@ -4,17 +4,26 @@
 //! [`put_text_begin`] and [`put_text_end`], and is escaped ([`put_escaped`]), so that it may hold any bytes: [`escapes`] says that
 //! nothing in it begins a tag, and that what a browser reads of it is the text.
 //!
-//! What the script draws is not proved: it is tested in a browser.
+//! The template is not written here: `tools/page-texts` makes it of the files in `page`. What the script draws is not proved: it is
+//! tested in a browser.
 #![tactic(auto)]
 
+mod causes;
 mod controls;
 mod drawing;
 mod escape;
 mod head;
+mod lanes;
+mod lines;
 mod parts;
+mod reading;
 
+pub use causes::CAUSES;
 pub use controls::CONTROLS;
 pub use drawing::DRAWING;
 pub use escape::{escapes, put_escaped};
 pub use head::HEAD;
+pub use lanes::LANES;
+pub use lines::LINES;
 pub use parts::{put_head, put_tail, put_text_begin, put_text_end};
+pub use reading::READING;
