@@ -32,6 +32,25 @@ function runsAt(t, n) {
   const s = signals.get('s' + t), i = last(s.n, n);
   return s.v[i] === 'y' && s.v[i + 1] === 'r' ? s.n[i + 1] : 0;
 }
+// Where in its values a task's wait begins that holds at place i of them: whether it is suspended, too, may have changed since.
+function waitBegin(s, i) {
+  const waitIn = j => s.v[j].slice(1).replace(/ @.*/, '');
+  while (i > 0 && waitIn(i - 1) === waitIn(i)) i--;
+  return i;
+}
+const isWait = v => v[0] === 'w' || v[0] === 'x';
+// The line at which the wait of a task begins that ends at line n, if one does; and the one at which the wait ends that begins at line n.
+function waitedSince(t, n) {
+  const s = signals.get('s' + t), i = changedAt('s' + t, n);
+  return i > 0 && isWait(s.v[i - 1]) && !isWait(s.v[i]) ? s.n[waitBegin(s, i - 1)] : 0;
+}
+function waitsUntil(t, n) {
+  const s = signals.get('s' + t);
+  let i = changedAt('s' + t, n);
+  if (i < 0 || !isWait(s.v[i])) return 0;
+  while (i < s.n.length && isWait(s.v[i])) i++;
+  return s.n[i] || 0;
+}
 // What led to line n: [line, words, processor].
 function causes(n) {
   const p = lineP(n), found = [], t = running(p, n);
@@ -41,12 +60,19 @@ function causes(n) {
     const s = signals.get('s' + t), i = last(s.n, n - 1), since = s.n[i];
     if (since > 0 && s.v[i] === 'y') found.push([since, s.v[i - 1] === 'r' ? taskName(t) + ' gave way, and is ready since' : 'made ' + taskName(t) + ' ready', lineP(since)]);
   }
+  // Time runs out at a tick: what led to it is the call that began to wait.
+  for (const x of lineKind(n) === 1 ? effects(n).tasks : []) {
+    const since = waitedSince(x.t, n);
+    if (since) found.push([since, 'begins the wait of ' + taskName(x.t) + ', whose time runs out here: ' + waitWords(x.t, since, WAITS), lineP(since)]);
+  }
   return found;
 }
 // What came of line n: [line, words, processor].
 function results(n) {
   const e = effects(n), found = [];
   for (const p of e.procs) { const m = takenAt(p, n); if (m) found.push([m, 'P' + p + ' takes the request', p]); }
+  const caller = lineClass(n) === 2 && running(lineP(n), n - 1), end = caller ? waitsUntil(caller, n) : 0;
+  if (end) found.push([end, lineKind(end) === 1 ? 'the time runs out for which ' + taskName(caller) + ' waits' : 'ends the wait of ' + taskName(caller), lineP(end)]);
   for (const x of e.tasks) { const m = runsAt(x.t, n); if (m) found.push([m, taskName(x.t) + ' runs', lineP(m)]); }
   return found;
 }

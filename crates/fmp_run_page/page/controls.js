@@ -16,7 +16,7 @@ function listen() {
     if (drag && (drag.far || Math.abs(e.clientX - drag.x) > 4)) { drag.far = true; c.classList.add('drag'); view.a = drag.a - (e.clientX - drag.x) / view.k; clamp(); return draw(); }
     const n = lineAt(e); hover(Math.max(0, n)); tip(e, n);
   };
-  c.onpointerup = e => { const n = lineAt(e); if (drag && !drag.far && n >= 0) select(n, false); drag = null; c.classList.remove('drag'); count(); };
+  c.onpointerup = e => { const n = lineAt(e); if (drag && !drag.far && n >= 0) (e.shiftKey ? measureTo : select)(n, false); drag = null; c.classList.remove('drag'); count(); };
   c.onpointerleave = () => { hover(0); $('tip').hidden = true; };
   c.ondblclick = e => zoom(3, e.clientX - c.getBoundingClientRect().left - LABEL);
   $('scroll').addEventListener('wheel', e => {
@@ -29,7 +29,7 @@ function listen() {
   over.onpointermove = e => { if (e.buttons) jump(e); };
   const list = $('list'), rowAt = e => { const r = e.target.closest('.row'); return r ? +r.dataset.n : 0; };
   list.onscroll = fill;
-  list.onclick = e => { if (rowAt(e)) { select(rowAt(e)); count(); } };
+  list.onclick = e => { if (rowAt(e)) { (e.shiftKey ? measureTo : select)(rowAt(e)); count(); } };
   list.onpointermove = e => hover(rowAt(e));
   list.onpointerleave = () => hover(0);
   $('split').onpointerdown = e => $('split').setPointerCapture(e.pointerId);
@@ -49,15 +49,18 @@ const ACTIONS = {
   arrows: () => { view.arrows = !view.arrows; $('arrows').setAttribute('aria-pressed', view.arrows); draw(); },
   theme: () => theme(document.documentElement.dataset.theme === 'dark' ? 'light' : 'dark'),
   save: () => { const a = el('a'); a.href = URL.createObjectURL(new Blob([text], { type: 'text/plain' })); a.download = 'trace.txt'; a.click(); URL.revokeObjectURL(a.href); },
+  measure, unmeasure, unhide,
+  sums: () => { $('shares').open ? $('shares').close() : sharesTable(); },
   help: () => { $('legend').open ? $('legend').close() : legend(); },
 };
 const sight = () => { const x = X(view.sel); return x >= 0 && x <= view.width ? x : view.width / 2; };
 function keys(e) {
-  if (e.target.id === 'query' || e.ctrlKey || e.metaKey || e.altKey || $('legend').open && e.key !== '?') return;
+  if (e.target.id === 'query' || e.ctrlKey || e.metaKey || e.altKey || $('legend').open && e.key !== '?' || $('shares').open && e.key !== 'p') return;
   const by = e.shiftKey ? 10 : 1, page = Math.max(1, Math.floor($('list').clientHeight / ROW) - 1), step = d => { const s = shown(); select(s && s.length ? s[Math.max(0, Math.min(s.length - 1, last(s, view.sel) + d))] : view.sel + d); count(); };
   const act = { ArrowRight: () => step(by), ArrowDown: () => step(by), ArrowLeft: () => step(-by), ArrowUp: () => step(-by), PageDown: () => step(page), PageUp: () => step(-page),
     Home: () => select(0), End: () => select(N), '+': ACTIONS.in, '=': ACTIONS.in, '-': ACTIONS.out, 0: fit, n: ACTIONS.next, N: ACTIONS.prev, x: ACTIONS.after, X: ACTIONS.before, '/': () => { $('query').focus(); $('query').select(); },
-    w: () => zoom(1.3, sight()), s: () => zoom(1 / 1.3, sight()), a: ACTIONS.arrows, d: () => pan(view.width / 4), q: () => pan(-view.width / 4), t: ACTIONS.theme, '?': ACTIONS.help, '[': () => nextChange(-1), ']': () => nextChange(1) }[e.key];
+    w: () => zoom(1.3, sight()), s: () => zoom(1 / 1.3, sight()), a: ACTIONS.arrows, d: () => pan(view.width / 4), q: () => pan(-view.width / 4), t: ACTIONS.theme, '?': ACTIONS.help, '[': () => nextChange(-1), ']': () => nextChange(1),
+    m: measure, M: unmeasure, p: ACTIONS.sums, h: () => { if (view.lane) hideLanes([view.lane]); }, H: unhide, o: hideStill, j: () => stepLane(1), k: () => stepLane(-1) }[e.key];
   if (act && !(e.target.tagName === 'BUTTON' && e.key === ' ')) { e.preventDefault(); act(); }
 }
 function theme(name) { document.documentElement.dataset.theme = name; readColors(); layLanes(); draw(); try { localStorage.setItem('fmpsim-theme', name); } catch (e) { /* no storage here */ } }
@@ -80,7 +83,9 @@ function printing(on) {
 // ---- the legend
 
 function legend() {
-  const d = $('legend'), keysOf = [['Left Right Up Down', 'the line before, the next line; with Shift ten lines'], ['Home End PageUp PageDown', 'through the trace'], ['/ Enter n N', 'search, next and previous line found'], ['x X', 'next and previous line that differs from the one that was given'], ['[ ]', 'previous and next change of the lane that is clicked'], ['+ - 0', 'zoom in, zoom out, the whole trace (also Ctrl and the wheel)'], ['q d', 'to the left, to the right (also by dragging, or Shift and the wheel)'], ['a t ?', 'arrows, light or dark, this page'], ['Ctrl P', 'prints what is in view, with its lines']];
+  const d = $('legend'), keysOf = [['Left Right Up Down', 'the line before, the next line; with Shift ten lines'], ['Home End PageUp PageDown', 'through the trace'], ['/ Enter n N', 'search, next and previous line found'], ['x X', 'next and previous line that differs from the one that was given'], ['[ ]', 'previous and next change of the lane that is chosen'], ['j k', 'chooses the next and the previous lane (also a click on its name)'],
+    ['h H o', 'hides the chosen lane, shows all again, hides those in which nothing changes in what is in view or between the measured lines'],
+    ['m M', 'measures from the selected line, and again: to it; ends that (also Shift and a click: to that line)'], ['p', 'shares of the lines, longest waits and longest ready times'], ['+ - 0', 'zoom in, zoom out, the whole trace (also Ctrl and the wheel)'], ['q d', 'to the left, to the right (also by dragging, or Shift and the wheel)'], ['a t ?', 'arrows, light or dark, this page'], ['Ctrl P', 'prints what is in view, with its lines']];
   const marks = [['running on a processor', 's', 'r'], ['ready', 's', 'y'], ['waiting, and for what, with the ticks left', 's', 'w'], ['suspended', 's', 's'], ['waiting and suspended', 's', 'x'], ['dormant', 's', '-']];
   const close = el('button', '', 'Close'); close.onclick = () => d.close(); close.style.float = 'right';
   const table = el('table'), row = (...cells) => { const r = el('tr'); for (const x of cells) { const t = el('td'); t.append(x); r.append(t); } return r; };

@@ -7,11 +7,12 @@ function paint() {
   if (view.fresh) { view.fresh = false; labels(); detail(); }
   const begin = performance.now(), top = view.top + $('scroll').scrollTop;
   const first = Math.max(0, Math.floor(view.a)), final = Math.min(N, Math.ceil(view.a + span())), c = sized($('lanes'), view.full, view.height);
-  const key = [view.a, view.k, view.full, view.height, top, total, colors.bg, view.lane, view.arrows, view.hits && $('query').value, ...folded].join();
+  const key = [view.a, view.k, view.full, view.height, top, total, colors.bg, view.lane, view.arrows, view.hits && $('query').value, ...folded, '/', ...hidden].join();
   if (key !== laneKey) { laneKey = key; paintLanes(top, first, final); }
   c.drawImage(kept, 0, 0, view.full, view.height);
   c.save(); c.beginPath(); c.rect(LABEL, 0, view.width, view.height); c.clip(); c.translate(LABEL, -top);
   for (const [n, color] of [[view.hover, colors.hover], [view.sel, colors.sel]]) if (n || n === view.sel) { c.fillStyle = color; c.fillRect(X(n), top, Math.max(2, view.k), view.height); }
+  paintMeasured(c, top);
   paintLinks(c);
   c.restore();
   paintRuler(first, final); drawOver();
@@ -97,7 +98,7 @@ function words(c, s, x, w, y, color) {
   const size = c.measureText(s).width;
   if (size <= room) return c.fillText(s, left, y);
   const fitting = Math.floor(s.length * room / size) - 1;
-  if (fitting >= 2) c.fillText(s.slice(0, fitting) + '..', left, y);
+  if (fitting >= 3) c.fillText(s.slice(0, fitting) + '..', left, y);
 }
 function hatch(c, x, y, w, h, color) {
   c.save(); c.beginPath(); c.rect(x, y, w, h); c.clip(); c.strokeStyle = color; c.lineWidth = 1.2; c.beginPath();
@@ -118,11 +119,19 @@ function paintProc(c, lane, first, final) {
     for (const n of ticksIn(p, first, final, view.width / 6)) c.fillRect(X(n), y + 9, 1, 7);
     return;
   }
+  // where a handler is due, its bar lies over the name of the task
+  const due = [];
+  pieces('h' + p, first, final, (v, x, w) => { if (v !== '-') due.push([x, x + w]); });
   c.font = '600 11' + FONT;
   pieces('r' + p, first, final, (v, x, w) => {
-    if (v === '0') { c.fillStyle = colors.line; c.fillRect(x, y + 38, w, 1); c.font = '11' + FONT; words(c, w > 34 ? 'idle' : '', x, w, y + 33, colors.mute); c.font = '600 11' + FONT; return; }
+    const [from, to] = freeOf(due, x, x + w);
+    if (v === '0') {
+      c.fillStyle = colors.line; c.fillRect(x, y + 38, w, 1);
+      c.font = '11' + FONT; words(c, w > 34 ? 'idle' : '', from, to - from, y + 33, colors.mute); c.font = '600 11' + FONT;
+      return;
+    }
     c.fillStyle = hue(+v); c.fillRect(x + .5, y + 19, Math.max(1, w - 1), 20);
-    words(c, taskName(+v), x, w, y + 33, '#fff');
+    words(c, taskName(+v), from, to - from, y + 33, '#fff');
   });
   pieces('h' + p, first, final, (v, x, w) => {
     if (v === '-') return;
@@ -141,6 +150,16 @@ function paintProc(c, lane, first, final) {
   });
   paintEvents(c, p, y, first, final);
 }
+// The widest part of what is in view of [x, end) that none of these pieces covers.
+function freeOf(covered, x, end) {
+  let best = [x, x], from = Math.max(x, 0);
+  for (const [a, b] of [...covered, [end, end]]) {
+    if (b <= from || a > end) continue;
+    if (a - from > best[1] - best[0]) best = [from, a];
+    from = Math.min(b, end);
+  }
+  return best;
+}
 // A mark for each event of a processor, with its text where there is room.
 function paintEvents(c, p, y, first, final) {
   const list = eventsOf(p);
@@ -155,7 +174,8 @@ function paintEvents(c, p, y, first, final) {
     else c.arc(x, y + 11, Math.min(3, view.k / 2 + .6), 0, 7);
     c.closePath();
     if (lineClass(n) === 3) { c.lineWidth = 1; c.stroke(); } else c.fill();
-    if (room > 34 && view.k > 12) { const [, , , , event, answer] = parts(n); words(c, event.replace('()', '') + (lineClass(n) === 1 || lineClass(n) === 3 ? ' ' + answer : ''), x + 3, room - 3, y + 15, color); }
+    // the text ends well before the next mark
+    if (room > 34 && view.k > 12) { const [, , , , event, answer] = parts(n); words(c, event.replace('()', '') + (lineClass(n) === 1 || lineClass(n) === 3 ? ' ' + answer : ''), x + 3, room - 11, y + 15, color); }
   }
 }
 // The colour of who runs on a processor at the end of [a, b), or else at its beginning.
@@ -184,18 +204,21 @@ function paintObject(c, lane, first, final) {
   c.font = '10.5' + FONT;
   const tall = v => Math.max(0, o.kind === 'flg' ? (+v ? h : 0) : o.limit && 'SDM'.includes(o.id[0]) ? h * Math.min(1, v / o.limit) : parseInt(v) ? h * .6 : 0);
   const told = v => o.kind === 'flg' ? '0x' + (+v).toString(16) : 'CAX'.includes(o.id[0]) ? (parseInt(v) ? 'P' + parseInt(v) : '') : v;
+  // from where to where the values are told, so that no other text lies over them
+  const texts = [];
   let old = -9;
   pieces(o.id, first, final, (v, x, w) => {
     if (dense() && x + w - old < 1) return;
     old = x + w; c.fillStyle = colors.rel + '40'; c.fillRect(x, y + h - tall(v), Math.max(1, w), tall(v));
     c.fillStyle = colors.rel; c.fillRect(x, y + h - tall(v) - 1, Math.max(1, w), 1.5);
-    if (!dense()) words(c, told(v), x, w, y + h - 3, colors.fg);
+    if (!dense()) { words(c, told(v), x, w, y + h - 3, colors.fg); texts.push([x, Math.max(x, 0) + 4 + c.measureText(told(v)).width]); }
   });
   old = -9;
   pieces('w' + o.id, first, final, (v, x, w) => {
     if (v === '0' || (dense() && x + w - old < 1)) return;
     old = x + w; c.fillStyle = colors.wait; c.fillRect(x, y, Math.max(1, w), Math.min(h, 3 * v));
-    if (!dense() && w > 74) { c.fillStyle = colors.wait; c.fillText(v + ' waiting', Math.max(x, 0) + 26, y + h - 3); }
+    const [from, to] = dense() ? [0, 0] : freeOf(texts, x, x + w), s = v + ' waiting';
+    if (c.measureText(s).width < to - from - 8) words(c, s, from, to - from, y + h - 3, colors.wait);
   });
 }
 function head(c, x, y, dx, dy, color) {
@@ -227,32 +250,62 @@ function paintLinks(c) {
   for (const [n, , p] of causes(view.sel)) link(n, view.sel, p, lineP(view.sel), colors.run);
   for (const [m, , q] of results(view.sel)) link(view.sel, m, lineP(view.sel), q, colors.run);
 }
+// A row of labels of which none lies over another: each is drawn where there is still room for it, up to a limit.
+function labelRow(c, y) {
+  const drawn = [];
+  return (x, s, color, limit = view.width) => {
+    const end = x + c.measureText(s).width;
+    if (x < 0 || end > limit || drawn.some(([a, b]) => x < b + 7 && end > a - 7)) return;
+    drawn.push([x, end]);
+    c.fillStyle = color; c.fillText(s, x, y);
+  };
+}
+// The least of 1, 2, 5, 10, 20 .. that is at least so much.
+function roundStep(least) {
+  let ten = 1;
+  while (10 * ten < least) ten *= 10;
+  return [1, 2, 5, 10].map(x => x * ten).find(x => x >= least);
+}
+// The clocks that have an axis: those of the processors that are shown, as far as they took ticks.
+const axes = () => clocks().filter(p => taken[p].length && (model.master || !hidden.has('r' + p)));
+const rulerHeight = () => 20 + 14 * Math.max(1, axes().length);
 function paintRuler(first, final) {
-  const c = sized($('ruler'), view.full, 34);
-  c.fillStyle = colors.panel; c.fillRect(0, 0, view.full, 34);
-  c.font = '11' + FONT; c.fillStyle = colors.mute; c.fillText('line of the trace', 8, 13); c.fillText('ticks taken', 8, 28);
-  c.save(); c.beginPath(); c.rect(LABEL, 0, view.width, 34); c.clip(); c.translate(LABEL, 0);
-  let step = 1;
-  for (let i = 0; step * view.k < 62; i++) step *= i % 3 === 1 ? 2.5 : 2;
-  step = view.k >= 26 ? 1 : Math.max(1, Math.round(step));
-  for (let n = Math.ceil(view.a / step) * step; n <= final; n += step) {
-    const x = X(n);
-    c.fillStyle = colors.mute; c.fillRect(x, 0, 1, 5);
-    c.fillStyle = n === view.sel ? colors.run : colors.fg; c.fillText(n === 0 ? 'boot' : grouped(n), x + 3, 13);
-  }
-  c.fillStyle = colors.mute;
-  const all = taken.map(list => last(list, final) - last(list, first - 1)), many = all.reduce((x, y) => x + y, 0), crowded = many > view.width / 6;
-  for (let p = 1; p <= model.processors; p++) for (const n of crowded ? [] : ticksIn(p, first, final, Infinity)) {
-    const x = X(n);
-    c.beginPath(); c.moveTo(x - 3, 19); c.lineTo(x + 3, 19); c.lineTo(x, 25); c.fill();
-    if (view.k >= 14) c.fillText((model.master || model.processors === 1 ? '' : 'P' + p + ':') + (last(taken[p], n) + 1), x + 5, 28);
-  }
-  if (crowded) c.fillText(grouped(many) + ' in view', 6, 28);
+  const shownClocks = axes(), height = rulerHeight(), c = sized($('ruler'), view.full, height);
+  c.fillStyle = colors.panel; c.fillRect(0, 0, view.full, height);
+  c.font = '11' + FONT; c.fillStyle = colors.mute; c.fillText('line of the trace', 8, 13);
+  if (!shownClocks.length) c.fillText('no ticks', 8, 28);
+  shownClocks.forEach((p, i) => c.fillText(model.master ? 'ticks of P' + p + ', for all' : model.processors > 1 ? 'ticks of P' + p : 'ticks', 8, 28 + 14 * i));
+  c.save(); c.beginPath(); c.rect(LABEL, 0, view.width, height); c.clip(); c.translate(LABEL, 0);
+  paintLineAxis(c, final);
+  shownClocks.forEach((p, i) => paintTickAxis(c, p, 18 + 14 * i, first, final));
   c.fillStyle = colors.off;
   const i = last(differs, first - 1) + 1, end = last(differs, final) + 1;
   if (end - i <= view.width / 12) for (const n of differs.slice(i, end)) c.fillRect(X(n) - 2, 0, 6, 6);
-  c.fillStyle = colors.run; c.fillRect(X(view.sel), 0, 2, 34);
+  const range = measured();
+  if (range) { c.fillStyle = colors.run; c.fillRect(X(range[0]), 16, Math.max(2, X(range[1]) - X(range[0])), 3); }
+  c.fillStyle = colors.run; c.fillRect(X(view.sel), 0, 2, height);
   c.restore();
+}
+// The numbers of the lines: the selected one's, and as many round ones as there is room for.
+function paintLineAxis(c, final) {
+  const label = labelRow(c, 13), step = roundStep((c.measureText(grouped(final)).width + 12) / view.k), told = n => n === 0 ? 'boot' : grouped(n);
+  label(X(view.sel) + 3, told(view.sel), colors.run);
+  for (let n = Math.ceil(view.a / step) * step; n <= final; n += step) {
+    c.fillStyle = colors.mute; c.fillRect(X(n), 0, 1, 5);
+    if (n !== view.sel) label(X(n) + 3, told(n), colors.fg);
+  }
+}
+// The ticks of a processor: a mark where each was taken, and the numbers of as many round ones as there is room for.
+function paintTickAxis(c, p, y, first, final) {
+  const list = taken[p], begin = last(list, first - 1) + 1, end = last(list, final) + 1, wide = c.measureText(grouped(end)).width + 18;
+  const label = labelRow(c, y + 10), step = roundStep((end - begin) * wide / Math.min(view.width, X(N + 1) - X(first))), each = end - begin <= view.width / 6 ? 1 : step;
+  c.fillStyle = colors.line; c.fillRect(0, y + 13, view.width, 1);
+  for (let k = Math.ceil((begin + 1) / each) * each; k <= end; k += each) {
+    const x = X(list[k - 1]);
+    c.fillStyle = colors.mute; c.beginPath(); c.moveTo(x - 3, y + 3); c.lineTo(x + 3, y + 3); c.lineTo(x, y + 9); c.fill();
+    // up to the next mark
+    if (k % step === 0) label(x + 5, grouped(k), colors.fg, k + each <= end ? X(list[k + each - 1]) - 4 : view.width);
+  }
 }
 let overKey = '', overKept = null;
 function drawOver() {

@@ -75,7 +75,7 @@ function select(n, move = true) {
   view.sel = Math.max(0, Math.min(N, n));
   if (move && (X(view.sel) < 0 || X(view.sel + 1) > view.width)) { view.a = view.sel - span() / 2; clamp(); }
   if (view.sel) showRow(view.sel);
-  countDiffers();
+  countDiffers(); tellMeasured();
   view.fresh = true; draw();
   try { history.replaceState(null, '', '#' + view.sel); } catch (e) { /* a page that may not change its address */ }
 }
@@ -86,10 +86,10 @@ function detail() {
   const para = (s, name) => nodes.push(el('p', name || '', s));
   if (!n) { nodes.push(el('h2', '', 'At boot')); para('The state before the first line. Arrow keys go on.', 'mute'); }
   else {
-    const [, , p, who, event, answer] = parts(n), code = answer.split(':')[0];
+    const [, , p, who, event, answer] = parts(n), code = answer.split(':')[0], means = MEANS[code] || (TAKEN[code] || '')[lineKind(n)];
     nodes.push(el('h2', '', line(n)));
     if (given.has(n)) { const e = el('p', 'off', NOT + ' given: '); nodes.push(givenWords(e, n)); say.push('Differs. Given: ' + given.get(n)); }
-    para((who === '-' ? 'On P' + p + ' nobody runs' : 'On P' + p + ' by ' + who) + '; ' + answer + (MEANS[code] ? ': ' + MEANS[code] : ''), 'mute');
+    para((who === '-' ? 'On P' + p + ' nobody runs' : 'On P' + p + ' by ' + who) + '; ' + answer + (means ? ': ' + means : ''), 'mute');
     say.push('Line ' + n + ', P' + p + ', ' + event + ', ' + answer);
     const changed = [];
     for (const lane of every) {

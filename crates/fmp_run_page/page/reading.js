@@ -9,7 +9,9 @@ const WAITS = { slp: 'asleep', dly: 'delayed', sem: 'waits for semaphore', flg: 
 const SHORT = { slp: 'asleep', dly: 'delay', sem: 'sem', flg: 'flag', sdtq: 'send', rdtq: 'receive', mpf: 'pool' };
 const OF = { sem: 'S', flg: 'F', sdtq: 'D', rdtq: 'D', mpf: 'M' };
 const STATES = { '-': 'dormant', r: 'running', y: 'ready', w: 'waiting', s: 'suspended', x: 'waiting, suspended' };
-const MEANS = { E_OK: 'done', E_TMOUT: 'the time ran out', E_CTX: 'not allowed in this context', E_ID: 'no such object', E_PAR: 'an argument out of range', E_OBJ: 'not in this state of the object', E_QOVR: 'a count is at its limit', E_ILUSE: 'not used so', E_RLWAI: 'released by force', wait: 'the caller waits', spin: 'the lock is taken: tries again', gone: 'the caller ended', idle: 'nobody is there to make the call', held: 'held back, to be given again', taken: 'taken', none: 'nothing was pending' };
+const MEANS = { E_OK: 'done', E_TMOUT: 'the time ran out', E_CTX: 'not allowed in this context', E_ID: 'no such object', E_PAR: 'an argument out of range', E_OBJ: 'not in this state of the object', E_QOVR: 'a count is at its limit', E_ILUSE: 'not used so', E_RLWAI: 'released by force', wait: 'the caller waits', spin: 'the lock is taken: tries again', gone: 'the caller ended', idle: 'nobody is there to make the call', held: 'held back, to be given again' };
+// What `taken` and `none` mean of a tick and of an inter-processor interrupt.
+const TAKEN = { taken: ['', 'the tick counts', 'takes the pending request'], none: ['', 'counts for nothing: not a tick of the global timer', 'nothing was pending'] };
 
 // ---- the data
 
@@ -179,6 +181,8 @@ function last(list, x) {
 const value = (id, n) => { const s = signals.get(id); return s ? s.v[Math.max(0, last(s.n, n))] : '-'; };
 const changedAt = (id, n) => { const s = signals.get(id), i = s ? last(s.n, n) : -1; return i >= 0 && s.n[i] === n ? i : -1; };
 const ticksOf = (p, n) => last(taken[model.master || p], n) + 1;
+// The processors whose ticks count.
+const clocks = () => model.master ? [model.master] : Array.from({ length: model.processors }, (_, i) => i + 1);
 const taskName = t => t > 0 ? model.tasks[t - 1].name : 'idle';
 const objectName = id => { const o = model.objects.find(x => x.id === id); return o ? o.name : id; };
 const running = (p, n) => +value('r' + p, n);

@@ -6,6 +6,7 @@ use Rattle.fmp_run_page.specs.declared.drawing.TheConstants.{DRAWING}
 use Rattle.fmp_run_page.specs.declared.head.TheConstants.{HEAD}
 use Rattle.fmp_run_page.specs.declared.lanes.TheConstants.{LANES}
 use Rattle.fmp_run_page.specs.declared.lines.TheConstants.{LINES}
+use Rattle.fmp_run_page.specs.declared.measures.TheConstants.{MEASURES}
 use Rattle.fmp_run_page.specs.declared.reading.TheConstants.{READING}
 use Rattle.fmp_run_page.specs.Escapes.{escaped}
 
@@ -20,7 +21,7 @@ unfoldable pub picture : List ℕ
 picture = READING.now ++ CAUSES.now ++ LANES.now ++ DRAWING.now
 
 unfoldable pub answers : List ℕ
-answers = LINES.now ++ CONTROLS.now
+answers = LINES.now ++ MEASURES.now ++ CONTROLS.now
 
 unfoldable pub script_end : List ℕ
 script_end = codes "</script>\n</body>\n</html>\n"

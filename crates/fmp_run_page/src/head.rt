@@ -23,19 +23,19 @@ button { cursor: pointer; } button:hover { background: var(--panel); }
 :focus-visible { outline: 2px solid var(--run); outline-offset: 1px; } #list:focus-visible, #lanes:focus-visible { outline: 1px solid var(--run); outline-offset: -1px; }
 header { display: flex; gap: 5px; align-items: center; padding: 6px 10px; background: var(--panel); border-bottom: 1px solid var(--line); flex-wrap: wrap; }
 header b { font-size: 14px; } header .sum { color: var(--mute); margin-right: auto; padding-left: 4px; }
-#differing { display: flex; gap: 5px; align-items: center; } #differing[hidden] { display: none; } #differing .off { font-weight: 600; font-variant-numeric: tabular-nums; }
+#differing, #measuring { display: flex; gap: 5px; align-items: center; } #differing[hidden], #measuring[hidden] { display: none; } #measured { color: var(--run); font-weight: 600; font-variant-numeric: tabular-nums; } #differing .off { font-weight: 600; font-variant-numeric: tabular-nums; }
 #query { width: 175px; } #count { color: var(--mute); font-variant-numeric: tabular-nums; } header label { color: var(--mute); }
 #over { display: block; width: 100%; height: 42px; border-bottom: 1px solid var(--line); cursor: pointer; touch-action: none; }
 main { flex: 1; display: flex; min-height: 0; }
 #left { flex: 1; min-width: 0; display: flex; flex-direction: column; }
-#ruler { display: block; width: 100%; height: 34px; border-bottom: 1px solid var(--line); }
+#ruler { display: block; width: 100%; flex: none; height: 34px; border-bottom: 1px solid var(--line); }
 #scroll { flex: 1; overflow-x: hidden; overflow-y: auto; position: relative; }
 #lanes { display: block; position: sticky; top: 0; touch-action: pan-y; cursor: crosshair; } #lanes.drag { cursor: grabbing; }
 #labels { position: absolute; left: 0; top: 0; width: 200px; background: var(--bg); border-right: 1px solid var(--line); }
 .lane { position: absolute; left: 0; width: 199px; padding: 0 8px; display: flex; gap: 6px; align-items: center; white-space: nowrap; border-bottom: 1px solid var(--grid); cursor: pointer; }
 .lane span { overflow: hidden; text-overflow: ellipsis; } .lane .now { margin-left: auto; color: var(--mute); font-size: 11px; }
 .lane .name { flex: none; max-width: 110px; font-weight: 600; } .lane i { flex: none; width: 9px; height: 9px; border-radius: 2px; }
-.lane.on { background: var(--sel); }
+.lane.on { background: var(--sel); } .lane .hide { flex: none; display: none; border: 0; background: none; color: var(--mute); padding: 0 2px; line-height: 1; } .lane:hover .hide, .lane.on .hide { display: block; }
 .group { position: absolute; left: 0; width: 199px; border: 0; border-radius: 0; padding: 0 8px; text-align: left; font-size: 11px; font-weight: 600; color: var(--mute); background: var(--panel); text-transform: uppercase; letter-spacing: .04em; }
 #split { flex: none; width: 5px; cursor: col-resize; background: var(--panel); border: solid var(--line); border-width: 0 1px; touch-action: none; }
 aside { flex: none; width: 440px; display: flex; flex-direction: column; min-width: 200px; }
@@ -51,6 +51,9 @@ aside { flex: none; width: 440px; display: flex; flex-direction: column; min-wid
 #detail .go { border: 0; background: none; padding: 0; color: var(--run); text-decoration: underline; }
 #tip { position: fixed; pointer-events: none; z-index: 5; max-width: 340px; padding: 4px 8px; border-radius: 5px; background: var(--fg); color: var(--bg); font-size: 12px; }
 dialog { border: 1px solid var(--line); border-radius: 8px; background: var(--bg); color: var(--fg); max-width: 760px; padding: 14px 20px; }
+dialog .close { float: right; } dialog .go { border: 0; background: none; padding: 0; color: var(--run); text-decoration: underline; } #shares { max-width: 95vw; }
+.sums { border-collapse: collapse; font-variant-numeric: tabular-nums; } .sums th { text-align: left; font-weight: 600; color: var(--mute); padding: 1px 14px 1px 0; vertical-align: top; } .sums td { white-space: nowrap; }
+.sums tr:nth-child(even) { background: var(--panel); }
 dialog h2 { font-size: 14px; margin: 10px 0 4px; } dialog td { padding: 1px 14px 1px 0; vertical-align: top; } dialog canvas { vertical-align: middle; }
 kbd { font: 11px ui-monospace, 'DejaVu Sans Mono', monospace; border: 1px solid var(--line); border-radius: 3px; padding: 0 4px; background: var(--panel); }
 .unseen { position: absolute; width: 1px; height: 1px; overflow: hidden; clip-path: inset(50%); }
@@ -68,12 +71,15 @@ kbd { font: 11px ui-monospace, 'DejaVu Sans Mono', monospace; border: 1px solid 
   <b id='title'>Timeline</b><span class='sum' id='sum'>This file is cut short, or scripts are not allowed here.</span>
   <span id='differing' hidden><span id='differ' class='off' aria-live='polite'></span>
   <button id='before' title='Previous line that differs (X)' aria-label='Previous line that differs'>&uarr;</button><button id='after' title='Next line that differs (x)' aria-label='Next line that differs'>&darr;</button></span>
+  <span id='measuring' hidden><span id='measured' aria-live='polite'></span><button id='unmeasure' title='Ends the measuring (M)' aria-label='Ends the measuring'>&times;</button></span>
+  <button id='unhide' title='Shows all lanes again (H)' hidden></button>
   <input id='query' type='search' placeholder='Search: T2  E_TMOUT  ipi' aria-label='Search the lines of the trace' title='Words that stand in a line, * for any letters, - before what must not stand there (key /)'>
   <span id='count' aria-live='polite'></span>
   <button id='prev' title='Previous line found (N)' aria-label='Previous line found'>&uarr;</button><button id='next' title='Next line found (n)' aria-label='Next line found'>&darr;</button>
   <label><input type='checkbox' id='only'> only these</label>
   <button id='out' title='Zoom out (-)' aria-label='Zoom out'>&minus;</button><button id='in' title='Zoom in (+)' aria-label='Zoom in'>+</button><button id='fit' title='The whole trace (0)'>Fit</button>
   <button id='arrows' aria-pressed='true' title='Arrows from a call to what it releases, activates or requests (a)'>Arrows</button>
+  <button id='measure' aria-pressed='false' title='Measures from the selected line to another (m)'>Measure</button><button id='sums' title='Shares of the lines, longest waits and longest ready times (p)'>Shares</button>
   <button id='theme' title='Light or dark (t)'>Theme</button><button id='save' title='Save the trace that stands in this page'>Trace</button><button id='help' title='Legend and keys (?)'>?</button>
 </header>
 <canvas id='over' aria-hidden='true'></canvas>
@@ -90,5 +96,5 @@ kbd { font: 11px ui-monospace, 'DejaVu Sans Mono', monospace; border: 1px solid 
 </main>
 <pre id='printed'></pre>
 <div id='tip' hidden></div><div id='say' class='unseen' aria-live='polite'></div>
-<dialog id='legend' aria-label='Legend and keys'></dialog>
+<dialog id='legend' aria-label='Legend and keys'></dialog><dialog id='shares' aria-label='Shares and longest times'></dialog>
 ";

@@ -3,8 +3,9 @@
 /// The lanes, their labels, and what of them is in view.
 pub const LANES: &[u8] = b"// The lanes, their labels, and what of them is in view.
 
-const view = { a: 0, k: 1, sel: 0, hover: 0, width: 800, height: 400, lane: null, arrows: true, hits: null, only: false, top: 0 };
-const folded = new Set();
+const view = { a: 0, k: 1, sel: 0, hover: 0, width: 800, height: 400, lane: null, arrows: true, hits: null, only: false, top: 0, from: null, to: null };
+// The groups that are folded, and the lanes that are hidden.
+const folded = new Set(), hidden = new Set();
 let every = [], lanes = [], total = 0, colors = {}, frame = 0;
 
 function layLanes() {
@@ -12,9 +13,10 @@ function layLanes() {
   for (const [key, label] of [['proc', 'Processors'], ['task', 'Tasks'], ['obj', 'Objects']]) {
     const list = every.filter(x => x.type === key);
     if (!list.length) continue;
-    lanes.push({ type: 'group', key, label: label + ' (' + list.length + ')', y: total, h: GROUP });
+    const seen = list.filter(x => !hidden.has(x.id));
+    lanes.push({ type: 'group', key, label: label + ' (' + (seen.length < list.length ? seen.length + ' of ' : '') + list.length + ')', y: total, h: GROUP });
     total += GROUP;
-    if (!folded.has(key)) for (const x of list) { lanes.push({ ...x, y: total, h: HEIGHTS[x.type] }); total += HEIGHTS[x.type]; }
+    if (!folded.has(key)) for (const x of seen) { lanes.push({ ...x, y: total, h: HEIGHTS[x.type] }); total += HEIGHTS[x.type]; }
   }
   const box = $('labels');
   box.style.height = Math.max(total, 1) + 'px';
@@ -27,13 +29,47 @@ function layLanes() {
       e.onclick = () => { folded.has(lane.key) ? folded.delete(lane.key) : folded.add(lane.key); layLanes(); resize(); };
     } else {
       if (lane.type === 'task') { const c = el('i'); c.style.background = hue(lane.t); e.append(c); }
-      e.append(el('span', 'name', lane.name), lane.now = el('span', 'now'));
-      e.onclick = () => { view.lane = view.lane === lane.id ? null : lane.id; labels(); draw(); };
-      e.title = lane.name + ': click, then [ and ] go to the previous and the next change';
+      const hide = el('button', 'hide', String.fromCharCode(215));
+      hide.title = 'Hide ' + lane.name + ' (h)'; hide.tabIndex = -1; hide.setAttribute('aria-label', hide.title);
+      hide.onclick = press => { press.stopPropagation(); hideLanes([lane.id]); };
+      e.append(el('span', 'name', lane.name), lane.now = el('span', 'now'), hide);
+      e.onclick = () => chooseLane(view.lane === lane.id ? null : lane.id);
+      e.title = lane.name + ': click, then [ and ] go to the previous and the next change, and h hides it';
     }
     return e;
   }));
+  $('unhide').hidden = !hidden.size;
+  $('unhide').textContent = 'Show ' + hidden.size + ' hidden';
   labels();
+}
+function chooseLane(id) { view.lane = id; labels(); draw(); }
+// The next or previous lane, which comes into view.
+function stepLane(by) {
+  const list = lanes.filter(lane => lane.id), i = list.findIndex(lane => lane.id === view.lane);
+  if (!list.length) return;
+  const lane = list[i < 0 ? (by > 0 ? 0 : list.length - 1) : (i + by + list.length) % list.length], box = $('scroll');
+  chooseLane(lane.id);
+  box.scrollTop = Math.max(lane.y + lane.h - view.height, Math.min(lane.y, box.scrollTop));
+  $('say').textContent = lane.name + ': ' + laneWords(lane, view.sel);
+}
+// Hides lanes. Where the chosen one is among them, the next that is left is chosen.
+function hideLanes(ids) {
+  const list = lanes.filter(lane => lane.id), i = list.findIndex(lane => lane.id === view.lane), gone = new Set(ids);
+  for (const id of ids) hidden.add(id);
+  if (gone.has(view.lane)) { const left = [...list.slice(i + 1), ...list.slice(0, i).reverse()].find(lane => !gone.has(lane.id)); view.lane = left ? left.id : null; }
+  layLanes(); resize();
+  $('say').textContent = hidden.size + (hidden.size === 1 ? ' lane is hidden' : ' lanes are hidden');
+}
+function unhide() { hidden.clear(); layLanes(); resize(); $('say').textContent = 'All lanes are shown'; }
+// Hides the lanes in which nothing changes between the two lines that are measured, or else in what is in view.
+function hideStill() {
+  const [a, b] = measured() || [Math.max(0, Math.floor(view.a)), Math.min(N, Math.ceil(view.a + span()) - 1)];
+  const moves = id => { const s = signals.get(id); return !!s && last(s.n, b) > last(s.n, a); };
+  const called = p => last(eventsOf(p), b) > last(eventsOf(p), a);
+  const still = lane => lane.type === 'proc' ? !called(lane.p) && !['r', 'l', 'h'].some(letter => moves(letter + lane.p)) : !moves(lane.id) && !moves('w' + lane.id);
+  countWaiters();
+  const ids = lanes.filter(lane => lane.id && still(lane)).map(lane => lane.id);
+  if (ids.length) hideLanes(ids);
 }
 function laneWords(lane, n) { return lane.type === 'proc' ? procWords(lane.p, n) : lane.type === 'task' ? taskWords(lane.t, n) : objectWords(lane.o, n); }
 function shortWords(lane, n) {
@@ -62,12 +98,16 @@ function sized(canvas, width, height) {
   return c;
 }
 function resize(width) {
-  const paper = document.body.classList.contains('print'), box = $('scroll'), full = width || box.clientWidth;
+  const paper = document.body.classList.contains('print'), box = $('scroll');
+  // what the ruler needs is gone before the rest is measured
+  $('ruler').style.height = rulerHeight() + 'px';
+  const full = width || box.clientWidth;
   box.style.height = paper ? Math.min(total, PAPER) + 'px' : '';
   const whole = Math.abs(view.k * (N + 1) - view.width) < 2;
   view.full = full; view.width = Math.max(50, full - LABEL);
   if (whole) view.k = view.width / (N + 1);
   view.height = paper ? Math.min(total, PAPER) : box.clientHeight;
+  $('ruler').style.width = full + 'px';
   Object.assign($('lanes').style, { width: full + 'px', height: view.height + 'px' });
   $('labels').style.height = Math.max(total, 1) + 'px';
   clamp(); draw(); drawOver(); fill();

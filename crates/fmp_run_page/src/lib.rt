@@ -15,6 +15,7 @@ mod escape;
 mod head;
 mod lanes;
 mod lines;
+mod measures;
 mod parts;
 mod reading;
 
@@ -25,5 +26,6 @@ pub use escape::{escapes, put_escaped};
 pub use head::HEAD;
 pub use lanes::LANES;
 pub use lines::LINES;
+pub use measures::MEASURES;
 pub use parts::{put_head, put_tail, put_text_begin, put_text_end};
 pub use reading::READING;

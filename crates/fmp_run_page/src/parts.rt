@@ -8,6 +8,7 @@ use crate::drawing::DRAWING;
 use crate::head::HEAD;
 use crate::lanes::LANES;
 use crate::lines::LINES;
+use crate::measures::MEASURES;
 use crate::reading::READING;
 use std::alloc::AllocError;
 
@@ -44,6 +45,7 @@ fn put_answers(out: &mut Vec<u8>) -> Result<(), AllocError>
     ensures { OnOk result (out.new.items ≡ out.old.items ++ spec.answers) }
 {
     out.extend_from_slice(LINES)?;
+    out.extend_from_slice(MEASURES)?;
     out.extend_from_slice(CONTROLS)
 }
 
