@@ -28,12 +28,23 @@ searches() {
         explore "$folder/machine.cfg" "$folder/scripts.txt" --ticks 0 --turns 100 --find E_PAR --places 100000000
 }
 
-# asks FOLDER: each question of the folder is answered as its line says.
+# asks FOLDER: each question of the folder is answered as its line says: those of questions.txt about scripts.txt, and those of NAME-questions.txt
+# about NAME.txt.
 asks() {
+    local file scripts
+    for file in "$1"/*questions.txt; do
+        scripts=${file%questions.txt}
+        [ "$(basename "$file")" = questions.txt ] && scripts=$1/scripts.txt || scripts=${scripts%-}.txt
+        asks_of "$1" "$scripts" "$file"
+    done
+}
+
+# asks_of FOLDER SCRIPTS QUESTIONS
+asks_of() {
     local right options words well
     while IFS=$'\t' read -r right options; do
         eval "options=($options)"
-        words=(explore "$1/machine.cfg" "$1/scripts.txt" "${options[@]}")
+        words=(explore "$1/machine.cfg" "$2" "${options[@]}")
         case $right in
             never) run 0 "$(as_file echo never)" /dev/null "${words[@]}" ;;
             not\ within\ *) run 6 "$(as_file echo "$right")" /dev/null "${words[@]}" ;;
@@ -46,7 +57,7 @@ asks() {
                 ;;
             *) count no "${words[@]}" "# $right" ;;
         esac
-    done < "$1/questions.txt"
+    done < "$3"
 }
 
 # judged CFG: the checker says yes to what was written last.

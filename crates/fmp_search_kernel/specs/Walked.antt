@@ -5,6 +5,7 @@ use Rattle.fmp_setup.specs.Setup.{Setup, has_time}
 use Rattle.fmp_codes.specs.declared.records.Record.{Record}
 use Rattle.fmp_rules.specs.World.{World, processor, runner_of}
 use Rattle.fmp_kernel_order.specs.Queues.{Queues}
+use Rattle.fmp_text_scripts.specs.Ways.{most_steps}
 use Rattle.fmp_search_orders.specs.declared.rules.Rules.{Rules}
 use Rattle.fmp_search_orders.specs.Orders.{is_left}
 use Rattle.fmp_search_orders.specs.Places.{Place, origin}
@@ -30,9 +31,9 @@ is_out c rules taken p = not (has_time c.timer p && is_left rules.ticks (count_i
 abbrev pub is_idle_on : World Queues → Proc → Bool
 is_idle_on w p = is_none (runner_of w p) && not (processor w p).latch
 
--- each of the first numbers has room for so many more
+-- each of the first numbers has room for so many more, and for a jump
 abbrev pub AreBounded : ℕ → List ℕ → ℕ → Type 0
-AreBounded n ns left = (i : ℕ) → i < n → slice_index ns i + left ≤ 2 ^ 31
+AreBounded n ns left = (i : ℕ) → i < n → slice_index ns i + left ≤ 2 ^ 31 + most_steps
 
 pub record IsRoomy (tasks handlers taken : List ℕ) (seen left : ℕ) : Type 0 where
   pub tasks_bounded : AreBounded 64 tasks left

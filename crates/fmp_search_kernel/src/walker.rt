@@ -207,8 +207,8 @@ impl<'a> Walker<'a> {
         ensures left { self.new.left + 1 ≡ self.old.left }
     {
         self.kernel.step_into(event, &mut self.made);
-        advance_task(&mut self.tasks, &self.made);
-        advance_handler(&mut self.handlers, &self.made);
+        advance_task(self.config, self.scripts, &mut self.tasks, &self.made);
+        advance_handler(self.config, self.scripts, &mut self.handlers, &self.made);
         advance_taken(self.rules, &mut self.taken, &self.made);
         self.seen = counted(self.seen, marked);
         self.left -= 1;

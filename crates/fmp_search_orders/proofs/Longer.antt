@@ -30,10 +30,10 @@ use Rattle.fmp_law_lists.specs.Stands.{Stands, StepsMatch}
 use Rattle.fmp_law_lists.proofs.Steps.{lists_refine}
 use Rattle.fmp_smp_histories.specs.Histories.{events_of, state_after, IsRunOf}
 use Rattle.fmp_smp_histories.specs.Positions.{is_tick_of}
-use Rattle.fmp_smp_histories.specs.Places.{renewed}
-use Rattle.fmp_smp_histories.specs.Counted.{taken, is_taken_tick}
+use Rattle.fmp_smp_histories.specs.Places.{renewed, released_tasks, moved_tasks, moved_handlers}
+use Rattle.fmp_smp_histories.specs.Counted.{taken, is_taken_tick, TasksAre, HandlersAre}
 use Rattle.fmp_smp_histories.proofs.Histories.{after_more, run_more, count_after}
-use Rattle.fmp_smp_histories.proofs.Advancing.{tasks_moved, handlers_moved, called_long}
+use Rattle.fmp_smp_histories.proofs.Advancing.{tasks_moved, handlers_moved, called_long, released_long}
 use Rattle.fmp_search_question.specs.declared.question.Step.{Step}
 use Rattle.fmp_search_question.specs.Questions.{allows, seen}
 use Rattle.fmp_search_orders.specs.declared.rules.Rules.{Rules}
@@ -223,12 +223,17 @@ module _ (c : Setup) (scripts : List Steps) (rs : Rules) (question : List Step) 
     };
     marked = marked_more c rs question h did.1 marks m leads.marked allowed;
     stands = stands_more;
-    tasks_placed = tasks_moved w.tasks h did.1 leads.tasks_placed leads.sized.0;
-    handlers_placed = handlers_moved w.handlers h did.1 leads.handlers_placed leads.sized.1;
+    tasks_placed = subst (λ (x : Setup). TasksAre c scripts (moved_tasks x w.scripts w.tasks did.1) (h ++ did.1 ∷ [])) (sym leads.config_is)
+        (subst (λ (x : List Steps). TasksAre c scripts (moved_tasks c x w.tasks did.1) (h ++ did.1 ∷ [])) (sym leads.scripts_are)
+        (tasks_moved c scripts w.tasks h did.1 leads.tasks_placed leads.sized.0));
+    handlers_placed = subst (λ (x : Setup). HandlersAre c scripts (moved_handlers x w.scripts w.handlers did.1) (h ++ did.1 ∷ [])) (sym leads.config_is)
+        (subst (λ (x : List Steps). HandlersAre c scripts (moved_handlers c x w.handlers did.1) (h ++ did.1 ∷ [])) (sym leads.scripts_are)
+        (handlers_moved c scripts w.handlers h did.1 leads.handlers_placed leads.sized.1));
     taken_are = taken_more;
     seen_is = ap (λ n. cond m (n + 1) n) leads.seen_is ∙ sym (seen_more marks m);
     sized = (
-      renewed_long _ _ ∙ called_long w.tasks did.1.runner did.1.event did.1.answer ∙ leads.sized.0,
+      renewed_long _ _ ∙ called_long w.config w.scripts (released_tasks w.config w.scripts w.tasks did.1.releases) did.1.runner did.1.event did.1.answer
+          ∙ released_long w.config w.scripts w.tasks did.1.releases ∙ leads.sized.0,
       length-set w.handlers _ _ ∙ leads.sized.1,
       taken_long w.rules w.taken did.1.event did.1.answer ∙ leads.sized.2,
     );

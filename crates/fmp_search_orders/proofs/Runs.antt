@@ -90,19 +90,19 @@ module _ (c : Setup) (scripts : List Steps) (rs : Rules) (question : List Step) 
   same_prompt : (p : Proc) → (w.rules.prompt && is_asked_at w p) ≡ (rs.prompt && is_asked (state_after c h) p)
   same_prompt p = ap (λ (x : Rules). x.prompt && is_asked_at w p) leads.rules_are ∙ ap (λ b. rs.prompt && b) (same_asked p)
 
-  handler_place : (p : Proc) → slice_index w.handlers (p.number - 1) ≡ handler_position p.number h
+  handler_place : (p : Proc) → slice_index w.handlers (p.number - 1) ≡ handler_position c scripts p.number h
   handler_place p =
       let least = p.least in
       let most = p.most in
       let back : p.number - 1 + 1 ≡ p.number = omega (arith, least) in
-      leads.handlers_placed (p.number - 1) (omega (arith, least, most)) ∙ ap (λ n. handler_position n h) back
+      leads.handlers_placed (p.number - 1) (omega (arith, least, most)) ∙ ap (λ n. handler_position c scripts n h) back
 
-  same_position : (p : Proc) (r : Runner) → position_at w p r ≡ position_of r p h
+  same_position : (p : Proc) (r : Runner) → position_at w p r ≡ position_of c scripts r p h
   same_position p (runner.Task t) =
       let least = t.least in
       let most = t.most in
       let back : t.number - 1 + 1 ≡ t.number = omega (arith, least) in
-      leads.tasks_placed (t.number - 1) (omega (arith, least, most)) ∙ ap (λ n. task_position n h) back
+      leads.tasks_placed (t.number - 1) (omega (arith, least, most)) ∙ ap (λ n. task_position c scripts n h) back
   same_position p (runner.Alarm a) = handler_place p
   same_position p (runner.Cyclic y) = handler_place p
 
@@ -131,7 +131,7 @@ module _ (c : Setup) (scripts : List Steps) (rs : Rules) (question : List Step) 
       (rs.prompt && is_asked (state_after c h) p) ≡ false → next_call c scripts h p o ≡ Some e → MayHappen c scripts rs h e
   call_may p None e is here free at = cc
   call_may p (Some r) e is here free at =
-      let same : event.Call p (asked_at c scripts r (position_of r p h)) ≡ e = cc in
+      let same : event.Call p (asked_at c scripts r (position_of c scripts r p h)) ≡ e = cc in
       subst (λ x. MayHappen c scripts rs h x) same (here, (free, rw (← is) refl))
 
   none_some : {A : Type 0} (x : A) → None ≡ Some x → ⊥

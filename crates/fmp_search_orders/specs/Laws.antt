@@ -27,8 +27,8 @@ pub record LeadsTo (c : Setup) (scripts : List Steps) (rules : Rules) (question 
   pub order : IsOrder c scripts rules h
   pub marked : IsMarked c rules question h marks
   pub stands : Stands w.machine (state_after c h)
-  pub tasks_placed : TasksAre w.tasks h
-  pub handlers_placed : HandlersAre w.handlers h
+  pub tasks_placed : TasksAre c scripts w.tasks h
+  pub handlers_placed : HandlersAre c scripts w.handlers h
   pub taken_are : TakenAre rules w.taken h
   pub seen_is : w.seen ≡ seen marks
   pub sized : (length w.tasks ≡ 64) × (length w.handlers ≡ 8) × (length w.taken ≡ 8)

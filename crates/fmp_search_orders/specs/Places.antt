@@ -95,8 +95,8 @@ moved_taken rules ns other a = ns
 abbrev pub went : Place → Bool → World Queues × Record → Place
 went w mark did = record w {
   machine = did.0;
-  tasks = moved_tasks w.tasks did.1.runner did.1.event did.1.answer;
-  handlers = moved_handlers w.handlers did.1.runner did.1.event did.1.answer;
+  tasks = moved_tasks w.config w.scripts w.tasks did.1;
+  handlers = moved_handlers w.config w.scripts w.handlers did.1;
   taken = moved_taken w.rules w.taken did.1.event did.1.answer;
   seen = if mark then w.seen + 1 else w.seen;
 }

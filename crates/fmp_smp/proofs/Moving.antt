@@ -31,7 +31,7 @@ IsOwn p e = (processor_of e ≡ p) × (is_tick e ≡ false) × ((n : ℕ) → is
 next_own : (c : Setup) (scripts : List Steps) (h : List Record) (p : Proc) (o : Option Runner) (e : Event) → next_call c scripts h p o ≡ Some e → IsOwn p e
 next_own c scripts h p None e picked = cc
 next_own c scripts h p (Some r) e picked =
-    let is : e ≡ event.Call p (asked_at c scripts r (position_of r p h)) = cc in
+    let is : e ≡ event.Call p (asked_at c scripts r (position_of c scripts r p h)) = cc in
     rw is (refl, refl, λ n. refl, λ n. refl)
 
 picked_own : (p : Proc) (b : Bool) (o : Option Event) (e : Event) → (o ≡ Some e → IsOwn p e) → cond b (Some (event.Ipi p)) o ≡ Some e → IsOwn p e

@@ -13,7 +13,8 @@ use Rattle.fmp_calls.specs.Arguments.{CallInBits, EventInBits}
 use Rattle.fmp_setup.specs.Setup.{Setup}
 use Rattle.fmp_text_scripts.specs.Scripts.{Steps, script_of, script_of_option, AreInBits}
 use Rattle.fmp_smp_histories.specs.Histories.{events_of}
-use Rattle.fmp_smp_histories.specs.Scripted.{function_of, last_of, next_call}
+use Rattle.fmp_smp_histories.specs.Positions.{function_of}
+use Rattle.fmp_smp_histories.specs.Scripted.{last_of, next_call}
 
 abbrev CallFits : Option Call → Type 0
 CallFits None = Unit {0}

@@ -15,13 +15,7 @@ use Rattle.fmp_setup.specs.Setup.{Setup}
 use Rattle.fmp_rules.specs.World.{processor, runner_of, is_held}
 use Rattle.fmp_rules.specs.Arrivals.{State}
 use Rattle.fmp_smp_histories.specs.Histories.{state_after}
-use Rattle.fmp_smp_histories.specs.Positions.{task_position, handler_position}
-
--- the number of the function of a task or a handler
-abbrev pub function_of : Setup → Runner → Option ℕ
-function_of c (runner.Task t) = option_map (λ s. s.main) (slice_get c.tasks (t.number - 1))
-function_of c (runner.Alarm a) = option_map (λ s. s.handler) (slice_get c.alarms (a.number - 1))
-function_of c (runner.Cyclic y) = option_map (λ s. s.handler) (slice_get c.cyclics (y.number - 1))
+use Rattle.fmp_smp_histories.specs.Positions.{function_of, task_position, handler_position}
 
 -- what a runner asks after the last step of its script: a task ends, and a handler returns
 abbrev pub last_of : Runner → Call
@@ -33,14 +27,14 @@ abbrev pub asked_at : Setup → List Steps → Runner → ℕ → Call
 asked_at c scripts r n = unwrap_or (slice_get (script_of_option scripts (function_of c r)) n) (last_of r)
 
 -- the position in its script of a runner on a processor
-abbrev pub position_of : Runner → Proc → List Record → ℕ
-position_of (runner.Task t) p h = task_position t.number h
-position_of other p h = handler_position p.number h
+abbrev pub position_of : Setup → List Steps → Runner → Proc → List Record → ℕ
+position_of c scripts (runner.Task t) p h = task_position c scripts t.number h
+position_of c scripts other p h = handler_position c scripts p.number h
 
 -- the call that a runner on a processor makes next
 abbrev pub next_call : Setup → List Steps → List Record → Proc → Option Runner → Option Event
 next_call c scripts h p None = None
-next_call c scripts h p (Some r) = Some (event.Call p (asked_at c scripts r (position_of r p h)))
+next_call c scripts h p (Some r) = Some (event.Call p (asked_at c scripts r (position_of c scripts r p h)))
 
 -- a request to a processor is pending, and nothing holds it back
 abbrev pub is_asked : State → Proc → Bool

@@ -1,5 +1,6 @@
 //! What a task or a handler does next.
 ghost use Rattle.std.specs.Prelude.{◌≡◌};
+ghost use Rattle.fmp_smp_histories.specs.Positions.{function_of};
 ghost use Rattle.fmp_smp_histories.specs.Scripted as scripted;
 
 use fmp_codes::{Call, Runner, TaskCall};
@@ -7,8 +8,9 @@ use fmp_rules::Config;
 use fmp_text_scripts::Scripts;
 
 /// The number of the function that a task or a handler runs. None where the configuration has no such task or handler.
-fn function_of(config: &Config, runner: Runner) -> Option<u8>
-    ensures { result ≡ scripted.function_of config.now runner }
+#[inline(always)]
+pub(crate) fn function_of(config: &Config, runner: Runner) -> Option<u8>
+    ensures { result ≡ function_of config.now runner }
 {
     match runner {
         Runner::Task(t) => {

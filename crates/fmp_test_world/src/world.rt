@@ -421,7 +421,7 @@ fn end_on(
     story: &Story,
     numbers: Numbers,
 ) -> Result<&'static str, AllocError> {
-    let (mut world, mut seats) = World::boot(alloc, config, scripts, numbers.0)?;
+    let (mut world, mut seats) = World::boot(alloc, config, scripts, numbers.0.min(1_000_000))?;
     let went = plays(alloc, &mut world, &mut seats, config, story);
     finished(alloc, world, seats, went, config, scripts, story, numbers)
 }

@@ -2,9 +2,9 @@
 use Rattle.std.proofs.Common.{◌≡◌, ℕ, ◌+◌, ◌<◌, ◌≤◌, ◌==◌, Bool, true, false, not, ◌⊎◌, cond, eqb, ltb, inl, inr, List, [], ◌∷◌, ◌++◌, length, Option, Some, None, Result, Ok, Err, is_some, refl, sym, ap, subst, ◌∙◌, arith, length-append, append_assoc}
 use Rattle.std.specs.Prelude.{All, codes}
 use Rattle.std.specs.List.{list_all, list_any, join_with_byte}
-use Rattle.std.proofs.lemmas.Bool.{cases_Bool, and_parts, ltb-true, ltb-false, false≢true}
+use Rattle.std.proofs.lemmas.Bool.{cases_Bool, and_parts, eqb-true, lt-ltb, ltb-true, ltb-false, false≢true}
 use Rattle.std.proofs.lemmas.List.{append-nil}
-use Rattle.std.proofs.lemmas.List.Elements.{All-nil, All-push}
+use Rattle.std.proofs.lemmas.List.Elements.{All-nil, All-cons, All-push, All-tail}
 use Rattle.fmp_bytes.specs.Bytes.{pieces_of}
 use Rattle.fmp_bytes.proofs.Cutting.{join-pieces_of, some-pieces_of, apart-pieces_of}
 use Rattle.fmp_bytes.proofs.Parsed.{tested_ok, bind_parts}
@@ -19,16 +19,29 @@ use Rattle.fmp_text.proofs.FirstFaults.{lines_text-push, apart-push, apart-cons,
 use Rattle.fmp_text.proofs.SpelledTexts.{no_feed, rest_read, skipped_parts}
 use Rattle.fmp_text_scripts.specs.declared.line.Said.{Said}
 use Rattle.fmp_text_scripts.specs.declared.line.Said.TheVariants as said
-use Rattle.fmp_text_scripts.specs.Scripts.{Steps, most_steps}
+use Rattle.fmp_text_scripts.specs.declared.ways.Pattern.{Pattern}
+use Rattle.fmp_text_scripts.specs.declared.ways.Way.{Way}
+use Rattle.fmp_text_scripts.specs.declared.ways.Pattern.TheVariants as pattern
+use Rattle.fmp_text_scripts.specs.Linking.{has_label, is_any, is_same, linked, place_in}
+use Rattle.fmp_bytes.specs.Bytes.{is_of}
+use Rattle.fmp_bytes.specs.declared.classes.Class.TheVariants.{Word}
+use Rattle.fmp_bytes.proofs.Prefixes.{list_all-weaker, list_all-both}
+use Rattle.fmp_bytes.proofs.Tokens.{identifier_words}
+use Rattle.fmp_bytes.proofs.Words.{same_word}
+use Rattle.fmp_text_scripts.specs.Scripts.{Steps}
+use Rattle.fmp_text_scripts.specs.Ways.{most_steps, most_labels}
 use Rattle.fmp_text_scripts.specs.Lines.{said_in}
 use Rattle.fmp_text_scripts.specs.Texts.{Open, Reading, nothing_read, took, with_line, at_end, after_line, fault_at, scripts_from, scripts_in}
-use Rattle.fmp_text_scripts.specs.ScriptGrammar.{IsLine, SpellsEnd, SpellsHead, SpellsScripts}
-use Rattle.fmp_text_scripts.specs.ScriptFaults.{LeaveOpen}
-use Rattle.fmp_text_scripts.specs.FirstFaults.{HaveNoFault, FaultInLine, AreOpen, FaultAtEnd, FirstFault}
+use Rattle.fmp_codes.specs.declared.calls.Call.{Call}
+use Rattle.fmp_text.specs.TextGrammar.{SpellsNothing}
+use Rattle.fmp_text_scripts.specs.declared.linking.Jump.{Jump}
+use Rattle.fmp_text_scripts.specs.declared.linking.Label.{Label}
+use Rattle.fmp_text_scripts.specs.ScriptGrammar.{Part, Asks, Stands, Jumps, ArePlaced, AreNew, IsLabelName, IsLine, SpellsEnd, SpellsHead, SpellsLabel, SpellsPart, SpellsParts, SpellsScripts, calls_of, is_behind, jumps_of, labels_of}
+use Rattle.fmp_text_scripts.proofs.ScriptFaults.{line_fault}
+use Rattle.fmp_text_scripts.specs.FirstFaults.{HaveNoFault, LeaveOpen, CanEnd, Say, all_labels, ending, FaultInLine, AreOpen, FaultAtEnd, FirstFault}
 use Rattle.fmp_text_scripts.proofs.Read.{scripts_from-cut, judged}
-use Rattle.fmp_text_scripts.proofs.ScriptFaults.{line_fault, script_of}
-use Rattle.fmp_text_scripts.proofs.SpelledLines.{LineSays, end_read, line_is_spelled}
-use Rattle.fmp_text_scripts.proofs.SpelledScripts.{reading, opened, last_line, opening_parts, scripts_in-spelled, text_is_spelled}
+use Rattle.fmp_text_scripts.proofs.SpelledLines.{LineSays, said_of, end_read, part_read, line_is_spelled}
+use Rattle.fmp_text_scripts.proofs.SpelledScripts.{reading, opened, with_part, MayCome, record_of, last_line, opening_parts, taken_parts, closed_parts, scripts_in-spelled, text_is_spelled}
 
 same_fault : (a b : TextFault) → ◌≡◌ {A = Result (List Steps) TextFault} (Err a) (Err b) → a ≡ b
 same_fault a b e = cc
@@ -80,15 +93,15 @@ record IsOpenSince (names : NameLists) (lines : List (List ℕ)) (n : ℕ) : Typ
   opens : IsLine (λ text. SpellsHead names text function) head
   unended : All (λ line. ¬ (IsLine SpellsEnd line)) behind
 
-abbrev Opened : NameLists → List (List ℕ) → Option Open → Type 0
-Opened names lines None = Unit {0}
-Opened names lines (Some o) = IsOpenSince names lines o.line
+abbrev Opened : NameLists → List (List ℕ) → List Steps → Option Open → Type 0
+Opened names lines done None = Unit {0}
+Opened names lines done (Some o) = IsOpenSince names lines o.line × LeaveOpen names lines done o
 
 -- these lines are read without a fault, as these scripts and an open one
 record After (names : NameLists) (before : List (List ℕ)) (done : List Steps) (unclosed : Option Open) : Type 0 where
   apart : AreApart before
   reads : (more : List ℕ) → scripts_from names 0 nothing_read [] (lines_text before ++ more) ≡ scripts_from names (length before) (reading done unclosed) [] more
-  open_since : Opened names before unclosed
+  open_since : Opened names before done unclosed
 
 -- lines that are whole scripts
 whole : (names : NameLists) (before : List (List ℕ)) (done : List Steps) → After names before done None → length (lines_text before) ≤ most_bytes → SpellsScripts names (lines_text before) done
@@ -97,36 +110,245 @@ whole names before done after fits =
     text_is_spelled names (lines_text before) done
     (judged names (lines_text before) fits ∙ ap (scripts_from names 0 nothing_read []) (sym (append-nil (lines_text before))) ∙ after.reads [])
 
--- an open script can be ended
-ended : (names : NameLists) (n : ℕ) (done : List Steps) (o : Open) → scripts_from names n (reading done (Some o)) [] (codes "end" ++ (10 ∷ [])) ≡ Ok (done ++ o.script ∷ [])
+-- ---- how an open script can be ended
+
+-- each of these jumps has a label
+abbrev have_labels : List Label → List Jump → Bool
+have_labels labels jumps = list_all (λ (j : Jump). has_label labels j.name) jumps
+
+longer_has : (labels : List Label) (l : Label) (name : List ℕ) → has_label labels name ≡ true → has_label (labels ++ (l ∷ [])) name ≡ true
+longer_has [] l name has = absurd cc
+longer_has (x ∷ labels) l name has =
+    elim (cases_Bool (is_same x.name name)) [
+      | inl t ↦ rw t refl
+      | inr f ↦ rw f (longer_has labels l name (rw f at has))
+    ]
+
+last_has : (labels : List Label) (l : Label) → has_label (labels ++ (l ∷ [])) l.name ≡ true
+last_has [] l = let same = same_word l.name l.name refl in rw same refl
+last_has (x ∷ labels) l =
+    elim (cases_Bool (is_same x.name l.name)) [
+      | inl t ↦ rw t refl
+      | inr f ↦ rw f (last_has labels l)
+    ]
+
+longer_have : (labels : List Label) (l : Label) (jumps : List Jump) → have_labels labels jumps ≡ true → have_labels (labels ++ (l ∷ [])) jumps ≡ true
+longer_have labels l [] have = refl
+longer_have labels l (j ∷ jumps) have =
+    let p = and_parts (has_label labels j.name) (have_labels labels jumps) have in
+    let here = longer_has labels l j.name p.0 in
+    rw here (longer_have labels l jumps p.1)
+
+more_have : (labels : List Label) (jumps : List Jump) (j : Jump) → have_labels labels jumps ≡ true → has_label labels j.name ≡ true → have_labels labels (jumps ++ (j ∷ [])) ≡ true
+more_have labels [] j have here = rw here refl
+more_have labels (x ∷ jumps) j have here =
+    let p = and_parts (has_label labels x.name) (have_labels labels jumps) have in
+    let first = p.0 in
+    rw first (more_have labels jumps j p.1 here)
+
+found_place : (labels : List Label) (name : List ℕ) → has_label labels name ≡ true → (at : ℕ) × (place_in labels name ≡ Some at)
+found_place [] name has = absurd cc
+found_place (x ∷ labels) name has =
+    elim (cases_Bool (is_same x.name name)) [
+      | inl t ↦ (x.at, rw t refl)
+      | inr f ↦ let p = found_place labels name (rw f at has) in (p.0, rw f p.1)
+    ]
+
+all_linked : (labels : List Label) (jumps : List Jump) → have_labels labels jumps ≡ true → (ways : List Way) × (linked labels jumps ≡ Some ways)
+all_linked labels [] have = ([], refl)
+all_linked labels (j ∷ jumps) have =
+    let p = and_parts (has_label labels j.name) (have_labels labels jumps) have in
+    let at = found_place labels j.name p.0 in
+    let rest = all_linked labels jumps p.1 in
+    let here = at.1 in let more = rest.1 in
+    (record { after = j.after; answer = j.answer; to = at.0 } ∷ rest.0, rw (here, more) refl)
+
+word_feed : (b : ℕ) → is_of Word b ≡ true → not (eqb b 10) ≡ true
+unfolding is_of
+word_feed b word =
+    elim (cases_Bool (eqb b 10)) [
+      | inl t ↦ absurd (false≢true (ap (is_of Word) (sym (eqb-true b 10 t)) ∙ word))
+      | inr f ↦ rw f refl
+    ]
+
+label_feed : (name : List ℕ) → IsLabelName name → list_all (λ b. not (eqb b 10)) (name ++ (58 ∷ [])) ≡ true
+label_feed name is = list_all-both (λ b. not (eqb b 10)) name (58 ∷ []) (list_all-weaker (is_of Word) (λ b. not (eqb b 10)) word_feed name (identifier_words name is.0)) refl
+
+-- there are no fewer labels with those that are missing
+more_labels : (at : ℕ) (labels : List Label) (jumps : List Jump) → length labels ≤ length (all_labels at labels jumps)
+more_labels at labels [] = omega arith
+more_labels at labels (j ∷ jumps) =
+    elim (cases_Bool (has_label labels j.name)) [
+      | inl t ↦ rw t (more_labels at labels jumps)
+      | inr f ↦
+          let label : Label = record { name = j.name; at = at } in
+          let more = more_labels at (labels ++ (label ∷ [])) jumps in
+          rw f (omega (arith, more, length-append labels (label ∷ [])))
+    ]
+
+-- with this text an open script ends, with these labels in all
+record IsEnded (names : NameLists) (n : ℕ) (done : List Steps) (o : Open) (labels : List Label) (text : List ℕ) : Type 0 where
+  ways : List Way
+  linked : linked labels o.jumps ≡ Some ways
+  reads : length labels ≤ most_labels → scripts_from names n (reading done (Some o)) [] text ≡ Ok (done ++ (record_of o ways ∷ []))
+
+end_ended : (names : NameLists) (n : ℕ) (done : List Steps) (o : Open) (ws : List Way) → linked o.labels o.jumps ≡ Some ws → IsEnded names n done o o.labels (codes "end" ++ (10 ∷ []))
 unfolding scripts_from is_skipped
-ended names n done o =
+end_ended names n done o ws is =
     let is_end : IsLine SpellsEnd (codes "end") = (codes "end", inl refl, record { before = []; behind = []; before_blank = refl; behind_blank = refl; parts = refl }) in
     let says = end_read names (codes "end") is_end in
-    let read : with_line names (n + 1) (reading done (Some o)) (codes "end") ≡ Ok (reading (done ++ o.script ∷ []) None) = rw says refl in
-    scripts_from-cut names n (reading done (Some o)) (codes "end") [] (no_feed (codes "end") refl)
-    ∙ ap (λ (s : Result Reading TextKind). after_line (n + 1) s (λ next. scripts_from names (n + 1) next [] [])) read
+    let read : with_line names (n + 1) (reading done (Some o)) (codes "end") ≡ Ok (reading (done ++ (record_of o ws ∷ [])) None) = rw (says, is) refl in
+    record {
+      ways = ws;
+      linked = is;
+      reads = λ few. scripts_from-cut names n (reading done (Some o)) (codes "end") [] (no_feed (codes "end") refl)
+          ∙ ap (λ (s : Result Reading TextKind). after_line (n + 1) s (λ next. scripts_from names (n + 1) next [] [])) read;
+    }
 
--- an open script spells scripts where it is ended
-leaves_open : (names : NameLists) (before : List (List ℕ)) (done : List Steps) (unclosed : Option Open) → After names before done unclosed → length (lines_text before) + 4 ≤ most_bytes
-    → LeaveOpen names before done (script_of unclosed)
-leaves_open names before done None after fits = whole names before done after (omega (arith, fits))
-leaves_open names before done (Some o) after fits =
-    let more : List ℕ = codes "end\n" in
-    let long : length more ≡ 4 = refl in
-    text_is_spelled names (lines_text before ++ more) (done ++ o.script ∷ [])
-    (judged names (lines_text before ++ more) (omega (arith, fits, long, length-append (lines_text before) more)) ∙ after.reads more ∙ ended names (length before) done o)
+label_line : (name : List ℕ) → IsLabelName name → SpellsLabel (name ++ (58 ∷ [])) name
+label_line name is = record {
+  between = [];
+  between_blank = refl;
+  is_name = is;
+  padded = record { before = []; behind = []; before_blank = refl; behind_blank = refl; parts = sym (append-nil (name ++ (58 ∷ []))) };
+}
 
-no_faults : (names : NameLists) (before : List (List ℕ)) (done : List Steps) (unclosed : Option Open) → After names before done unclosed → HaveNoFault names before
-no_faults names before done unclosed after = record {
-  complete = by unclosed after;
+-- an open script is ended with these labels for its other jumps
+abbrev EndsBy : NameLists → List Steps → ℕ → Open → List Jump → Type 0
+EndsBy names done n o jumps = IsEnded names n done o (all_labels (length o.steps) o.labels jumps) (ending (length o.steps) o.labels jumps)
+
+-- one jump: it has a label, or one is written for it
+end_by : (names : NameLists) (valid : AreValid names) (done : List Steps) (n : ℕ) (o : Open) (j : Jump) (jumps : List Jump) → IsLabelName j.name
+    → (has_label o.labels j.name ≡ true → EndsBy names done n o jumps) → (has_label o.labels j.name ≡ false → EndsBy names done (n + 1) (with_part o (Stands j.name)) jumps)
+    → (b : Bool) → has_label o.labels j.name ≡ b → EndsBy names done n o (j ∷ jumps)
+end_by names valid done n o j jumps name_ok stays goes true t = rw t (stays t)
+end_by names valid done n o j jumps name_ok stays goes false f =
+    let next : Open = with_part o (Stands j.name) in
+    let label : Label = record { name = j.name; at = length o.steps } in
+    let rest = goes f in
+    let says = part_read names (j.name ++ (58 ∷ [])) (Stands j.name) valid (j.name ++ (58 ∷ []), inl refl, label_line j.name name_ok) in
+    let read : length o.labels < most_labels → with_line names (n + 1) (reading done (Some o)) (j.name ++ (58 ∷ [])) ≡ Ok (reading done (Some next)) =
+    (λ small. let room = lt-ltb (length o.labels) most_labels small in rw (says, f, room) refl) in
+    rw f (record {
+      ways = rest.ways;
+      linked = rest.linked;
+      reads = λ few.
+          let more = more_labels (length o.steps) (o.labels ++ (label ∷ [])) jumps in
+          scripts_from-cut names n (reading done (Some o)) (j.name ++ (58 ∷ [])) (ending (length o.steps) (o.labels ++ (label ∷ [])) jumps) (no_feed (j.name ++ (58 ∷ [])) (label_feed j.name name_ok))
+          ∙ ap (λ (s : Result Reading TextKind). after_line (n + 1) s (λ x. scripts_from names (n + 1) x [] (ending (length o.steps) (o.labels ++ (label ∷ [])) jumps)))
+          (read (omega (arith, few, more, length-append o.labels (label ∷ [])))) ∙ rest.reads few;
+    })
+
+can_end : (names : NameLists) (valid : AreValid names) (done : List Steps) (jumps : List Jump) (n : ℕ) (o : Open) (before : List Jump) → o.jumps ≡ before ++ jumps → have_labels o.labels before ≡ true → All (λ (j : Jump). IsLabelName j.name) jumps
+    → EndsBy names done n o jumps
+can_end names valid done [] n o before is have all =
+    let l = all_linked o.labels o.jumps (ap (have_labels o.labels) (is ∙ append-nil before) ∙ have) in
+    end_ended names n done o l.0 l.1
+can_end names valid done (j ∷ jumps) n o before is have all =
+    let rest_is : o.jumps ≡ (before ++ (j ∷ [])) ++ jumps = is ∙ sym (append_assoc before (j ∷ []) jumps) in
+    let label : Label = record { name = j.name; at = length o.steps } in
+    let others = All-tail (λ (x : Jump). IsLabelName x.name) j jumps all in
+    end_by names valid done n o j jumps (all 0 j (omega arith))
+    (λ t. can_end names valid done jumps n o (before ++ (j ∷ [])) rest_is (more_have o.labels before j have t) others)
+    (λ f. can_end names valid done jumps (n + 1) (with_part o (Stands j.name)) (before ++ (j ∷ [])) rest_is
+    (more_have (o.labels ++ (label ∷ [])) before j (longer_have o.labels label before have) (last_has o.labels label)) others)
+    (has_label o.labels j.name) refl
+
+-- the names of jumps that are spelled are names of labels
+goal_name : (names : NameLists) (text : List ℕ) (answer : Pattern) (name : List ℕ) → SpellsPart names text (Jumps answer name) → IsLabelName name
+goal_name names text pattern.Any name s = s.is_name
+goal_name names text pattern.Refused name s = s.goal.is_name
+goal_name names text (pattern.Coded c) name s = s.goal.is_name
+goal_name names text (pattern.Valued c v) name s = s.goal.is_name
+
+abbrev AllNames : List Jump → Type 0
+AllNames jumps = All (λ (j : Jump). IsLabelName j.name) jumps
+
+part_fits : (names : NameLists) (line : List ℕ) (n : ℕ) (part : Part) (parts : List Part) → IsLine (λ text. SpellsPart names text part) line → ((k : ℕ) → AllNames (jumps_of k parts)) → AllNames (jumps_of n (part ∷ parts))
+part_fits names line n (Asks call) parts is rest = rest (n + 1)
+part_fits names line n (Stands name) parts is rest = rest n
+part_fits names line n (Jumps answer name) parts is rest =
+    All-cons (λ (j : Jump). IsLabelName j.name) (record { after = n; answer = answer; name = name }) (jumps_of n parts) (goal_name names is.0 answer name is.2) (rest n)
+
+names_fit : (names : NameLists) (lines : List (List ℕ)) (parts : List Part) → SpellsParts names lines parts → (n : ℕ) → AllNames (jumps_of n parts)
+names_fit names [] parts s n = subst (λ (p : List Part). AllNames (jumps_of n p)) (sym s) (All-nil (λ (j : Jump). IsLabelName j.name))
+names_fit names (line ∷ lines) parts (inl s) n = names_fit names lines parts s.1 n
+names_fit names (line ∷ lines) parts (inr s) n = subst (λ (p : List Part). AllNames (jumps_of n p)) (sym s.3) (part_fits names line n s.0 s.1 s.2 (λ k. names_fit names lines s.1 s.4 k))
+
+-- what these lines say
+says_open : (names : NameLists) (valid : AreValid names) (before : List (List ℕ)) (done : List Steps) (unclosed : Option Open) → After names before done unclosed → Say names before done unclosed
+says_open names valid before done None after = λ fits. whole names before done after fits
+says_open names valid before done (Some o) after =
+    let left = after.open_since.1 in
+    let fit = subst (λ (l : List Jump). All (λ (j : Jump). IsLabelName j.name) l) (sym left.jumps) (names_fit names left.behind left.parts left.says 0) in
+    let e = can_end names valid done o.jumps (length before) o [] refl refl fit in
+    let more : List ℕ = ending (length o.steps) o.labels o.jumps in (
+      left,
+      record {
+        ways = e.ways;
+        linked = e.linked;
+        spelled = λ fits few. text_is_spelled names (lines_text before ++ more) (done ++ (record_of o e.ways ∷ [])) (judged names (lines_text before ++ more) fits ∙ after.reads more ∙ e.reads few);
+      },
+    )
+
+no_faults : (names : NameLists) (valid : AreValid names) (before : List (List ℕ)) (done : List Steps) (unclosed : Option Open) → After names before done unclosed → HaveNoFault names before
+no_faults names valid before done unclosed after = record {
+  complete = (done, unclosed, says_open names valid before done unclosed after);
   clean = λ more fault fits e.
       faults_are_late names more (length before) (reading done unclosed) [] fault (sym (after.reads more) ∙ sym (judged names (lines_text before ++ more) fits) ∙ e);
 }
-  where
-    by : (unclosed : Option Open) → After names before done unclosed → length (lines_text before) + 4 ≤ most_bytes → (more : List ℕ) × (scripts : List Steps) × SpellsScripts names (lines_text before ++ more) scripts
-    by None after fits = ([], done, subst (λ (t : List ℕ). SpellsScripts names t done) (sym (append-nil (lines_text before))) (leaves_open names before done None after fits))
-    by (Some o) after fits = (codes "end\n", done ++ o.script ∷ [], leaves_open names before done (Some o) after fits)
+
+-- ---- one part more
+
+calls_snoc : (parts : List Part) (p : Part) → calls_of (parts ++ (p ∷ [])) ≡ calls_of parts ++ calls_of (p ∷ [])
+calls_snoc [] p = refl
+calls_snoc (Asks call ∷ parts) p = ap (λ (l : List Call). call ∷ l) (calls_snoc parts p)
+calls_snoc (Stands name ∷ parts) p = calls_snoc parts p
+calls_snoc (Jumps answer name ∷ parts) p = calls_snoc parts p
+
+jumps_snoc : (n : ℕ) (parts : List Part) (p : Part) → jumps_of n (parts ++ (p ∷ [])) ≡ jumps_of n parts ++ jumps_of (n + length (calls_of parts)) (p ∷ [])
+jumps_snoc n [] p = ap (λ (k : ℕ). jumps_of k (p ∷ [])) (omega arith)
+jumps_snoc n (Asks call ∷ parts) p = jumps_snoc (n + 1) parts p ∙ ap (λ (k : ℕ). jumps_of (n + 1) parts ++ jumps_of k (p ∷ [])) (omega arith)
+jumps_snoc n (Stands name ∷ parts) p = jumps_snoc n parts p
+jumps_snoc n (Jumps answer name ∷ parts) p = ap (λ (l : List Jump). record { after = n; answer = answer; name = name } ∷ l) (jumps_snoc n parts p)
+
+labels_snoc : (n : ℕ) (parts : List Part) (p : Part) → labels_of n (parts ++ (p ∷ [])) ≡ labels_of n parts ++ labels_of (n + length (calls_of parts)) (p ∷ [])
+labels_snoc n [] p = ap (λ (k : ℕ). labels_of k (p ∷ [])) (omega arith)
+labels_snoc n (Asks call ∷ parts) p = labels_snoc (n + 1) parts p ∙ ap (λ (k : ℕ). labels_of (n + 1) parts ++ labels_of k (p ∷ [])) (omega arith)
+labels_snoc n (Stands name ∷ parts) p = ap (λ (l : List Label). record { name = name; at = n } ∷ l) (labels_snoc n parts p)
+labels_snoc n (Jumps answer name ∷ parts) p = labels_snoc n parts p
+
+behind_snoc : (b : Bool) (parts : List Part) (p : Part) → is_behind b (parts ++ (p ∷ [])) ≡ is_behind (is_behind b parts) (p ∷ [])
+behind_snoc b [] p = refl
+behind_snoc b (Asks call ∷ parts) p = behind_snoc true parts p
+behind_snoc b (Stands name ∷ parts) p = behind_snoc false parts p
+behind_snoc b (Jumps answer name ∷ parts) p = behind_snoc (not (is_any answer)) parts p
+
+placed_snoc : (b : Bool) (parts : List Part) (p : Part) → ArePlaced b parts → ArePlaced (is_behind b parts) (p ∷ []) → ArePlaced b (parts ++ (p ∷ []))
+placed_snoc b [] p all here = here
+placed_snoc b (Asks call ∷ parts) p all here = placed_snoc true parts p all here
+placed_snoc b (Stands name ∷ parts) p all here = placed_snoc false parts p all here
+placed_snoc b (Jumps answer name ∷ parts) p all here = (all.0, placed_snoc (not (is_any answer)) parts p all.1 here)
+
+new_snoc : (n : ℕ) (labels : List Label) (parts : List Part) (p : Part) → AreNew n labels parts → AreNew (n + length (calls_of parts)) (labels ++ labels_of n parts) (p ∷ []) → AreNew n labels (parts ++ (p ∷ []))
+new_snoc n labels [] p all here =
+    subst (λ (k : ℕ). AreNew k labels (p ∷ [])) (omega arith) (subst (λ (l : List Label). AreNew (n + 0) l (p ∷ [])) (append-nil labels) here)
+new_snoc n labels (Asks call ∷ parts) p all here =
+    new_snoc (n + 1) labels parts p all (subst (λ (k : ℕ). AreNew k (labels ++ labels_of (n + 1) parts) (p ∷ [])) (omega arith) here)
+new_snoc n labels (Stands name ∷ parts) p all here =
+    let label : Label = record { name = name; at = n } in
+    (all.0, all.1, new_snoc n (labels ++ (label ∷ [])) parts p all.2 (subst (λ (l : List Label). AreNew (n + length (calls_of parts)) l (p ∷ [])) (sym (append_assoc labels (label ∷ []) (labels_of n parts))) here))
+new_snoc n labels (Jumps answer name ∷ parts) p all here = new_snoc n labels parts p all here
+
+parts_nothing : (names : NameLists) (lines : List (List ℕ)) (line : List ℕ) (parts : List Part) → SpellsParts names lines parts → SpellsNothing line → SpellsParts names (lines ++ (line ∷ [])) parts
+parts_nothing names [] line parts s nothing = inl (nothing, s)
+parts_nothing names (l ∷ lines) line parts (inl s) nothing = inl (s.0, parts_nothing names lines line parts s.1 nothing)
+parts_nothing names (l ∷ lines) line parts (inr s) nothing = inr (s.0, s.1, s.2, s.3, parts_nothing names lines line s.1 s.4 nothing)
+
+parts_snoc : (names : NameLists) (lines : List (List ℕ)) (line : List ℕ) (parts : List Part) (p : Part) → SpellsParts names lines parts → IsLine (λ text. SpellsPart names text p) line → SpellsParts names (lines ++ (line ∷ [])) (parts ++ (p ∷ []))
+parts_snoc names [] line parts p s is = inr (p, [], is, ap (λ (l : List Part). l ++ (p ∷ [])) s, refl)
+parts_snoc names (l ∷ lines) line parts p (inl s) is = inl (s.0, parts_snoc names lines line parts p s.1 is)
+parts_snoc names (l ∷ lines) line parts p (inr s) is = inr (s.0, s.1 ++ (p ∷ []), s.2, ap (λ (l : List Part). l ++ (p ∷ [])) s.3, parts_snoc names lines line s.1 p s.4 is)
 
 module _ (names : NameLists) (before : List (List ℕ)) (line : List ℕ) where
   -- one line more, which is no end
@@ -149,39 +371,159 @@ module _ (names : NameLists) (before : List (List ℕ)) (line : List ℕ) where
       same : (a b : Option Said) → ◌≡◌ {A = Result (Option Said) TextKind} (Ok a) (Ok b) → a ≡ b
       same a b e = cc
 
+  -- what says nothing leaves the same open
+  nothing_said : LineSays names true line None → SpellsNothing line
+  nothing_said (inl s) = s.1
+  nothing_said (inr s) = absurd s.2
+
+  nothing_left : (done : List Steps) (o : Open) → SpellsNothing line → LeaveOpen names before done o → LeaveOpen names (before ++ (line ∷ [])) done o
+  nothing_left done o nothing s = record {
+    before = s.before;
+    head = s.head;
+    behind = s.behind ++ (line ∷ []);
+    parts = s.parts;
+    lines_are = ap (λ (ls : List (List ℕ)). ls ++ (line ∷ [])) s.lines_are ∙ append_assoc s.before (s.head ∷ s.behind) (line ∷ []);
+    number = s.number;
+    spelled = s.spelled;
+    opens = s.opens;
+    says = parts_nothing names s.behind line s.parts s.says nothing;
+    steps = s.steps;
+    jumps = s.jumps;
+    labels = s.labels;
+    behind_is = s.behind_is;
+    placed = s.placed;
+    new = s.new;
+  }
+
+  -- a part leaves the same script open with that part
+  part_left : (done : List Steps) (o : Open) (part : Part) → IsLine (λ text. SpellsPart names text part) line → MayCome o part → LeaveOpen names before done o → LeaveOpen names (before ++ (line ∷ [])) done (with_part o part)
+  part_left done o part is may s = by part is may
+    where
+      count : length o.steps ≡ 0 + length (calls_of s.parts)
+      count = ap length s.steps ∙ omega arith
+
+      by : (p : Part) → IsLine (λ text. SpellsPart names text p) line → MayCome o p → LeaveOpen names (before ++ (line ∷ [])) done (with_part o p)
+      by (Asks call) is2 may2 = record {
+        before = s.before;
+        head = s.head;
+        behind = s.behind ++ (line ∷ []);
+        parts = s.parts ++ (Asks call ∷ []);
+        lines_are = ap (λ (ls : List (List ℕ)). ls ++ (line ∷ [])) s.lines_are ∙ append_assoc s.before (s.head ∷ s.behind) (line ∷ []);
+        number = s.number;
+        spelled = s.spelled;
+        opens = s.opens;
+        says = parts_snoc names s.behind line s.parts (Asks call) s.says is2;
+        steps = ap (λ (l : List Call). l ++ (call ∷ [])) s.steps ∙ sym (calls_snoc s.parts (Asks call));
+        jumps = s.jumps ∙ sym (append-nil (jumps_of 0 s.parts)) ∙ sym (jumps_snoc 0 s.parts (Asks call));
+        labels = s.labels ∙ sym (append-nil (labels_of 0 s.parts)) ∙ sym (labels_snoc 0 s.parts (Asks call));
+        behind_is = sym (behind_snoc false s.parts (Asks call));
+        placed = placed_snoc false s.parts (Asks call) s.placed tt;
+        new = new_snoc 0 [] s.parts (Asks call) s.new tt;
+      }
+      by (Stands name) is2 may2 =
+          let label : Label = record { name = name; at = length o.steps } in
+          record {
+            before = s.before;
+            head = s.head;
+            behind = s.behind ++ (line ∷ []);
+            parts = s.parts ++ (Stands name ∷ []);
+            lines_are = ap (λ (ls : List (List ℕ)). ls ++ (line ∷ [])) s.lines_are ∙ append_assoc s.before (s.head ∷ s.behind) (line ∷ []);
+            number = s.number;
+            spelled = s.spelled;
+            opens = s.opens;
+            says = parts_snoc names s.behind line s.parts (Stands name) s.says is2;
+            steps = s.steps ∙ sym (append-nil (calls_of s.parts)) ∙ sym (calls_snoc s.parts (Stands name));
+            jumps = s.jumps ∙ sym (append-nil (jumps_of 0 s.parts)) ∙ sym (jumps_snoc 0 s.parts (Stands name));
+            labels = ap (λ (l : List Label). l ++ (label ∷ [])) s.labels ∙ ap (λ (k : ℕ). labels_of 0 s.parts ++ (record { name = name; at = k } ∷ [])) count ∙ sym (labels_snoc 0 s.parts (Stands name));
+            behind_is = sym (behind_snoc false s.parts (Stands name));
+            placed = placed_snoc false s.parts (Stands name) s.placed tt;
+            new = new_snoc 0 [] s.parts (Stands name) s.new (ap (λ (l : List Label). has_label l name) (sym s.labels) ∙ may2.0, subst (λ (l : List Label). length l < most_labels) s.labels may2.1, tt);
+          }
+      by (Jumps answer name) is2 may2 =
+          let jump : Jump = record { after = length o.steps; answer = answer; name = name } in
+          record {
+            before = s.before;
+            head = s.head;
+            behind = s.behind ++ (line ∷ []);
+            parts = s.parts ++ (Jumps answer name ∷ []);
+            lines_are = ap (λ (ls : List (List ℕ)). ls ++ (line ∷ [])) s.lines_are ∙ append_assoc s.before (s.head ∷ s.behind) (line ∷ []);
+            number = s.number;
+            spelled = s.spelled;
+            opens = s.opens;
+            says = parts_snoc names s.behind line s.parts (Jumps answer name) s.says is2;
+            steps = s.steps ∙ sym (append-nil (calls_of s.parts)) ∙ sym (calls_snoc s.parts (Jumps answer name));
+            jumps = ap (λ (l : List Jump). l ++ (jump ∷ [])) s.jumps ∙ ap (λ (k : ℕ). jumps_of 0 s.parts ++ (record { after = k; answer = answer; name = name } ∷ [])) count ∙ sym (jumps_snoc 0 s.parts (Jumps answer name));
+            labels = s.labels ∙ sym (append-nil (labels_of 0 s.parts)) ∙ sym (labels_snoc 0 s.parts (Jumps answer name));
+            behind_is = sym (behind_snoc false s.parts (Jumps answer name));
+            placed = placed_snoc false s.parts (Jumps answer name) s.placed (sym s.behind_is ∙ may2.0, tt);
+            new = new_snoc 0 [] s.parts (Jumps answer name) s.new tt;
+          }
+
+  -- behind a part the same script is open
+  part_opens : (done : List Steps) (o : Open) (part : Part) (next : Reading) → IsLine (λ text. SpellsPart names text part) line → After names before done (Some o) → said_in names true line ≡ Ok (Some (said_of part))
+      → took (length before + 1) (reading done (Some o)) (Some (said_of part)) ≡ Ok next → (Some said.Closes ≡ Some (said_of part) → ⊥) → Opened names (before ++ (line ∷ [])) next.scripts next.unclosed
+  part_opens done o part next spelled after says takes other =
+      let t = taken_parts (length before + 1) done o part next takes in
+      subst (λ (r : Reading). Opened names (before ++ (line ∷ [])) r.scripts r.unclosed) t.1 (still part spelled t.0)
+    where
+      still : (part2 : Part) → IsLine (λ text. SpellsPart names text part2) line → MayCome o part2 → Opened names (before ++ (line ∷ [])) done (Some (with_part o part2))
+      still (Asks call) is may = (behind_more o.line (no_end (Some (said_of part)) says other) after.open_since.0, part_left done o (Asks call) is may after.open_since.1)
+      still (Stands name) is may = (behind_more o.line (no_end (Some (said_of part)) says other) after.open_since.0, part_left done o (Stands name) is may after.open_since.1)
+      still (Jumps answer name) is may = (behind_more o.line (no_end (Some (said_of part)) says other) after.open_since.0, part_left done o (Jumps answer name) is may after.open_since.1)
+
   -- what is open behind the line
   line_opens : (done : List Steps) (unclosed : Option Open) (what : Option Said) (next : Reading) → After names before done unclosed → said_in names (is_some unclosed) line ≡ Ok what
-      → LineSays names (is_some unclosed) line what → took (length before + 1) (reading done unclosed) what ≡ Ok next → Opened names (before ++ (line ∷ [])) next.unclosed
+      → LineSays names (is_some unclosed) line what → took (length before + 1) (reading done unclosed) what ≡ Ok next → Opened names (before ++ (line ∷ [])) next.scripts next.unclosed
   line_opens done None None next after says spelled takes =
       let same : reading done None ≡ next = cc in
-      subst (λ (r : Reading). Opened names (before ++ (line ∷ [])) r.unclosed) same tt
+      subst (λ (r : Reading). Opened names (before ++ (line ∷ [])) r.scripts r.unclosed) same tt
   line_opens done (Some o) None next after says spelled takes =
       let same : reading done (Some o) ≡ next = cc in
-      subst (λ (r : Reading). Opened names (before ++ (line ∷ [])) r.unclosed) same (behind_more o.line (no_end None says (λ e. absurd cc)) after.open_since)
+      subst (λ (r : Reading). Opened names (before ++ (line ∷ [])) r.scripts r.unclosed) same (behind_more o.line (no_end None says (λ e. absurd cc)) after.open_since.0, nothing_left done o (nothing_said spelled) after.open_since.1)
   line_opens done unclosed (Some what) next after says (inl spelled) takes = absurd (let none = spelled.0 in cc)
   line_opens done None (Some (said.Opens f)) next after says (inr spelled) takes =
-      let same = opening_parts (list_any (λ s. s.function == f) done) (reading done (Some (opened (length before + 1) f []))) next takes in
-      subst (λ (r : Reading). Opened names (before ++ (line ∷ [])) r.unclosed) same (record {
-        before = before;
-        head = line;
-        behind = [];
-        function = f;
-        parts = refl;
-        number = refl;
-        spelled = λ fits. (done, whole names before done after fits);
-        opens = (spelled.0, spelled.1, spelled.2.1);
-        unended = All-nil (λ l. ¬ (IsLine SpellsEnd l));
-      })
+      let same = opening_parts (list_any (λ s. s.function == f) done) (reading done (Some (opened (length before + 1) f))) next takes in
+      subst (λ (r : Reading). Opened names (before ++ (line ∷ [])) r.scripts r.unclosed) same (
+        record {
+          before = before;
+          head = line;
+          behind = [];
+          function = f;
+          parts = refl;
+          number = refl;
+          spelled = λ fits. (done, whole names before done after fits);
+          opens = (spelled.0, spelled.1, spelled.2.1);
+          unended = All-nil (λ l. ¬ (IsLine SpellsEnd l));
+        },
+        record {
+          before = before;
+          head = line;
+          behind = [];
+          parts = [];
+          lines_are = refl;
+          number = refl;
+          spelled = λ fits. whole names before done after fits;
+          opens = (spelled.0, spelled.1, spelled.2.1);
+          says = refl;
+          steps = refl;
+          jumps = refl;
+          labels = refl;
+          behind_is = refl;
+          placed = tt;
+          new = tt;
+        },
+      )
   line_opens done (Some o) (Some (said.Opens f)) next after says (inr spelled) takes = absurd (false≢true (sym spelled.2.0))
   line_opens done None (Some (said.Asks call)) next after says (inr spelled) takes = absurd (false≢true spelled.2.0)
-  line_opens done (Some o) (Some (said.Asks call)) next after says (inr spelled) takes =
-      let t = tested_ok (ltb (length o.script.steps) most_steps) (Ok (reading done (Some (opened o.line o.script.function (o.script.steps ++ (call ∷ [])))))) TooMany next takes in
-      let same : reading done (Some (opened o.line o.script.function (o.script.steps ++ (call ∷ [])))) ≡ next = let e = t.1 in cc in
-      subst (λ (r : Reading). Opened names (before ++ (line ∷ [])) r.unclosed) same (behind_more o.line (no_end (Some (said.Asks call)) says (λ e. absurd cc)) after.open_since)
+  line_opens done (Some o) (Some (said.Asks call)) next after says (inr spelled) takes = part_opens done o (Asks call) next (spelled.0, spelled.1, spelled.2.1) after says takes (λ e. absurd cc)
+  line_opens done None (Some (said.Stands name)) next after says (inr spelled) takes = absurd (false≢true spelled.2.0)
+  line_opens done (Some o) (Some (said.Stands name)) next after says (inr spelled) takes = part_opens done o (Stands name) next (spelled.0, spelled.1, spelled.2.1) after says takes (λ e. absurd cc)
+  line_opens done None (Some (said.Jumps answer name)) next after says (inr spelled) takes = absurd (false≢true spelled.2.0)
+  line_opens done (Some o) (Some (said.Jumps answer name)) next after says (inr spelled) takes = part_opens done o (Jumps answer name) next (spelled.0, spelled.1, spelled.2.1) after says takes (λ e. absurd cc)
   line_opens done None (Some said.Closes) next after says (inr spelled) takes = absurd (false≢true spelled.2.0)
   line_opens done (Some o) (Some said.Closes) next after says (inr spelled) takes =
-      let same : reading (done ++ (o.script ∷ [])) None ≡ next = let e = takes in cc in
-      subst (λ (r : Reading). Opened names (before ++ (line ∷ [])) r.unclosed) same tt
+      let t = closed_parts done o next (linked o.labels o.jumps) refl takes in
+      subst (λ (r : Reading). Opened names (before ++ (line ∷ [])) r.scripts r.unclosed) t.2 tt
 
 module _ (names : NameLists) (valid : AreValid names) (before : List (List ℕ)) (done : List Steps) (unclosed : Option Open) (after : After names before done unclosed) where
   module _ (line : List ℕ) (here : list_all (λ b. not (eqb b 10)) line ≡ true) where
@@ -218,15 +560,15 @@ module _ (names : NameLists) (valid : AreValid names) (before : List (List ℕ))
           parts = parts;
           apart = apart-cons before line after.apart here;
           number = refl;
-          faultless = no_faults names before done unclosed after;
-          kind = λ fits. (done, script_of unclosed, leaves_open names before done unclosed after fits, line_fault names (length before + 1) (reading done unclosed) line kind valid read);
+          faultless = no_faults names valid before done unclosed after;
+          kind = (done, unclosed, says_open names valid before done unclosed after, line_fault names (length before + 1) (reading done unclosed) line kind valid read);
           never = λ more scripts s. no_fault scripts (record { kind = kind; line = length before + 1 })
               (sym (scripts_in-spelled names (lines_text before ++ (line ++ (10 ∷ more))) scripts valid s) ∙ told more s.short);
           told = told;
         }
 
 -- the end of the text
-module _ (names : NameLists) (text : List ℕ) (fault : TextFault) (fits : length text ≤ most_bytes) (before : List (List ℕ)) (last : List ℕ) (parts : text ≡ lines_text before ++ last)
+module _ (names : NameLists) (valid : AreValid names) (text : List ℕ) (fault : TextFault) (fits : length text ≤ most_bytes) (before : List (List ℕ)) (last : List ℕ) (parts : text ≡ lines_text before ++ last)
     (here : list_all (λ b. not (eqb b 10)) last ≡ true) where
   open_lines : (n : ℕ) → IsOpenSince names before n → AreOpen names before n
   open_lines n s =
@@ -252,7 +594,7 @@ module _ (names : NameLists) (text : List ℕ) (fault : TextFault) (fits : lengt
         parts = parts;
         apart = apart-cons before last after.apart here;
         kind = sym (ap (λ (f : TextFault). f.kind) same);
-        faultless = no_faults names before done unclosed after;
+        faultless = no_faults names valid before done unclosed after;
         here = inl ((λ rest. false≢true (sym is ∙ rest_read last rest)), sym (ap (λ (f : TextFault). f.line) same));
       }
   ends done None after true is e = absurd (no_fault done fault e)
@@ -264,8 +606,8 @@ module _ (names : NameLists) (text : List ℕ) (fault : TextFault) (fits : lengt
         parts = parts;
         apart = apart-cons before last after.apart here;
         kind = sym (ap (λ (f : TextFault). f.kind) same);
-        faultless = no_faults names before done (Some o) after;
-        here = inr (skipped_parts last is, subst (AreOpen names before) (ap (λ (f : TextFault). f.line) same) (open_lines o.line after.open_since));
+        faultless = no_faults names valid before done (Some o) after;
+        here = inr (skipped_parts last is, subst (AreOpen names before) (ap (λ (f : TextFault). f.line) same) (open_lines o.line after.open_since.0));
       }
 
 abbrev Found : NameLists → List ℕ → TextFault → Type 0
@@ -292,7 +634,7 @@ module _ (names : NameLists) (valid : AreValid names) (text : List ℕ) (fault :
   find : (lines : List (List ℕ)) → 0 < length lines → AreApart lines → Behind names text fault lines
   find [] some apart before done unclosed after parts e = absurd (omega (arith, some))
   find (last ∷ []) some apart before done unclosed after parts e =
-      inr (ends names text fault fits before last parts (and_parts (list_all (λ b. not (eqb b 10)) last) true apart).0 done unclosed after (is_skipped last) refl
+      inr (ends names valid text fault fits before last parts (and_parts (list_all (λ b. not (eqb b 10)) last) true apart).0 done unclosed after (is_skipped last) refl
       (sym (last_line names (length before) (reading done unclosed) last apart) ∙ e))
   find (line ∷ next ∷ lines) some apart before done unclosed after parts e =
       let p = and_parts (list_all (λ b. not (eqb b 10)) line) (list_all (list_all (λ b. not (eqb b 10))) (next ∷ lines)) apart in

@@ -1,13 +1,13 @@
 -- What reading keeps: of each step what holds of every call that is read, and the limits.
-use Rattle.std.proofs.Common.{◌≡◌, ◌≢◌, ℕ, ◌+◌, ◌≤◌, ◌==◌, Bool, false, not, List, [], ◌∷◌, ◌++◌, length, length-append, Option, Some, None, Result, Ok, Err, refl, arith}
+use Rattle.std.proofs.Common.{◌≡◌, ◌≢◌, ℕ, ◌+◌, ◌≤◌, ◌==◌, Bool, false, not, ◌&&◌, List, [], ◌∷◌, ◌++◌, length, length-append, Option, Some, None, Result, Ok, Err, refl, arith}
 use Rattle.std.specs.Prelude.{All, IfOk, is_some, nat_lt, codes}
 use Rattle.std.specs.List.{list_all, list_any, AllPairs}
 use Rattle.std.specs.Str.{bytes_eq}
 use Rattle.std.proofs.lemmas.Bool.{cond_both, ltb-true, eqb-false}
 use Rattle.std.proofs.lemmas.List.Elements.{All-nil, All-push}
 use Rattle.std.proofs.lemmas.List.Quantifiers.{all_pairs_push}
-use Rattle.fmp_bytes.specs.declared.classes.Class.TheVariants.{Blank, Word, Line}
-use Rattle.fmp_bytes.specs.Bytes.{is_of, prefix, after}
+use Rattle.fmp_bytes.specs.declared.classes.Class.TheVariants.{Argument, Blank, Word, Line}
+use Rattle.fmp_bytes.specs.Bytes.{is_of, prefix, after, behind, colon, is_identifier}
 use Rattle.fmp_bytes.specs.Results.{◌>>=◌}
 use Rattle.fmp_calls.specs.Arguments.{CallInBits}
 use Rattle.fmp_codes.specs.declared.calls.Call.{Call}
@@ -22,9 +22,14 @@ use Rattle.fmp_text.proofs.SpelledCalls.{call_is_spelled}
 use Rattle.fmp_text.proofs.Limited.{call_in_bits}
 use Rattle.fmp_text_scripts.specs.declared.line.Said.{Said}
 use Rattle.fmp_text_scripts.specs.declared.line.Said.TheVariants as said
-use Rattle.fmp_text_scripts.specs.Scripts.{Steps, AreInBits, most_steps}
-use Rattle.fmp_text_scripts.specs.Lines.{function_in, begins, ends, asks, said_by, said_in}
-use Rattle.fmp_text_scripts.specs.Texts.{Open, Reading, nothing_read, asked, closed, took, with_line, at_end, after_line, scripts_from, scripts_in}
+use Rattle.fmp_text_scripts.specs.declared.ways.Pattern.{Pattern}
+use Rattle.fmp_text_scripts.specs.declared.ways.Way.{Way}
+use Rattle.fmp_text_scripts.specs.Linking.{has_label, linked}
+use Rattle.fmp_text_scripts.specs.Scripts.{Steps, AreInBits}
+use Rattle.fmp_text_scripts.specs.Ways.{most_steps, most_labels, most_ways}
+use Rattle.fmp_text_scripts.specs.Lines.{label_in, function_in, begins, ends, asks, goal_in, pattern_of, valued, turned, turn_with, turn_in, turns, goes, stands, other_said, are_line, said_by, said_in}
+use Rattle.fmp_text_scripts.proofs.Linked.{linked_long}
+use Rattle.fmp_text_scripts.specs.Texts.{Open, Reading, nothing_read, asked, labelled, jumped, ended, closed, took, with_line, at_end, after_line, scripts_from, scripts_in}
 
 -- ---- what a line says
 
@@ -53,18 +58,52 @@ module _ (names : NameLists) (P : Call → Type 0) (reads : (text : List ℕ) (c
   unfolding asks
   step_fits inside text = cond_both (not inside) _ _ (SaidFits P) (λ _. tt) (λ _. asks_fits text (call_in names text) refl)
 
+  -- what says neither a call is no call
+  turned_fits : (answer : Result Pattern TextKind) (name : Result (List ℕ) TextKind) → SaidFits P (answer >>= λ a. name >>= λ n. Ok (Some (said.Jumps a n)))
+  turned_fits (Ok a) (Ok n) = tt
+  turned_fits (Ok a) (Err e) = tt
+  turned_fits (Err e) name = tt
+
+  turn_with_fits : (word rest : List ℕ) (o : Option (List ℕ)) → SaidFits P (turn_with word rest o)
+  turn_with_fits word rest None = turned_fits (pattern_of word) (goal_in rest)
+  turn_with_fits word rest (Some text) = turned_fits (valued word (prefix Argument text)) (goal_in (after Argument text))
+
+  turns_fits : (inside : Bool) (text : List ℕ) → SaidFits P (turns inside text)
+  unfolding turns turn_in
+  turns_fits inside text = cond_both (not inside) _ _ (SaidFits P) (λ _. tt) (λ _. turn_with_fits _ _ _)
+
+  named_fits : (name : Result (List ℕ) TextKind) (a : Pattern) → SaidFits P (name >>= λ n. Ok (Some (said.Jumps a n)))
+  named_fits (Ok n) a = tt
+  named_fits (Err e) a = tt
+
+  goes_fits : (inside : Bool) (text : List ℕ) → SaidFits P (goes inside text)
+  unfolding goes
+  goes_fits inside text = cond_both (not inside) _ _ (SaidFits P) (λ _. tt) (λ _. named_fits (label_in text) _)
+
+  stands_fits : (inside : Bool) (name text : List ℕ) → SaidFits P (stands inside name text)
+  unfolding stands
+  stands_fits inside name text =
+      cond_both (not inside) _ _ (SaidFits P) (λ _. tt) (λ _. cond_both (is_identifier name && list_all (is_of Blank) text) _ _ (SaidFits P) (λ _. tt) (λ _. tt))
+
+  other_fits : (inside : Bool) (text : List ℕ) (o : Option (List ℕ)) → SaidFits P (other_said names inside text o)
+  other_fits inside text None = step_fits inside text
+  other_fits inside text (Some rest) = stands_fits inside _ rest
+
   by_word_fits : (inside : Bool) (text : List ℕ) → SaidFits P (said_by names inside text)
   unfolding said_by
   by_word_fits inside text =
       cond_both (bytes_eq (prefix Word (after Blank text)) (codes "script")) _ _ (SaidFits P) (λ _. begins_fits inside _)
       (λ _. cond_both (bytes_eq (prefix Word (after Blank text)) (codes "end")) _ _ (SaidFits P) (λ _. ends_fits inside _)
-      (λ _. cond_both (bytes_eq (prefix Word (after Blank text)) (codes "ret_hdr")) _ _ (SaidFits P) (λ _. tt) (λ _. step_fits inside text)))
+      (λ _. cond_both (bytes_eq (prefix Word (after Blank text)) (codes "ret_hdr")) _ _ (SaidFits P) (λ _. tt)
+      (λ _. cond_both (bytes_eq (prefix Word (after Blank text)) (codes "on")) _ _ (SaidFits P) (λ _. turns_fits inside _)
+      (λ _. cond_both (bytes_eq (prefix Word (after Blank text)) (codes "goto")) _ _ (SaidFits P) (λ _. goes_fits inside _)
+      (λ _. other_fits inside text (behind colon (after Blank (after Word (after Blank text)))))))))
 
   said_fits : (inside : Bool) (line : List ℕ) → SaidFits P (said_in names inside line)
   unfolding said_in
   said_fits inside line =
       cond_both (is_skipped (without_return line)) _ _ (SaidFits P) (λ _. tt)
-      (λ _. cond_both (list_all (is_of Line) (without_return line)) _ _ (SaidFits P) (λ _. by_word_fits inside _) (λ _. tt))
+      (λ _. cond_both (are_line (without_return line)) _ _ (SaidFits P) (λ _. by_word_fits inside _) (λ _. tt))
 
 -- ---- what is read
 
@@ -72,16 +111,18 @@ module _ (names : NameLists) (P : Call → Type 0) (reads : (text : List ℕ) (c
 pub record Fits (P : Call → Type 0) (scripts : List Steps) : Type 0 where
   pub steps : All (λ s. All P s.steps) scripts
   pub few : All (λ s. length s.steps ≤ most_steps) scripts
+  pub few_ways : All (λ s. length s.ways ≤ most_ways) scripts
   pub once : AllPairs (λ s t. s.function ≢ t.function) scripts
 
-record OpenFits (P : Call → Type 0) (scripts : List Steps) (s : Steps) : Type 0 where
-  steps : All P s.steps
-  few : length s.steps ≤ most_steps
-  new : list_any (λ t. t.function == s.function) scripts ≡ false
+record OpenFits (P : Call → Type 0) (scripts : List Steps) (o : Open) : Type 0 where
+  steps : All P o.steps
+  few : length o.steps ≤ most_steps
+  few_jumps : length o.jumps ≤ most_ways
+  new : list_any (λ t. t.function == o.function) scripts ≡ false
 
 abbrev UnclosedFits : (Call → Type 0) → List Steps → Option Open → Type 0
 UnclosedFits P scripts None = Unit {0}
-UnclosedFits P scripts (Some o) = OpenFits P scripts o.script
+UnclosedFits P scripts (Some o) = OpenFits P scripts o
 
 record ReadingFits (P : Call → Type 0) (r : Reading) : Type 0 where
   scripts : Fits P r.scripts
@@ -96,42 +137,76 @@ AllFits P (Ok scripts) = Fits P scripts
 AllFits P (Err e) = Unit {0}
 
 none_fits : (P : Call → Type 0) → Fits P []
-none_fits P = record { steps = All-nil (λ s. All P s.steps); few = All-nil (λ s. length s.steps ≤ most_steps); once = λ i j d below small. absurd (omega (arith, small)) }
+none_fits P = record { steps = All-nil (λ s. All P s.steps); few = All-nil (λ s. length s.steps ≤ most_steps); few_ways = All-nil (λ s. length s.ways ≤ most_ways); once = λ i j d below small. absurd (omega (arith, small)) }
 
 module _ (P : Call → Type 0) where
   asked_fits : (r : Reading) (call : Call) (o : Option Open) → Fits P r.scripts → UnclosedFits P r.scripts o → P call → ReadingFits P r → TookFits P (asked r call o)
   asked_fits r call None fits open_fits here all = all
   asked_fits r call (Some o) fits open_fits here all =
-      cond_both (nat_lt (length o.script.steps) most_steps) _ _ (TookFits P)
+      cond_both (nat_lt (length o.steps) most_steps) _ _ (TookFits P)
       (λ small. record {
         scripts = fits;
         unclosed = record {
-          steps = All-push P o.script.steps call open_fits.steps here;
-          few = omega (arith, ltb-true (length o.script.steps) most_steps small, length-append o.script.steps (call ∷ []));
+          steps = All-push P o.steps call open_fits.steps here;
+          few = omega (arith, ltb-true (length o.steps) most_steps small, length-append o.steps (call ∷ []));
+          few_jumps = open_fits.few_jumps;
           new = open_fits.new;
         };
       })
       (λ _. tt)
 
-  -- of the scripts with one more
-  more_fits : (scripts : List Steps) (s : Steps) → Fits P scripts → OpenFits P scripts s → Fits P (scripts ++ s ∷ [])
-  more_fits scripts s fits here = record {
-    steps = All-push (λ t. All P t.steps) scripts s fits.steps here.steps;
-    few = All-push (λ t. length t.steps ≤ most_steps) scripts s fits.few here.few;
-    once = all_pairs_push (λ (t u : Steps). t.function ≢ u.function) scripts s fits.once
-        (λ k d small. eqb-false _ s.function (list_any-nowhere (λ (t : Steps). t.function == s.function) scripts k d small here.new));
-  }
+  labelled_fits : (r : Reading) (name : List ℕ) (o : Option Open) → Fits P r.scripts → UnclosedFits P r.scripts o → ReadingFits P r → TookFits P (labelled r name o)
+  labelled_fits r name None fits open_fits all = all
+  labelled_fits r name (Some o) fits open_fits all =
+      cond_both (has_label o.labels name) _ _ (TookFits P) (λ _. tt)
+      (λ _. cond_both (nat_lt (length o.labels) most_labels) _ _ (TookFits P)
+      (λ _. record { scripts = fits; unclosed = record { steps = open_fits.steps; few = open_fits.few; few_jumps = open_fits.few_jumps; new = open_fits.new } }) (λ _. tt))
 
-  closed_fits : (r : Reading) (o : Option Open) → UnclosedFits P r.scripts o → ReadingFits P r → ReadingFits P (closed r o)
+  jumped_fits : (r : Reading) (a : Pattern) (name : List ℕ) (o : Option Open) → Fits P r.scripts → UnclosedFits P r.scripts o → ReadingFits P r → TookFits P (jumped r a name o)
+  jumped_fits r a name None fits open_fits all = all
+  jumped_fits r a name (Some o) fits open_fits all =
+      cond_both o.behind _ _ (TookFits P)
+      (λ _. cond_both (nat_lt (length o.jumps) most_ways) _ _ (TookFits P)
+      (λ small. record {
+        scripts = fits;
+        unclosed = record {
+          steps = open_fits.steps;
+          few = open_fits.few;
+          few_jumps = omega (arith, ltb-true (length o.jumps) most_ways small, length-append o.jumps (record { after = length o.steps; answer = a; name = name } ∷ []));
+          new = open_fits.new;
+        };
+      })
+      (λ _. tt))
+      (λ _. tt)
+
+  -- of the scripts with one more
+  more_fits : (scripts : List Steps) (o : Open) (ways : List Way) → linked o.labels o.jumps ≡ Some ways → Fits P scripts → OpenFits P scripts o → Fits P (scripts ++ record { function = o.function; steps = o.steps; ways = ways } ∷ [])
+  more_fits scripts o ways is fits here =
+      let s : Steps = record { function = o.function; steps = o.steps; ways = ways } in
+      record {
+        steps = All-push (λ t. All P t.steps) scripts s fits.steps here.steps;
+        few = All-push (λ t. length t.steps ≤ most_steps) scripts s fits.few here.few;
+        few_ways = All-push (λ t. length t.ways ≤ most_ways) scripts s fits.few_ways (omega (arith, here.few_jumps, linked_long o.labels o.jumps ways is));
+        once = all_pairs_push (λ (t u : Steps). t.function ≢ u.function) scripts s fits.once
+            (λ k d small. eqb-false _ o.function (list_any-nowhere (λ (t : Steps). t.function == o.function) scripts k d small here.new));
+      }
+
+  ended_fits : (r : Reading) (o : Open) (ways : Option (List Way)) → linked o.labels o.jumps ≡ ways → OpenFits P r.scripts o → Fits P r.scripts → TookFits P (ended r o ways)
+  ended_fits r o None is open_fits fits = tt
+  ended_fits r o (Some ways) is open_fits fits = record { scripts = more_fits r.scripts o ways is fits open_fits; unclosed = tt }
+
+  closed_fits : (r : Reading) (o : Option Open) → UnclosedFits P r.scripts o → ReadingFits P r → TookFits P (closed r o)
   closed_fits r None open_fits all = all
-  closed_fits r (Some o) open_fits all = record { scripts = more_fits r.scripts o.script all.scripts open_fits; unclosed = tt }
+  closed_fits r (Some o) open_fits all = ended_fits r o (linked o.labels o.jumps) refl open_fits all.scripts
 
   took_fits : (line : ℕ) (r : Reading) (s : Option Said) → ReadingFits P r → SaidFits P (Ok s) → TookFits P (took line r s)
   took_fits line r None fits here = fits
   took_fits line r (Some (said.Opens f)) fits here =
       cond_both (list_any (λ s. s.function == f) r.scripts) _ _ (TookFits P) (λ _. tt)
-      (λ new. record { scripts = fits.scripts; unclosed = record { steps = All-nil P; few = omega arith; new = new } })
+      (λ new. record { scripts = fits.scripts; unclosed = record { steps = All-nil P; few = omega arith; few_jumps = omega arith; new = new } })
   took_fits line r (Some (said.Asks call)) fits here = asked_fits r call r.unclosed fits.scripts fits.unclosed here fits
+  took_fits line r (Some (said.Stands name)) fits here = labelled_fits r name r.unclosed fits.scripts fits.unclosed fits
+  took_fits line r (Some (said.Jumps a name)) fits here = jumped_fits r a name r.unclosed fits.scripts fits.unclosed fits
   took_fits line r (Some said.Closes) fits here = closed_fits r r.unclosed fits.unclosed fits
 
   line_fits : (line : ℕ) (r : Reading) (s : Result (Option Said) TextKind) → ReadingFits P r → SaidFits P s → TookFits P (s >>= λ x. took line r x)

@@ -1,7 +1,11 @@
--- The grammar of script texts, apart from how they are read: which texts spell which scripts.
-use Rattle.std.specs.Prelude.{◌≡◌, ◌≢◌, ℕ, ◌≤◌, ◌⊎◌, ◌==◌, not, true, List, [], ◌∷◌, ◌++◌, length, Option, Some, None, All, codes}
+-- The grammar of script texts, apart from how they are read: which texts spell which scripts. It has two levels: the lines spell sources, in which labels
+-- have names; and the names of a source say where its script goes on.
+use Rattle.std.specs.Prelude.{◌≡◌, ◌≢◌, ℕ, ◌+◌, ◌^◌, ◌<◌, ◌≤◌, ◌⊎◌, ◌==◌, Bool, true, false, not, ◌&&◌, List, [], ◌∷◌, ◌++◌, length, Option, Some, None, All, codes}
 use Rattle.std.specs.List.{list_all, join_with_byte, AllPairs}
-use Rattle.fmp_bytes.specs.Bytes.{line_feed}
+use Rattle.fmp_bytes.specs.Bytes.{colon, is_identifier, line_feed}
+use Rattle.fmp_bytes.specs.Numerals.{signed_of}
+use Rattle.fmp_bytes.specs.Spelling.{SpellsNumber}
+use Rattle.fmp_codes.specs.Codes as code
 use Rattle.fmp_codes.specs.declared.calls.Call.{Call}
 use Rattle.fmp_codes.specs.declared.calls.Call.TheVariants as calls
 use Rattle.fmp_calls.specs.declared.kinds.NameKind.TheVariants.{Function}
@@ -9,7 +13,82 @@ use Rattle.fmp_names.specs.Names.{NameLists, name_of}
 use Rattle.fmp_text.specs.Limits.{most_bytes}
 use Rattle.fmp_text.specs.Grammar.{AreBlank, Padded, SpellsCall}
 use Rattle.fmp_text.specs.TextGrammar.{Ended, SpellsNothing, IsRest}
-use Rattle.fmp_text_scripts.specs.Scripts.{Steps, most_steps}
+use Rattle.fmp_text_scripts.specs.declared.linking.Jump.{Jump}
+use Rattle.fmp_text_scripts.specs.declared.linking.Label.{Label}
+use Rattle.fmp_text_scripts.specs.declared.ways.Pattern.{Pattern}
+use Rattle.fmp_text_scripts.specs.declared.ways.Pattern.TheVariants as pattern
+use Rattle.fmp_text_scripts.specs.Lines.{is_taken}
+use Rattle.fmp_text_scripts.specs.Linking.{has_label, is_any, linked}
+use Rattle.fmp_text_scripts.specs.Scripts.{Steps}
+use Rattle.fmp_text_scripts.specs.Ways.{most_steps, most_labels, most_ways}
+
+-- ---- sources
+
+-- what a line between `script` and `end` says: a call; a label of a name; or where the script goes on behind the call before it, for some of its answers
+-- or, by `goto`, for all
+pub data Part : Type 0 where
+  Asks : Call → Part
+  Stands : List ℕ → Part
+  Jumps : Pattern → List ℕ → Part
+
+pub record Source : Type 0 where
+  pub function : ℕ
+  pub parts : List Part
+
+-- the calls, and behind n calls the jumps and the labels, each with how many calls stand before it
+abbrev pub calls_of : List Part → List Call
+calls_of [] = []
+calls_of (Asks call ∷ parts) = call ∷ calls_of parts
+calls_of (Stands name ∷ parts) = calls_of parts
+calls_of (Jumps answer name ∷ parts) = calls_of parts
+
+abbrev pub jumps_of : ℕ → List Part → List Jump
+jumps_of n [] = []
+jumps_of n (Asks call ∷ parts) = jumps_of (n + 1) parts
+jumps_of n (Stands name ∷ parts) = jumps_of n parts
+jumps_of n (Jumps answer name ∷ parts) = record { after = n; answer = answer; name = name } ∷ jumps_of n parts
+
+abbrev pub labels_of : ℕ → List Part → List Label
+labels_of n [] = []
+labels_of n (Asks call ∷ parts) = labels_of (n + 1) parts
+labels_of n (Stands name ∷ parts) = record { name = name; at = n } ∷ labels_of n parts
+labels_of n (Jumps answer name ∷ parts) = labels_of n parts
+
+-- each jump stands behind a call or an `on` of it, where `behind` says so of the first part
+abbrev pub ArePlaced : Bool → List Part → Type 0
+ArePlaced behind [] = Unit {0}
+ArePlaced behind (Asks call ∷ parts) = ArePlaced true parts
+ArePlaced behind (Stands name ∷ parts) = ArePlaced false parts
+ArePlaced behind (Jumps answer name ∷ parts) = (behind ≡ true) × ArePlaced (not (is_any answer)) parts
+
+-- whether a jump may stand behind these parts
+abbrev pub is_behind : Bool → List Part → Bool
+is_behind behind [] = behind
+is_behind behind (Asks call ∷ parts) = is_behind true parts
+is_behind behind (Stands name ∷ parts) = is_behind false parts
+is_behind behind (Jumps answer name ∷ parts) = is_behind (not (is_any answer)) parts
+
+-- no label has the name of one before it, and there are not too many, where n calls and these labels stand before
+abbrev pub AreNew : ℕ → List Label → List Part → Type 0
+AreNew n labels [] = Unit {0}
+AreNew n labels (Asks call ∷ parts) = AreNew (n + 1) labels parts
+AreNew n labels (Stands name ∷ parts) = (has_label labels name ≡ false) × (length labels < most_labels) × AreNew n (labels ++ record { name = name; at = n } ∷ []) parts
+AreNew n labels (Jumps answer name ∷ parts) = AreNew n labels parts
+
+-- a source says this script: its calls, and a way for each of its jumps to the label of that name
+pub record IsScript (source : Source) (s : Steps) : Type 0 where
+  pub function : s.function ≡ source.function
+  pub steps : s.steps ≡ calls_of source.parts
+  pub ways : linked (labels_of 0 source.parts) (jumps_of 0 source.parts) ≡ Some s.ways
+  pub placed : ArePlaced false source.parts
+  pub new : AreNew 0 [] source.parts
+
+abbrev pub AreScripts : List Source → List Steps → Type 0
+AreScripts [] [] = Unit {0}
+AreScripts (source ∷ sources) (s ∷ scripts) = IsScript source s × AreScripts sources scripts
+AreScripts _ _ = ⊥
+
+-- ---- lines
 
 -- `script`, at least one blank, and the name of a function, with blanks around
 pub record SpellsHead (names : NameLists) (text : List ℕ) (function : ℕ) : Type 0 where
@@ -28,29 +107,86 @@ SpellsEnd text = Padded (codes "end") text
 abbrev pub SpellsStep : NameLists → List ℕ → Call → Type 0
 SpellsStep names text call = SpellsCall names text call × (call ≢ calls.RetHdr)
 
+-- the name of a label: an identifier that begins no other line of a script
+abbrev pub IsLabelName : List ℕ → Type 0
+IsLabelName name = (is_identifier name ≡ true) × (is_taken name ≡ false)
+
+-- a name, blanks or none, and `:`, with blanks around
+pub record SpellsLabel (text name : List ℕ) : Type 0 where
+  pub between : List ℕ
+  pub between_blank : AreBlank between
+  pub is_name : IsLabelName name
+  pub padded : Padded (name ++ (between ++ (colon ∷ []))) text
+
+-- blanks, `goto`, blanks and the name of a label
+pub record SpellsGoal (text name : List ℕ) : Type 0 where
+  pub between : List ℕ
+  pub apart : 1 ≤ length between
+  pub between_blank : AreBlank between
+  pub is_name : IsLabelName name
+  pub padded : Padded (codes "goto" ++ (between ++ name)) text
+
+-- the answers that a word is for: `refused`, the name of a code, or that with a value
+abbrev pub SpellsAnswer : List ℕ → Pattern → Type 0
+SpellsAnswer token pattern.Any = ⊥
+SpellsAnswer token pattern.Refused = token ≡ codes "refused"
+SpellsAnswer token (pattern.Coded c) = token ≡ code.name_of c
+SpellsAnswer token (pattern.Valued c v) =
+    (number : List ℕ) × (negative : Bool) × (magnitude : ℕ) × SpellsNumber number negative magnitude × (signed_of (2 ^ 63) negative magnitude ≡ Some v) × (token ≡ code.name_of c ++ (colon ∷ number))
+
+-- blanks, `on`, blanks, an answer, and blanks before `goto` and a name
+pub record SpellsOn (text : List ℕ) (answer : Pattern) (name : List ℕ) : Type 0 where
+  pub before : List ℕ
+  pub between : List ℕ
+  pub token : List ℕ
+  pub rest : List ℕ
+  pub before_blank : AreBlank before
+  pub between_blank : AreBlank between
+  pub apart : 1 ≤ length between
+  pub is_answer : SpellsAnswer token answer
+  pub goal : SpellsGoal rest name
+  pub goal_apart : 1 ≤ length goal.padded.before
+  pub parts : text ≡ before ++ (codes "on" ++ (between ++ (token ++ rest)))
+
+abbrev pub SpellsPart : NameLists → List ℕ → Part → Type 0
+SpellsPart names text (Asks call) = SpellsStep names text call
+SpellsPart names text (Stands name) = SpellsLabel text name
+SpellsPart names text (Jumps pattern.Any name) = SpellsGoal text name
+SpellsPart names text (Jumps answer name) = SpellsOn text answer name
+
 -- a line that is so, or with a carriage return at its end
 abbrev pub IsLine : (List ℕ → Type 0) → List ℕ → Type 0
 IsLine Is line = (core : List ℕ) × Ended core line × Is core
 
--- the lines spell the scripts. Where a script is open, they spell its other steps before these
-abbrev pub SpellsLines : NameLists → List (List ℕ) → Option (List Call) → List Steps → Type 0
-SpellsLines names [] inside scripts = ⊥
-SpellsLines names (last ∷ []) None scripts = IsRest last × (scripts ≡ [])
-SpellsLines names (last ∷ []) (Some steps) scripts = ⊥
-SpellsLines names (line ∷ next ∷ lines) None scripts =
-    (SpellsNothing line × SpellsLines names (next ∷ lines) None scripts)
-    ⊎ ((s : Steps) × (others : List Steps) × IsLine (λ text. SpellsHead names text s.function) line × (scripts ≡ s ∷ others) × SpellsLines names (next ∷ lines) (Some s.steps) others)
-SpellsLines names (line ∷ next ∷ lines) (Some steps) scripts =
-    (SpellsNothing line × SpellsLines names (next ∷ lines) (Some steps) scripts)
-    ⊎ ((IsLine SpellsEnd line × (steps ≡ []) × SpellsLines names (next ∷ lines) None scripts)
-    ⊎ ((call : Call) × (others : List Call) × IsLine (λ text. SpellsStep names text call) line × (steps ≡ call ∷ others) × SpellsLines names (next ∷ lines) (Some others) scripts))
+-- the lines spell parts, each line one part or none
+abbrev pub SpellsParts : NameLists → List (List ℕ) → List Part → Type 0
+SpellsParts names [] parts = parts ≡ []
+SpellsParts names (line ∷ lines) parts =
+    (SpellsNothing line × SpellsParts names lines parts)
+    ⊎ ((part : Part) × (others : List Part) × IsLine (λ text. SpellsPart names text part) line × (parts ≡ part ∷ others) × SpellsParts names lines others)
+
+-- the lines spell the sources. Where a script is open, they spell its other parts before these
+abbrev pub SpellsLines : NameLists → List (List ℕ) → Option (List Part) → List Source → Type 0
+SpellsLines names [] inside sources = ⊥
+SpellsLines names (last ∷ []) None sources = IsRest last × (sources ≡ [])
+SpellsLines names (last ∷ []) (Some parts) sources = ⊥
+SpellsLines names (line ∷ next ∷ lines) None sources =
+    (SpellsNothing line × SpellsLines names (next ∷ lines) None sources)
+    ⊎ ((s : Source) × (others : List Source) × IsLine (λ text. SpellsHead names text s.function) line × (sources ≡ s ∷ others) × SpellsLines names (next ∷ lines) (Some s.parts) others)
+SpellsLines names (line ∷ next ∷ lines) (Some parts) sources =
+    (SpellsNothing line × SpellsLines names (next ∷ lines) (Some parts) sources)
+    ⊎ ((IsLine SpellsEnd line × (parts ≡ []) × SpellsLines names (next ∷ lines) None sources)
+    ⊎ ((part : Part) × (others : List Part) × IsLine (λ text. SpellsPart names text part) line × (parts ≡ part ∷ others) × SpellsLines names (next ∷ lines) (Some others) sources))
 
 -- a whole text: lines with line feeds between them, within the limits, and no function with two scripts
 pub record SpellsScripts (names : NameLists) (text : List ℕ) (scripts : List Steps) : Type 0 where
   pub lines : List (List ℕ)
+  pub sources : List Source
   pub parts : text ≡ join_with_byte line_feed lines
   pub cut : list_all (list_all (λ b. not (b == line_feed))) lines ≡ true
-  pub spelled : SpellsLines names lines None scripts
+  pub spelled : SpellsLines names lines None sources
+  pub linked : AreScripts sources scripts
   pub once : AllPairs (λ s t. s.function ≢ t.function) scripts
   pub few : All (λ s. length s.steps ≤ most_steps) scripts
+  pub few_ways : All (λ s. length s.ways ≤ most_ways) scripts
   pub short : length text ≤ most_bytes

@@ -1,25 +1,35 @@
 -- Reading a script text, up to its first fault.
-use Rattle.std.specs.Prelude.{◌≡◌, ◌⊎◌, ℕ, ◌+◌, ◌==◌, nat_lt, List, [], ◌∷◌, ◌++◌, length, Option, Some, None, is_some, Result, Ok, Err, if◌then◌else◌}
+use Rattle.std.specs.Prelude.{◌≡◌, ◌⊎◌, ℕ, ◌+◌, ◌==◌, nat_lt, Bool, true, false, not, List, [], ◌∷◌, ◌++◌, length, Option, Some, None, is_some, Result, Ok, Err, if◌then◌else◌}
 use Rattle.std.specs.List.{list_any}
 use Rattle.fmp_bytes.specs.Bytes.{line_feed}
 use Rattle.fmp_bytes.specs.Results.{◌>>=◌}
 use Rattle.fmp_codes.specs.declared.calls.Call.{Call}
 use Rattle.fmp_text.specs.declared.fault.TextFault.{TextFault}
 use Rattle.fmp_text.specs.declared.fault.TextKind.{TextKind}
-use Rattle.fmp_text.specs.declared.fault.TextKind.TheVariants.{WrongArguments, CutShort, TooMany}
+use Rattle.fmp_text.specs.declared.fault.TextKind.TheVariants.{BadWord, UnknownName, WrongArguments, CutShort, TooMany}
 use Rattle.fmp_text.specs.Limits.{most_bytes}
 use Rattle.fmp_text.specs.Events.{IsMemory}
 use Rattle.fmp_text.specs.Lines.{is_skipped}
 use Rattle.fmp_names.specs.Names.{NameLists}
 use Rattle.fmp_text_scripts.specs.declared.line.Said.{Said}
 use Rattle.fmp_text_scripts.specs.declared.line.Said.TheVariants as said
-use Rattle.fmp_text_scripts.specs.Scripts.{Steps, most_steps}
+use Rattle.fmp_text_scripts.specs.declared.ways.Pattern.{Pattern}
+use Rattle.fmp_text_scripts.specs.declared.ways.Way.{Way}
+use Rattle.fmp_text_scripts.specs.Scripts.{Steps}
+use Rattle.fmp_text_scripts.specs.Ways.{most_steps, most_labels, most_ways}
+use Rattle.fmp_text_scripts.specs.declared.linking.Jump.{Jump}
+use Rattle.fmp_text_scripts.specs.declared.linking.Label.{Label}
+use Rattle.fmp_text_scripts.specs.Linking.{is_any, has_label, linked}
 use Rattle.fmp_text_scripts.specs.Lines.{said_in}
 
--- a script that is open, with the line that opened it
+-- a script that is open, with the line that opened it; `behind` says that the last line which said something is a call or an `on`
 pub record Open : Type 0 where
   pub line : ℕ
-  pub script : Steps
+  pub function : ℕ
+  pub steps : List Call
+  pub jumps : List Jump
+  pub labels : List Label
+  pub behind : Bool
 
 -- what the lines of a text say so far
 pub record Reading : Type 0 where
@@ -33,23 +43,49 @@ nothing_read = record { scripts = []; unclosed = None }
 abbrev pub asked : Reading → Call → Option Open → Result Reading TextKind
 asked r call None = Ok r
 asked r call (Some o) =
-    if nat_lt (length o.script.steps) most_steps
-    then Ok (record r { unclosed = Some (record { line = o.line; script = record { function = o.script.function; steps = o.script.steps ++ call ∷ [] } }) })
+    if nat_lt (length o.steps) most_steps
+    then Ok (record r { unclosed = Some (record o { steps = o.steps ++ call ∷ []; behind = true }) })
     else Err TooMany
 
+-- one label more of the open script, whose name no other of its labels may have
+abbrev pub labelled : Reading → List ℕ → Option Open → Result Reading TextKind
+labelled r name None = Ok r
+labelled r name (Some o) =
+    if has_label o.labels name then Err WrongArguments
+    else (if nat_lt (length o.labels) most_labels
+    then Ok (record r { unclosed = Some (record o { labels = o.labels ++ record { name = name; at = length o.steps } ∷ []; behind = false }) })
+    else Err TooMany)
+
+-- one jump more of the open script, which has to stand behind a call or an `on`
+abbrev pub jumped : Reading → Pattern → List ℕ → Option Open → Result Reading TextKind
+jumped r answer name None = Ok r
+jumped r answer name (Some o) =
+    if o.behind
+    then (if nat_lt (length o.jumps) most_ways
+    then Ok (record r { unclosed = Some (record o { jumps = o.jumps ++ record { after = length o.steps; answer = answer; name = name } ∷ []; behind = not (is_any answer) }) })
+    else Err TooMany)
+    else Err BadWord
+
+-- the open script with its ways, if each of its jumps has a label
+abbrev pub ended : Reading → Open → Option (List Way) → Result Reading TextKind
+ended r o None = Err UnknownName
+ended r o (Some ways) = Ok (record { scripts = r.scripts ++ record { function = o.function; steps = o.steps; ways = ways } ∷ []; unclosed = None })
+
 -- the open script is closed
-abbrev pub closed : Reading → Option Open → Reading
-closed r None = r
-closed r (Some o) = record { scripts = r.scripts ++ o.script ∷ []; unclosed = None }
+abbrev pub closed : Reading → Option Open → Result Reading TextKind
+closed r None = Ok r
+closed r (Some o) = ended r o (linked o.labels o.jumps)
 
 -- what is read with a line of this number that says so
 abbrev pub took : ℕ → Reading → Option Said → Result Reading TextKind
 took line r None = Ok r
 took line r (Some (said.Opens f)) =
     if list_any (λ s. s.function == f) r.scripts then Err WrongArguments
-    else Ok (record r { unclosed = Some (record { line = line; script = record { function = f; steps = [] } }) })
+    else Ok (record r { unclosed = Some (record { line = line; function = f; steps = []; jumps = []; labels = []; behind = false }) })
 took line r (Some (said.Asks call)) = asked r call r.unclosed
-took line r (Some said.Closes) = Ok (closed r r.unclosed)
+took line r (Some (said.Stands name)) = labelled r name r.unclosed
+took line r (Some (said.Jumps answer name)) = jumped r answer name r.unclosed
+took line r (Some said.Closes) = closed r r.unclosed
 
 -- what is read with a whole line of this number
 abbrev pub with_line : NameLists → ℕ → Reading → List ℕ → Result Reading TextKind

@@ -6,10 +6,17 @@ use Rattle.fmp_text_scripts.specs.Scripts.{Steps}
 use Rattle.fmp_text_scripts.specs.Texts.{Open, Reading}
 
 abbrev pub steps_of : Script → Steps
-steps_of s = record { function = s.function; steps = s.steps.items }
+steps_of s = record { function = s.function; steps = s.steps.items; ways = s.ways.items }
 
 abbrev pub open_of : Opened → Open
-open_of o = record { line = o.line; script = steps_of o.script }
+open_of o = record {
+  line = o.line;
+  function = o.function;
+  steps = o.steps.items;
+  jumps = o.jumps.items;
+  labels = o.labels.items;
+  behind = o.behind;
+}
 
 abbrev pub reading_of : List Script → Option Opened → Reading
 reading_of scripts unclosed = record { scripts = map steps_of scripts; unclosed = option_map open_of unclosed }

@@ -1,13 +1,13 @@
-//! Laws of the grammar of script texts: what is spelled is read, and what is read is spelled. And where the first fault stands.
-ghost use Rattle.std.specs.Prelude.{◌≡◌, ℕ, List, Ok, Err, option_map};
+//! Laws of the grammar of script texts: what is spelled is read, and what is read is spelled.
+ghost use Rattle.std.specs.Prelude.{◌≡◌, ℕ, List, Ok, Err};
 ghost use Rattle.fmp_names.specs.Names.{NameLists, AreValid};
 ghost use Rattle.fmp_text_scripts.specs.Scripts.{Steps};
 ghost use Rattle.fmp_text_scripts.specs.Texts.{Reading, scripts_in, with_line};
 ghost use Rattle.fmp_text_scripts.specs.ScriptGrammar.{SpellsScripts};
+ghost use Rattle.fmp_text_scripts.specs.FirstFaults.{FirstFault};
+ghost use Rattle.fmp_text_scripts.specs.ScriptFaults.{ScriptFault};
 ghost use Rattle.fmp_text.specs.declared.fault.TextFault.{TextFault};
 ghost use Rattle.fmp_text.specs.declared.fault.TextKind.{TextKind};
-ghost use Rattle.fmp_text_scripts.specs.ScriptFaults.{ScriptFault};
-ghost use Rattle.fmp_text_scripts.specs.FirstFaults.{FirstFault};
 
 /// What spells scripts, within the limits, is read as these scripts.
 pub fn spelled_scripts_are_read()
@@ -38,7 +38,7 @@ pub fn faults_stand_in_their_line()
 /// A line of a script text, behind lines that were read so, has a fault exactly where the table of faults has one for it, and then that: the first row that fits.
 pub fn faults_are_those_of_the_table()
     ensures read { (names : NameLists) (n : ℕ) (r : Reading) (line : List ℕ) (fault : TextKind) → AreValid names
-        → with_line names n r line ≡ Err fault → ScriptFault names r.scripts (option_map (λ o. o.script) r.unclosed) line fault }
+        → with_line names n r line ≡ Err fault → ScriptFault names r.scripts r.unclosed line fault }
     ensures told { (names : NameLists) (n : ℕ) (r : Reading) (line : List ℕ) (fault : TextKind) → AreValid names
-        → ScriptFault names r.scripts (option_map (λ o. o.script) r.unclosed) line fault → with_line names n r line ≡ Err fault }
+        → ScriptFault names r.scripts r.unclosed line fault → with_line names n r line ≡ Err fault }
 {}

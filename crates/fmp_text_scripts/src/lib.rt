@@ -13,8 +13,10 @@
 mod equality;
 mod laws;
 mod line;
+mod linking;
 mod reader;
 mod script;
+mod ways;
 
 pub use equality::is_same_call;
 pub use laws::{
@@ -23,3 +25,4 @@ pub use laws::{
 };
 pub use reader::{MOST_STEPS, read_scripts};
 pub use script::{Script, Scripts};
+pub use ways::{Pattern, Way};

@@ -6,7 +6,9 @@ ghost use Rattle.fmp_text_scripts.specs.Texts as spec;
 ghost use Rattle.fmp_text_scripts.specs.Texts.{Takes, ReadsAs, nothing_read};
 
 use crate::line::{Said, said_in};
+use crate::linking::{Jump, Label, Name, has_label, is_any, link};
 use crate::script::{Script, Scripts, has_script};
+use crate::ways::Pattern;
 use fmp_codes::Call;
 use fmp_text::{MOST_BYTES, Names, TextFault, TextKind, is_skipped};
 use memchr::memchr;
@@ -16,22 +18,33 @@ use std::marker::Model;
 /// The greatest number of steps of a script.
 pub const MOST_STEPS: usize = 256;
 
+/// The greatest number of labels of a script.
+const MOST_LABELS: usize = 256;
+
+/// The greatest number of jumps of a script, each of which is a way.
+const MOST_WAYS: usize = 1024;
+
 /// A script that is open, with the line that opened it.
 #[derive(Drop)]
-pub struct Opened {
-    line: u32,
-    script: Script,
+pub struct Opened<'t> {
+    pub line: u32,
+    pub function: usize,
+    pub steps: Vec<Call>,
+    pub jumps: Vec<Jump<'t>>,
+    pub labels: Vec<Label<'t>>,
+    /// Whether the last line that said something is a call or an `on`.
+    pub behind: bool,
 }
 
 /// What the lines of a text say so far.
 #[derive(Drop)]
-struct Reader {
+struct Reader<'t> {
     alloc: Global,
     scripts: Vec<Script>,
-    unclosed: Option<Opened>,
+    unclosed: Option<Opened<'t>>,
 }
 
-impl Model for Reader {
+impl<'t> Model for Reader<'t> {
     ghost use Rattle.fmp_text_scripts.specs.Texts.{Reading};
     ghost use Rattle.fmp_text_scripts.specs.Views.{reading_of};
 
@@ -40,9 +53,9 @@ impl Model for Reader {
     ghost view = { λ r. reading_of r.scripts.items r.unclosed };
 }
 
-impl Reader {
+impl<'t> Reader<'t> {
     /// Nothing was read.
-    fn new(alloc: Global) -> Reader
+    fn new(alloc: Global) -> Reader<'t>
         ensures { result ≡ nothing_read }
     {
         Reader {
@@ -76,10 +89,13 @@ impl Reader {
                 line,
             });
         }
-        let steps = Vec::new(self.alloc);
         self.unclosed = Some(Opened {
             line,
-            script: Script { function, steps },
+            function,
+            steps: Vec::new(self.alloc),
+            jumps: Vec::new(self.alloc),
+            labels: Vec::new(self.alloc),
+            behind: false,
         });
         Ok(())
     }
@@ -91,42 +107,109 @@ impl Reader {
         let Some(mut opened) = self.unclosed.take() else {
             return Ok(());
         };
-        if opened.script.steps.len() >= MOST_STEPS {
+        if opened.steps.len() >= MOST_STEPS {
             return Err(TextFault {
                 kind: TextKind::TooMany,
                 line,
             });
         }
-        opened.script.steps.push(call)?;
+        opened.steps.push(call)?;
+        opened.behind = true;
         self.unclosed = Some(opened);
         Ok(())
     }
 
-    /// Closes the open script, if any, and puts it behind those read before. It fails only where memory runs out.
+    /// Adds a label to the open script, if any. Where it has one of this name already, the fault is `WrongArguments`; where it has `MOST_LABELS`
+    /// of others, `TooMany`.
+    fn label(&mut self, line: u32, name: Name<'t>) -> Result<(), TextFault>
+        ensures { Takes (spec.took line self.old (Some (Said.Stands name.entry))) line result self.new }
+    {
+        let Some(mut opened) = self.unclosed.take() else {
+            return Ok(());
+        };
+        if has_label(&opened.labels, &name) {
+            return Err(TextFault {
+                kind: TextKind::WrongArguments,
+                line,
+            });
+        }
+        if opened.labels.len() >= MOST_LABELS {
+            return Err(TextFault {
+                kind: TextKind::TooMany,
+                line,
+            });
+        }
+        let at = opened.steps.len();
+        opened.labels.push(Label { name, at })?;
+        opened.behind = false;
+        self.unclosed = Some(opened);
+        Ok(())
+    }
+
+    /// Adds a jump to the open script, if any. Where it stands behind no call and no `on`, the fault is `BadWord`; where the script has `MOST_WAYS`
+    /// of them already, `TooMany`.
+    fn jump(&mut self, line: u32, answer: Pattern, name: Name<'t>) -> Result<(), TextFault>
+        ensures { Takes (spec.took line self.old (Some (Said.Jumps answer name.entry))) line result self.new }
+    {
+        let Some(mut opened) = self.unclosed.take() else {
+            return Ok(());
+        };
+        if !opened.behind {
+            return Err(TextFault {
+                kind: TextKind::BadWord,
+                line,
+            });
+        }
+        if opened.jumps.len() >= MOST_WAYS {
+            return Err(TextFault {
+                kind: TextKind::TooMany,
+                line,
+            });
+        }
+        let after = opened.steps.len();
+        opened.jumps.push(Jump {
+            after,
+            answer,
+            name,
+        })?;
+        opened.behind = !is_any(answer);
+        self.unclosed = Some(opened);
+        Ok(())
+    }
+
+    /// Closes the open script, if any, and puts it behind those read before. Where no label has the name of one of its jumps, the fault is
+    /// `UnknownName`.
     fn close(&mut self, line: u32) -> Result<(), TextFault>
         ensures { Takes (spec.took line self.old (Some Said.Closes)) line result self.new }
     {
         let Some(opened) = self.unclosed.take() else {
             return Ok(());
         };
-        self.scripts.push(opened.script)?;
+        let ways = link(self.alloc, line, &opened.labels, &opened.jumps)?;
+        self.scripts.push(Script {
+            function: opened.function,
+            steps: opened.steps,
+            ways,
+        })?;
         Ok(())
     }
 
     /// Takes in what a line of this number says. The error is its fault in that line, or want of memory.
-    fn take(&mut self, line: u32, said: Option<Said>) -> Result<(), TextFault>
-        ensures { Takes (spec.took line self.old said) line result self.new }
+    fn take(&mut self, line: u32, said: Option<Said<'t>>) -> Result<(), TextFault>
+        ensures { Takes (spec.took line self.old said.entry) line result self.new }
     {
         match said {
             None => Ok(()),
             Some(Said::Opens(function)) => self.begin(line, function),
             Some(Said::Asks(call)) => self.ask(line, call),
+            Some(Said::Stands(name)) => self.label(line, name),
+            Some(Said::Jumps(answer, name)) => self.jump(line, answer, name),
             Some(Said::Closes) => self.close(line),
         }
     }
 
     /// Reads a whole line of this number without its line feed. The error is its first fault, or want of memory.
-    fn read_line(&mut self, names: &Names, line: u32, text: &[u8]) -> Result<(), TextFault>
+    fn read_line(&mut self, names: &Names, line: u32, text: &'t [u8]) -> Result<(), TextFault>
         ensures { Takes (spec.with_line names.now line self.old text.now) line result self.new }
     {
         match said_in(names, self.is_open(), text) {
@@ -137,7 +220,7 @@ impl Reader {
 
     /// The scripts that were read, in the order of their text. Where one is still open, the fault is `CutShort` in the line that opened it.
     fn finish(self) -> Result<Scripts, TextFault>
-        ensures { result ≡ spec.at_end self self.unclosed }
+        ensures { result ≡ spec.at_end self.entry self.entry.unclosed }
     {
         let Reader {
             alloc: _,

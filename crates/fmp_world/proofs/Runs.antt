@@ -61,7 +61,7 @@ scripted_more c scripts h r all last = λ n x at.
 pub keeps_more : (c : Setup) (scripts : List Steps) (k k' : World Queues) (ts hs : List ℕ) (h : List Record) (e : Event) (r : Record) → KeepsHistory c scripts k ts hs h
     → ((m : State) → Stands k m → Stands k' (step numbered m e).0) → ((m : State) → Stands k m → r ≡ (step numbered m e).1)
     → (processor_of e).number ≤ c.processors → length ts ≡ 64 → length hs ≡ 8 → IsScripted c scripts h e
-    → KeepsHistory c scripts k' (moved_tasks ts r.runner r.event r.answer) (moved_handlers hs r.runner r.event r.answer) (h ++ r ∷ [])
+    → KeepsHistory c scripts k' (moved_tasks c scripts ts r) (moved_handlers c scripts hs r) (h ++ r ∷ [])
 keeps_more c scripts k k' ts hs h e r keeps stands told here ts_long hs_long scripted =
     let is : r ≡ (step numbered (state_after c h) e).1 = told (state_after c h) keeps.stands in
     let event : r.event ≡ e = ap (λ (x : Record). x.event) is ∙ step_event (state_after c h) e in
@@ -69,8 +69,8 @@ keeps_more c scripts k k' ts hs h e r keeps stands told here ts_long hs_long scr
       valid = keeps.valid;
       run = run_more c h e r keeps.run is event here;
       stands = rw (after_more c h e r event) (stands (state_after c h) keeps.stands);
-      tasks_placed = tasks_moved ts h r keeps.tasks_placed ts_long;
-      handlers_placed = handlers_moved hs h r keeps.handlers_placed hs_long;
+      tasks_placed = tasks_moved c scripts ts h r keeps.tasks_placed ts_long;
+      handlers_placed = handlers_moved c scripts hs h r keeps.handlers_placed hs_long;
       scripted = scripted_more c scripts h r keeps.scripted (rw event scripted);
     }
 
@@ -79,7 +79,7 @@ keeps_more c scripts k k' ts hs h e r keeps stands told here ts_long hs_long scr
 next_on : (c : Setup) (scripts : List Steps) (h : List Record) (p : Proc) (o : Option Runner) (e : Event) → next_call c scripts h p o ≡ Some e → processor_of e ≡ p
 next_on c scripts h p None e picked = cc
 next_on c scripts h p (Some r) e picked =
-    let is : e ≡ event.Call p (asked_at c scripts r (position_of r p h)) = cc in
+    let is : e ≡ event.Call p (asked_at c scripts r (position_of c scripts r p h)) = cc in
     rw is refl
 
 pick_on : (p : Proc) (b : Bool) (o : Option Event) (e : Event) → (o ≡ Some e → processor_of e ≡ p) → cond b (Some (event.Ipi p)) o ≡ Some e → processor_of e ≡ p

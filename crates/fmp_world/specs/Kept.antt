@@ -1,5 +1,5 @@
 -- What the types of a history and of a world keep.
-use Rattle.std.specs.Prelude.{◌≡◌, ℕ, ◌+◌, ◌<◌, ◌≤◌, List, [], ◌∷◌, ◌++◌, length, slice_index, ◌⊎◌}
+use Rattle.std.specs.Prelude.{◌≡◌, ℕ, ◌+◌, ◌<◌, ◌≤◌, ◌^◌, List, [], ◌∷◌, ◌++◌, length, slice_index, ◌⊎◌}
 use Rattle.std.specs.Global.{Vec}
 use Rattle.std.specs.Vec.{vec_capacity}
 use Rattle.fmp_codes.specs.declared.records.Record.{Record}
@@ -20,14 +20,15 @@ pub record KeepsHistory (c : Setup) (scripts : List Steps) (k : World Queues) (t
   pub valid : IsValid c
   pub run : IsRunOf c h
   pub stands : Stands k (state_after c h)
-  pub tasks_placed : TasksAre tasks h
-  pub handlers_placed : HandlersAre handlers h
+  pub tasks_placed : TasksAre c scripts tasks h
+  pub handlers_placed : HandlersAre c scripts handlers h
   pub scripted : Scripted c scripts h
 
 -- there is room for the rest of the moves, and the positions have their places
 pub record IsSized (turns : ℕ) (tasks handlers : List ℕ) (moves : Vec Move) : Type 0 where
   pub within : length moves.items ≤ turns
   pub room : turns ≤ vec_capacity moves
+  pub few : turns ≤ 2 ^ 31
   pub task_places : length tasks ≡ 64
   pub handler_places : length handlers ≡ 8
 

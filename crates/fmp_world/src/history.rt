@@ -63,6 +63,7 @@ impl<'a> History<'a> {
         scripts: &'a Scripts,
         turns: u32,
     ) -> Result<History<'a>, AllocError>
+        requires { turns ≤ 2 ^ 31 }
         ensures { IfOk result (λ w. w ≡ opening config.entry.now scripts.entry.now turns) }
     {
         Ok(History {
@@ -171,7 +172,7 @@ impl<'a> History<'a> {
 
     /// The position of a runner on a processor in its script.
     fn position(&self, runner: Runner, p: Proc) -> u32
-        ensures { result ≡ scripted.position_of runner p self.now.records }
+        ensures { result ≡ scripted.position_of self.now.config self.now.scripts runner p self.now.records }
     {
         match runner {
             Runner::Task(t) => self.tasks[t.index()],
@@ -199,8 +200,8 @@ impl<'a> History<'a> {
         ensures told { told.new ≡ told_after self.old event }
     {
         self.kernel.step_into(event, told);
-        advance_task(&mut self.tasks, told);
-        advance_handler(&mut self.handlers, told);
+        advance_task(self.config, self.scripts, &mut self.tasks, told);
+        advance_handler(self.config, self.scripts, &mut self.handlers, told);
         let receipt = Receipt {
             number: self.moves.len() as u32 + 1,
             event,

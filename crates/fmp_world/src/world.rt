@@ -1,5 +1,5 @@
 //! The world: a history whose turns and ticks are told to seats.
-ghost use Rattle.std.specs.Prelude.{◌≡◌, ◌+◌, ◌≤◌, ◌<◌, [], ◌∷◌, ◌++◌, length, IfOk, Some, None, List, MatchOption, IsTrue, ◌↔◌, is_some};
+ghost use Rattle.std.specs.Prelude.{◌≡◌, ◌+◌, ◌≤◌, ◌<◌, ◌^◌, [], ◌∷◌, ◌++◌, length, IfOk, Some, None, List, MatchOption, IsTrue, ◌↔◌, is_some};
 ghost use Rattle.fmp_codes.specs.declared.records.Record.{Record};
 ghost use Rattle.fmp_smp_histories.specs.Histories.{state_after, IsQuiet};
 ghost use Rattle.fmp_smp_histories.specs.Scripted as scripted;
@@ -65,6 +65,7 @@ impl<'a> World<'a> {
         scripts: &'a Scripts,
         turns: u32,
     ) -> Result<(World<'a>, Seats), AllocError>
+        requires { turns ≤ 2 ^ 31 }
         ensures world { IfOk result (λ r. r.0 ≡ opening config.entry.now scripts.entry.now turns) }
         ensures cpus { IfOk result (λ r. IsOpening turns r.1.cpus.items config.entry.now.processors) }
         ensures clock { IfOk result (λ r. r.1.clock ≡ record { room = turns; receipts = [] }) }

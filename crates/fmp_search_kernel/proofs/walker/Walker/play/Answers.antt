@@ -11,7 +11,7 @@ invariant_of-self c =
       c.self.invariant.1,
       c.self.invariant.2,
       rw (c.advance_task.ensures, c.advance_handler.ensures, c.advance_taken.ensures)
-          (roomy_less c.self.inside.rules _ _ _ c.self.inside.seen c.self.inside.left _ _ _ some c.self.invariant.3 c.counted-self-inside.result (counted_le c.args.marked c.self.inside.seen c.counted-self-inside.result c.counted-self-inside.ensures)),
+          (roomy_less c.self.inside.config.now c.self.inside.scripts.now c.self.inside.rules _ _ _ c.self.inside.seen c.self.inside.left c.step_into.new.told some c.self.invariant.3 c.counted-self-inside.result (counted_le c.args.marked c.self.inside.seen c.counted-self-inside.result c.counted-self-inside.ensures)),
     )
 
 pub returns-clause-place : goal.returns-clause-place

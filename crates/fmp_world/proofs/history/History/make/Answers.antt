@@ -28,21 +28,21 @@ step_into-requires c =
 pub advance_task-requires : goal.advance_task-requires
 advance_task-requires c = λ i small.
     let at = c.self.invariant.0.tasks_placed i small in
-    let le = task_position_le (i + 1) (played c.self.inside.config.now c.self.inside.scripts.now c.self.inside.moves.items) in
+    let le = task_position_le c.self.inside.config.now c.self.inside.scripts.now (i + 1) (played c.self.inside.config.now c.self.inside.scripts.now c.self.inside.moves.items) in
     let same = ap (λ w. w.turns) c.self.view_is in
     let records = ap (λ w. length w.records) c.self.view_is in
     let room = c.requires.room in
-    let range = c.self.ranges in
+    let few = c.self.invariant.2.few in
     omega arith
 
 pub advance_handler-requires : goal.advance_handler-requires
 advance_handler-requires c = λ i small.
     let at = c.self.invariant.0.handlers_placed i small in
-    let le = handler_position_le (i + 1) (played c.self.inside.config.now c.self.inside.scripts.now c.self.inside.moves.items) in
+    let le = handler_position_le c.self.inside.config.now c.self.inside.scripts.now (i + 1) (played c.self.inside.config.now c.self.inside.scripts.now c.self.inside.moves.items) in
     let same = ap (λ w. w.turns) c.self.view_is in
     let records = ap (λ w. length w.records) c.self.view_is in
     let room = c.requires.room in
-    let range = c.self.ranges in
+    let few = c.self.invariant.2.few in
     omega arith
 
 pub invariant_of-self : goal.invariant_of-self
@@ -73,6 +73,7 @@ invariant_of-self c =
       record {
         within = omega (arith, c.push_reserved.ensures.len);
         room = omega (arith, c.push_reserved.ensures.capacity, sized.room);
+        few = sized.few;
         task_places = c.advance_task.array_long.0;
         handler_places = c.advance_handler.array_long.1;
       },

@@ -12,6 +12,7 @@ invariant_of-result c =
       record {
         within = omega arith;
         room = omega (arith, c.in_ok-with_capacity.ensures.exact);
+        few = c.requires;
         task_places = refl;
         handler_places = refl;
       },
