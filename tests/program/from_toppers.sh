@@ -135,11 +135,11 @@ makes_notifications() {
         echo "  CRE_ALM($name, {TA_NULL, $notification});" >> x.cfg
         echo "  CRE_ALM($name, {TA_NULL, 0, notify_$name});" >> wanted
         printf 'x.cfg:%s: left out: what %s does (%s), which ' "$line" "$name" "${kind#\{}" >> to_tell
-        if [ "$script" = none ]; then
-            echo "changes no answer: its function is notify_$name, which makes no call" >> to_tell
-        else
-            echo "can change an answer: its function is notify_$name, whose script is $script" >> to_tell
-        fi
+        case $script in
+            none) echo "changes no answer: its function is notify_$name, which makes no call" >> to_tell ;;
+            '`'*) echo "can change an answer: its function is notify_$name, whose script has the lines $script" >> to_tell ;;
+            *) echo "can change an answer: its function is notify_$name, whose script is $script" >> to_tell ;;
+        esac
     done < "$(rows "$1")"
     echo '}' | tee -a wanted >> x.cfg
     makes wanted to_tell x.cfg
