@@ -7,7 +7,7 @@ use Rattle.std.specs.Option.{option_map, option_and_then}
 use Rattle.fmp_search.specs.declared.guided.Choice.{Choice}
 use Rattle.fmp_search.specs.declared.exploring.Answer.{Answer}
 use Rattle.fmp_search.specs.declared.exploring.Answer.TheVariants as answer
-use Rattle.fmp_search.specs.Runs.{run, Goes}
+use Rattle.fmp_search.specs.Runs.{run, Goes, Watches}
 use Rattle.fmp_search.specs.Answers.{Says, NoneWithin, NoneEver, IsShortest}
 use Rattle.fmp_search.specs.Guides.{is_of, Follows, SaysAlong, NoneWithinAlong, NoneEverAlong, IsShortestAlong, Guide, may_choose, guide, guided_after, is_empty, guided_wanted}
 
@@ -81,6 +81,15 @@ module _ {P : Type 0} (after : P → ℕ → Option P) where
       go more (Some p) on' = more p on'
 
   -- ---- one step
+
+  -- a step that may be chosen is told as it was
+  pub watches_guided : (q r : P) (cs : List Choice) (s passes : ℕ) (told : Option ℕ) → may_choose cs s ≡ true → Watches (after q s) passes told r →
+      Watches (guided_after after (guide cs q) s) passes told (guide (drop 1 cs) r)
+  watches_guided q r cs s passes told may watches = rw may (go (after q s) watches)
+    where
+      go : (o : Option P) → Watches o passes told r → Watches (option_map (guide (drop 1 cs)) o) passes told (guide (drop 1 cs) r)
+      go None h = h
+      go (Some x) h = (h.0, ap (guide (drop 1 cs)) h.1)
 
   -- a step that may be chosen goes where it went
   pub goes_guided : (q r : P) (cs : List Choice) (s : ℕ) (made : Bool) → may_choose cs s ≡ true → Goes (after q s) made r →

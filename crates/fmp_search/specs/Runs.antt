@@ -11,3 +11,8 @@ run after q (s ∷ ss) = option_and_then (λ r. run after r ss) (after q s)
 abbrev pub Goes : {P : Type 0} → Option P → Bool → P → Type 0
 Goes None made q = made ≡ false
 Goes (Some r) made q = (made ≡ true) × (q ≡ r)
+
+-- likewise, and it was told what is so of the step
+abbrev pub Watches : {P : Type 0} → Option P → ℕ → Option ℕ → P → Type 0
+Watches None passes told q = told ≡ None
+Watches (Some r) passes told q = (told ≡ Some passes) × (q ≡ r)

@@ -25,7 +25,7 @@ pub enum Answer {
 
 /// Makes `trunk` stand at the place where a layer begins, if that is the only one there: all places that are found behind it are made again from
 /// there. Gives the number of the place where it stands then. The error is want of memory.
-fn move_trunk<W: Space>(
+pub(crate) fn move_trunk<W: Space>(
     alloc: Global,
     trunk: &mut W,
     base: &mut W,

@@ -68,6 +68,8 @@ impl<'a, W: Space + Drop> Space for Guided<'a, W> {
 
     ghost wanted = { guided_wanted W.wanted };
 
+    ghost passes = { λ g s. W.passes g.place s };
+
     ghost room = { λ g. W.room g.walker };
 
     fn restart(&mut self) -> Result<(), AllocError> {
@@ -87,6 +89,15 @@ impl<'a, W: Space + Drop> Space for Guided<'a, W> {
         let made = self.walker.go(step)?;
         self.made = one_more(self.made, self.choices.len());
         Ok(made)
+    }
+
+    fn watch(&mut self, step: u8) -> Result<Option<u64>, AllocError> {
+        if !self.may_choose(step) {
+            return Ok(None);
+        }
+        let told = self.walker.watch(step)?;
+        self.made = one_more(self.made, self.choices.len());
+        Ok(told)
     }
 
     fn again(&mut self, step: u8) {

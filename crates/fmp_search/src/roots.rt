@@ -27,7 +27,7 @@ impl Model for Roots {
 
 impl Roots {
     /// No places.
-    pub(crate) fn none(alloc: Global) -> Roots
+    pub fn none(alloc: Global) -> Roots
         ensures { result ≡ [] }
     {
         Roots {

@@ -1,6 +1,6 @@
 //! What can be gone through.
 ghost use Rattle.std.specs.Prelude.{◌≡◌, ◌≤◌, ◌<◌, ◌+◌, ◌^◌, ℕ, Bool, true, false, Option, None, Some, IfOk, is_some};
-ghost use Rattle.fmp_search.specs.Runs.{Goes};
+ghost use Rattle.fmp_search.specs.Runs.{Goes, Watches};
 
 use std::alloc::AllocError;
 
@@ -21,6 +21,9 @@ pub trait Space {
     // Whether the place is looked for.
     ghost wanted: { Place → Bool };
 
+    // Which of up to 64 tests a step from a place passes, each as a bit.
+    ghost passes: { Place → ℕ → ℕ };
+
     // For how many steps more there is room, before it has to go back.
     ghost room: { Self → ℕ };
 
@@ -39,6 +42,12 @@ pub trait Space {
     fn go(&mut self, step: u8) -> Result<bool, AllocError>
         requires { 0 < room self.old }
         ensures goes { IfOk result (λ made. Goes (after (place self.old) step) made (place self.new)) }
+        ensures origin { origin self.new ≡ origin self.old };
+
+    /// Makes the step of a number as `go` does, and tells which tests it passes: bit k for test k. None where it could not be made.
+    fn watch(&mut self, step: u8) -> Result<Option<u64>, AllocError>
+        requires { 0 < room self.old }
+        ensures goes { IfOk result (λ told. Watches (after (place self.old) step) (passes (place self.old) step) told (place self.new)) }
         ensures origin { origin self.new ≡ origin self.old };
 
     /// Makes the step of a number again, of which it is known that it can be made.

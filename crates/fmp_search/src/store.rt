@@ -1,6 +1,6 @@
 //! All places that were found, and a table by which one is found again.
-ghost use Rattle.std.specs.Prelude.{◌≡◌, ◌≤◌, ◌<◌, ◌+◌, ◌^◌, ◌++◌, ◌∷◌, ◌↔◌, [], true, length, IfOk, ℕ};
-ghost use Rattle.fmp_search.specs.Trees.{found_at, IsTree, Has, StandsAt};
+ghost use Rattle.std.specs.Prelude.{◌≡◌, ◌≤◌, ◌<◌, ◌+◌, ◌^◌, ◌++◌, ◌∷◌, ◌↔◌, [], true, length, IfOk, IfSome, ℕ};
+ghost use Rattle.fmp_search.specs.Trees.{found_at, IsAt, IsTree, Has, StandsAt};
 
 use crate::nodes::{Node, stand_at};
 use crate::space::Space;
@@ -93,6 +93,36 @@ impl Store {
         }
     }
 
+    /// The number of the place where a walker stands, of this hash. None where it was not found yet. It may be none where it was.
+    pub(crate) fn find<W: Space>(
+        &self,
+        alloc: Global,
+        walker: &W,
+        other: &mut W,
+        trunk: &W,
+        stem: usize,
+        hash: u64,
+    ) -> Result<Option<u32>, AllocError>
+        requires tree { IsTree W.after (W.origin other.old) self.now.nodes.items }
+        requires origins { (W.origin other.old ≡ W.origin walker.now) × (W.origin trunk.now ≡ W.origin walker.now) }
+        requires trunk { StandsAt W.after (W.origin other.old) self.now.nodes.items stem (W.place trunk.now) (W.room trunk.now) }
+        requires depths { (i : ℕ) → i ≤ length self.now.nodes.items → (found_at W.after (W.origin other.old) self.now.nodes.items i).depth < 2 ^ 31 }
+        ensures known { IfOk result (λ n. IfSome n (λ i. IsAt W.after (W.origin other.old) self.now.nodes.items i (W.place walker.now))) }
+        ensures origin { W.origin other.new ≡ W.origin other.old }
+    {
+        let slots = self.table.len();
+        for turn in 0..slots {
+            let number = self.table[slot(hash, turn, slots)];
+            if number == NOBODY {
+                return Ok(None);
+            }
+            if self.is_at(alloc, walker, other, trunk, stem, hash, number as usize)? {
+                return Ok(Some(number));
+            }
+        }
+        Ok(None)
+    }
+
     /// Whether the place where a walker stands, of this hash, was found already.
     pub(crate) fn has<W: Space>(
         &self,
@@ -110,17 +140,10 @@ impl Store {
         ensures known { IfOk result (λ k. k ≡ true → Has W.after (W.origin other.old) self.now.nodes.items (W.place walker.now)) }
         ensures origin { W.origin other.new ≡ W.origin other.old }
     {
-        let slots = self.table.len();
-        for turn in 0..slots {
-            let number = self.table[slot(hash, turn, slots)];
-            if number == NOBODY {
-                return Ok(false);
-            }
-            if self.is_at(alloc, walker, other, trunk, stem, hash, number as usize)? {
-                return Ok(true);
-            }
+        match self.find(alloc, walker, other, trunk, stem, hash)? {
+            Some(_number) => Ok(true),
+            None => Ok(false),
         }
-        Ok(false)
     }
 
     /// Whether `walker` stands at the place of a number, of this hash. It may say no where it does. The other walker goes there to compare.
@@ -139,7 +162,7 @@ impl Store {
         requires origins { (W.origin other.old ≡ W.origin walker.now) × (W.origin trunk.now ≡ W.origin walker.now) }
         requires trunk { StandsAt W.after (W.origin other.old) self.now.nodes.items stem (W.place trunk.now) (W.room trunk.now) }
         requires depths { (i : ℕ) → i ≤ length self.now.nodes.items → (found_at W.after (W.origin other.old) self.now.nodes.items i).depth < 2 ^ 31 }
-        ensures known { IfOk result (λ k. k ≡ true → Has W.after (W.origin other.old) self.now.nodes.items (W.place walker.now)) }
+        ensures known { IfOk result (λ k. k ≡ true → IsAt W.after (W.origin other.old) self.now.nodes.items number (W.place walker.now)) }
         ensures origin { W.origin other.new ≡ W.origin other.old }
     {
         if number > self.nodes.len() {

@@ -26,6 +26,8 @@ impl<'a> Space for Walker<'a> {
 
     ghost wanted = { is_seen };
 
+    ghost passes = { λ w s. 0 };
+
     ghost room = { λ w. w.left };
 
     /// The error comes where the kernel has not the memory to become as it was at boot: kernels of one configuration have it, but no
@@ -56,6 +58,14 @@ impl<'a> Space for Walker<'a> {
         let marked = is_marked(step);
         self.play(event, marked);
         self.is_allowed(seen, marked)
+    }
+
+    fn watch(&mut self, step: u8) -> Result<Option<u64>, AllocError> {
+        if self.go(step)? {
+            Ok(Some(0))
+        } else {
+            Ok(None)
+        }
     }
 
     fn again(&mut self, step: u8) {

@@ -1,7 +1,7 @@
 //! Tests of going through all places: a board whose answers are known by hand.
 #![tactic(auto)]
 
-ghost use Rattle.std.specs.Prelude.{◌≡◌, ◌≤◌, ◌+◌, ◌*◌, ◌%◌, ◌^◌, ◌<◌, ℕ};
+ghost use Rattle.std.specs.Prelude.{◌≡◌, ◌≤◌, ◌+◌, ◌*◌, ◌%◌, ◌^◌, ◌<◌, ℕ, false};
 ghost use Rattle.fmp_test_search.specs.Board as board;
 
 use fmp_search::Space;
@@ -25,6 +25,8 @@ impl Space for Board {
 
     ghost wanted = { board.wanted };
 
+    ghost passes = { λ p s. 0 };
+
     ghost room = { λ b. 2 ^ 31 };
 
     fn restart(&mut self) -> Result<(), AllocError> {
@@ -47,6 +49,14 @@ impl Space for Board {
                 Ok(true)
             }
             _ => Ok(false),
+        }
+    }
+
+    fn watch(&mut self, step: u8) -> Result<Option<u64>, AllocError> {
+        if self.go(step)? {
+            Ok(Some(0))
+        } else {
+            Ok(None)
         }
     }
 
@@ -81,10 +91,117 @@ impl Space for Board {
     }
 }
 
+/// One who stands in a ring with a trap.
+#[derive(Drop)]
+pub struct Ring {
+    at: u8,
+    ghost low: { at < 9 },
+}
+
+/// The place behind another in the ring, or in the trap.
+fn next(at: u8) -> u8
+    requires { at < 9 }
+    ensures is { result ≡ board.next at }
+    ensures low { result < 9 }
+{
+    if at < 5 {
+        at + 1
+    } else if at < 6 {
+        0
+    } else {
+        6 + (at - 5) % 3
+    }
+}
+
+/// The tests that a step into a place passes.
+fn passes_into(at: u8) -> u64
+    ensures { result ≡ board.passes_into at }
+{
+    let trapped = if at < 6 { 0 } else { 1 };
+    let other = if at == 4 { 0 } else { 2 };
+    trapped + other
+}
+
+impl Space for Ring {
+    ghost Place = { ℕ };
+
+    ghost place = { λ r. r.at };
+
+    ghost origin = { λ r. 0 };
+
+    ghost after = { board.trap_after };
+
+    ghost wanted = { λ q. false };
+
+    ghost passes = { board.trap_passes };
+
+    ghost room = { λ r. 2 ^ 31 };
+
+    fn restart(&mut self) -> Result<(), AllocError> {
+        self.at = 0;
+        Ok(())
+    }
+
+    fn may_go(&self, step: u8) -> bool {
+        step < 2
+    }
+
+    fn go(&mut self, step: u8) -> Result<bool, AllocError> {
+        match step {
+            0 => {
+                self.at = next(self.at);
+                Ok(true)
+            }
+            1 => {
+                if self.at == 3 {
+                    self.at = 6;
+                    Ok(true)
+                } else {
+                    Ok(false)
+                }
+            }
+            _ => Ok(false),
+        }
+    }
+
+    fn watch(&mut self, step: u8) -> Result<Option<u64>, AllocError> {
+        if self.go(step)? {
+            Ok(Some(passes_into(self.at)))
+        } else {
+            Ok(None)
+        }
+    }
+
+    fn again(&mut self, step: u8) {
+        self.at = if step == 0 { next(self.at) } else { 6 };
+    }
+
+    fn copy_from(&mut self, other: &Self) -> Result<(), AllocError> {
+        self.at = other.at;
+        Ok(())
+    }
+
+    fn steps(&self) -> u8 {
+        2
+    }
+
+    fn is_wanted(&self) -> bool {
+        false
+    }
+
+    fn is_same(&self, other: &Self) -> bool {
+        self.at == other.at
+    }
+
+    fn hash(&self) -> u64 {
+        u64::from(self.at % 4)
+    }
+}
+
 #[cfg(test)]
 mod tests {
-    use crate::Board;
-    use fmp_search::{Answer, Choice, Quiet, Roots, explore, explore_along};
+    use crate::{Board, Ring};
+    use fmp_search::{Answer, Choice, Quiet, Roots, Stay, explore, explore_along, for_ever};
     use std::alloc::{AllocError, Global};
 
     /// What `explore` gives from place 1, where `goal` is looked for in up to `turns` steps and with room for `most` places.
@@ -232,5 +349,66 @@ mod tests {
     fn no_places_where_it_is_found(rt: HostRuntime) {
         let (_answer, roots) = search(rt.alloc(), 2, 4, 200).expect(&rt, "memory");
         assert_eq!(rt; roots.count(), 0);
+    }
+
+    /// What `for_ever` answers of so many tests in the ring. The error is want of memory.
+    fn stay(alloc: Global, turns: u32, most: u32, tests: u8) -> Result<Stay, AllocError>
+        requires turns { turns + 1 < 2 ^ 31 }
+        requires tests { tests ≤ 64 }
+    {
+        let mut walker = Ring { at: 0 };
+        let mut base = Ring { at: 0 };
+        let mut other = Ring { at: 0 };
+        let mut trunk = Ring { at: 0 };
+        for_ever(
+            alloc,
+            &mut walker,
+            &mut base,
+            &mut other,
+            &mut trunk,
+            &mut Quiet,
+            turns,
+            most,
+            tests,
+        )
+    }
+
+    // three steps on, and one into the trap, from which none leads out
+    #[test]
+    fn into_the_trap(rt: HostRuntime) {
+        match stay(rt.alloc(), 50, 50, 1).expect(&rt, "memory") {
+            Stay::Shortest(test, steps) => {
+                assert_eq!(rt; test, 0);
+                assert_eq!(rt; steps.len(), 4);
+            }
+            _ => panic!(rt; "the trap"),
+        }
+    }
+
+    // of no test nothing is so
+    #[test]
+    fn never_of_no_test(rt: HostRuntime) {
+        match stay(rt.alloc(), 50, 50, 0).expect(&rt, "memory") {
+            Stay::Never => {}
+            _ => panic!(rt; "never"),
+        }
+    }
+
+    // the places of three steps are not all
+    #[test]
+    fn not_known_of_few(rt: HostRuntime) {
+        match stay(rt.alloc(), 3, 50, 2).expect(&rt, "memory") {
+            Stay::NotKnown(turns) => assert_eq!(rt; turns, 3),
+            _ => panic!(rt; "not known"),
+        }
+    }
+
+    // where the room does for the trap and not for the ring, it is found, and may not be the nearest
+    #[test]
+    fn not_known_without_room(rt: HostRuntime) {
+        match stay(rt.alloc(), 50, 4, 2).expect(&rt, "memory") {
+            Stay::NotKnown(_) => {}
+            _ => panic!(rt; "not known"),
+        }
     }
 }

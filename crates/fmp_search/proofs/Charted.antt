@@ -1,0 +1,133 @@
+-- One edge more of a chart.
+use Rattle.std.proofs.Common.{◌≡◌, ◌⊎◌, inl, inr, ℕ, ◌+◌, ◌<◌, ◌≤◌, Bool, false, Option, None, Some, List, [], ◌∷◌, ◌++◌, length, get_or, refl, ap, sym, subst, ◌∙◌, arith, rules}
+use Rattle.std.specs.Prelude.{slice_get}
+use Rattle.std.proofs.lemmas.Grind.{common_steps}
+use Rattle.std.proofs.lemmas.Bool.{cases_lt}
+use Rattle.std.proofs.lemmas.Option.{slice_get_within, slice_get-get_or, get_or_from_slice_get}
+use Rattle.std.proofs.Math.ListN.{get_or-append}
+use Rattle.std.proofs.Math.Seq.{get_or-append_seam}
+use Rattle.fmp_search.specs.declared.marks.Edge.{Edge}
+use Rattle.fmp_search.specs.declared.nodes.Node.{Node}
+use Rattle.fmp_search.specs.Runs.{Watches}
+use Rattle.fmp_search.specs.Trees.{found_at, IsAt}
+use Rattle.fmp_search.specs.Forever.{IsTrueEdge, AreTrue, IsJoined}
+
+longer : {A : Type 0} (xs : List A) (x : A) → length (xs ++ x ∷ []) ≡ length xs + 1
+longer xs x = grind (arith, common_steps)
+
+pub item_stays : {A : Type 0} (xs : List A) (x y : A) (k : ℕ) → slice_get xs k ≡ Some y → slice_get (xs ++ x ∷ []) k ≡ Some y
+item_stays xs x y k h =
+    let lt = slice_get_within xs k y h in
+    let long = longer xs x in
+    slice_get-get_or (xs ++ x ∷ []) k y (omega (arith, lt, long)) ∙ ap (λ z. Some z) (get_or-append xs (x ∷ []) y k lt ∙ get_or_from_slice_get xs k y y h)
+
+pub item_last : {A : Type 0} (xs : List A) (x : A) → slice_get (xs ++ x ∷ []) (length xs) ≡ Some x
+item_last xs x =
+    let long = longer xs x in
+    slice_get-get_or (xs ++ x ∷ []) (length xs) x (omega (arith, long)) ∙ ap (λ z. Some z) (get_or-append_seam xs x [] x)
+
+early_or_last : {A : Type 0} (xs : List A) (x y : A) (k : ℕ) → slice_get (xs ++ x ∷ []) k ≡ Some y → (k < length xs) ⊎ (length xs ≤ k) → (slice_get xs k ≡ Some y) ⊎ ((k ≡ length xs) × (x ≡ y))
+early_or_last xs x y k h (inl lt) =
+    inl (slice_get-get_or xs k y lt ∙ ap (λ z. Some z) (sym (get_or-append xs (x ∷ []) y k lt) ∙ get_or_from_slice_get (xs ++ x ∷ []) k y y h))
+early_or_last xs x y k h (inr le) =
+    let within = slice_get_within (xs ++ x ∷ []) k y h in
+    let long = longer xs x in
+    let is : k ≡ length xs = omega (arith, within, long, le) in
+    inr (is, sym (get_or-append_seam xs x [] y) ∙ subst (λ n. get_or (xs ++ x ∷ []) n y ≡ y) is (get_or_from_slice_get (xs ++ x ∷ []) k y y h))
+
+-- an item of a list with one more
+pub item_of : {A : Type 0} (xs : List A) (x y : A) (k : ℕ) → slice_get (xs ++ x ∷ []) k ≡ Some y → (slice_get xs k ≡ Some y) ⊎ ((k ≡ length xs) × (x ≡ y))
+item_of xs x y k h = early_or_last xs x y k h (cases_lt k (length xs))
+
+module _ {P : Type 0} (after : P → ℕ → Option P) (passes : P → ℕ → ℕ) (q : P) (nodes : List Node) where
+  true_one : (edges : List Edge) (e : Edge) → AreTrue after passes q nodes edges → IsTrueEdge after passes q nodes e → (k : ℕ) (d : Edge) →
+      (slice_get edges k ≡ Some d) ⊎ ((k ≡ length edges) × (e ≡ d)) → IsTrueEdge after passes q nodes d
+  true_one edges e sure one k d (inl is) = sure k d is
+  true_one edges e sure one k d (inr is) = subst (λ (x : Edge). IsTrueEdge after passes q nodes x) is.1 one
+
+  -- the edges with one more
+  pub true_more : (edges more : List Edge) (e : Edge) → more ≡ edges ++ e ∷ [] → IsTrueEdge after passes q nodes e → AreTrue after passes q nodes edges → AreTrue after passes q nodes more
+  true_more edges more e is one sure k d get = true_one edges e sure one k d (item_of edges e d k (subst (λ (es : List Edge). slice_get es k ≡ Some d) is get))
+
+  pub joined_stays : (edges more : List Edge) (e : Edge) → more ≡ edges ++ e ∷ [] → (n s : ℕ) → IsJoined after passes q nodes edges n s → IsJoined after passes q nodes more n s
+  joined_stays edges more e is n s joined r goes =
+      let had = joined r goes in
+      record {
+        number = had.number;
+        edge = had.edge;
+        is_one = subst (λ (es : List Edge). slice_get es had.number ≡ Some had.edge) (sym is) (item_stays edges e had.edge had.number had.is_one);
+        leaves = had.leaves;
+        by = had.by;
+        comes = had.comes;
+      }
+
+  -- what was told of a step that was made
+  told_there : (o : Option P) (m t : ℕ) (r : P) → Watches o m (Some t) r → (o ≡ Some r) × (t ≡ m)
+  told_there None m t r h = absurd (search rules)
+  told_there (Some p) m t r h = (ap (λ (x : P). Some x) (sym h.1), search (rules, h.0))
+
+  pub step_there : (p r : P) (s t : ℕ) → Watches (after p s) (passes p s) (Some t) r → (after p s ≡ Some r) × (t ≡ passes p s)
+  step_there p r s t h = told_there (after p s) (passes p s) t r h
+
+  none_there : (o : Option P) (m : ℕ) (r x : P) → Watches o m None r → o ≡ Some x → ⊥
+  none_there None m r x h is = absurd (search rules)
+  none_there (Some p) m r x h is = absurd (search (rules, h.0))
+
+  -- a step that could not be made needs no edge
+  pub not_there : (edges : List Edge) (i s : ℕ) (p r : P) → p ≡ (found_at after q nodes i).place → Watches (after p s) (passes p s) None r → IsJoined after passes q nodes edges i s
+  not_there edges i s p r is h x goes = absurd (none_there (after p s) (passes p s) r x h (subst (λ (y : P). after y s ≡ Some x) (sym is) goes))
+
+  pub none_needed : (edges : List Edge) (i s : ℕ) (p : P) → p ≡ (found_at after q nodes i).place → after p s ≡ None → IsJoined after passes q nodes edges i s
+  none_needed edges i s p is h x goes = absurd (let e : None ≡ Some x = sym h ∙ subst (λ (y : P). after y s ≡ Some x) (sym is) goes in search (rules, e))
+
+  some_is : (a b : P) → Some a ≡ Some b → a ≡ b
+  some_is a b h = search rules
+
+  -- the edge of a step
+  pub edge_is_true :
+      (i s t j : ℕ) (p r : P) → i ≤ length nodes → p ≡ (found_at after q nodes i).place → Watches (after p s) (passes p s) (Some t) r → IsAt after q nodes j r →
+      IsTrueEdge after passes q nodes (record { passes = t; from = i; to = j; step = s })
+  edge_is_true i s t j p r few is h at =
+      let there = step_there p r s t h in
+      record {
+        from = few;
+        to = at.0;
+        goes = subst (λ (y : P). after y s ≡ Some (found_at after q nodes j).place) is (there.0 ∙ ap (λ (x : P). Some x) (sym at.1));
+        told = there.1 ∙ ap (λ (y : P). passes y s) is;
+      }
+
+  pub joined_by :
+      (edges more : List Edge) (i s t j : ℕ) (p r : P) → more ≡ edges ++ record { passes = t; from = i; to = j; step = s } ∷ [] →
+      p ≡ (found_at after q nodes i).place → Watches (after p s) (passes p s) (Some t) r → IsAt after q nodes j r → IsJoined after passes q nodes more i s
+  joined_by edges more i s t j p r more_is is h at x goes =
+      let there = step_there p r s t h in
+      let same : x ≡ r = some_is x r (sym goes ∙ subst (λ (y : P). after y s ≡ Some r) is there.0) in
+      record {
+        number = length edges;
+        edge = record { passes = t; from = i; to = j; step = s };
+        is_one = subst (λ (es : List Edge). slice_get es (length edges) ≡ Some (record { passes = t; from = i; to = j; step = s })) (sym more_is) (item_last edges _);
+        leaves = refl;
+        by = refl;
+        comes = at.1 ∙ sym same;
+      }
+
+  -- the edges from the places that are not open, with one place more
+  joined_one :
+      (edges : List Edge) (marks : List Bool) (mark : Bool) (n : ℕ) → length marks ≡ n →
+      ((i s : ℕ) → slice_get marks i ≡ Some false → IsJoined after passes q nodes edges i s) → (mark ≡ false → (s : ℕ) → IsJoined after passes q nodes edges n s) →
+      (i s : ℕ) → (slice_get marks i ≡ Some false) ⊎ ((i ≡ length marks) × (mark ≡ false)) → IsJoined after passes q nodes edges i s
+  joined_one edges marks mark n long earlier last i s (inl is) = earlier i s is
+  joined_one edges marks mark n long earlier last i s (inr is) = subst (λ k. IsJoined after passes q nodes edges k s) (sym (is.0 ∙ long)) (last is.1 s)
+
+  pub joined_more :
+      (edges : List Edge) (marks more : List Bool) (mark : Bool) (n : ℕ) → more ≡ marks ++ mark ∷ [] → length marks ≡ n →
+      ((i s : ℕ) → slice_get marks i ≡ Some false → IsJoined after passes q nodes edges i s) → (mark ≡ false → (s : ℕ) → IsJoined after passes q nodes edges n s) →
+      (i s : ℕ) → slice_get more i ≡ Some false → IsJoined after passes q nodes edges i s
+  joined_more edges marks more mark n is long earlier last i s get =
+      joined_one edges marks mark n long earlier last i s (item_of marks mark false i (subst (λ (ms : List Bool). slice_get ms i ≡ Some false) is get))
+
+  pub joined_none : (edges : List Edge) (marks : List Bool) → marks ≡ [] → (i s : ℕ) → slice_get marks i ≡ Some false → IsJoined after passes q nodes edges i s
+  joined_none edges marks is i s get = let lt = slice_get_within marks i false get in let long : length marks ≡ 0 = ap length is in absurd (omega (arith, lt, long))
+
+  pub true_none : (edges : List Edge) → edges ≡ [] → AreTrue after passes q nodes edges
+  true_none edges is k e get = let lt = slice_get_within edges k e get in let long : length edges ≡ 0 = ap length is in absurd (omega (arith, lt, long))

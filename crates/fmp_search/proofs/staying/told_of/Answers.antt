@@ -1,0 +1,33 @@
+use Rattle.std.proofs.Common.{Bool, List, length, sym, subst, below_more, arith}
+use Rattle.fmp_search.specs.declared.marks.Edge.{Edge}
+use Rattle.fmp_search.specs.Forever.{AreEntered, AreTrue, Covers, IsWhole}
+use Rattle.fmp_search.proofs.Covered.{covers_by}
+use Rattle.fmp_search.proofs.staying.told_of.Goals as goal
+
+pub entered-requires-clause-sure : goal.entered-requires-clause-sure
+entered-requires-clause-sure g c =
+    subst (λ (es : List Edge). AreTrue g.W.Space.after g.W.Space.passes (g.W.Space.origin c.args.walker.now) c.args.nodes.now es) (sym c.deref.ensures.value) c.requires.charted.sure
+
+pub loop-test-preserved : goal.loop-test-preserved
+loop-test-preserved g c =
+    let after = g.W.Space.after in
+    let passes = g.W.Space.passes in
+    let q = g.W.Space.origin c.args.walker.now in
+    let nodes = c.args.nodes.now in
+    let best = c.in_ok-best.best in
+    let marks = c.in_ok-marks.marks.items in
+    record {
+      right = c.in_ok-best.ensures.right;
+      covers = λ whole. below_more (λ k. Covers after passes q k best) _
+          (λ k lt others ends. c.in_ok-best.ensures.kept (length others) (c.loop-test.invariant.covers whole k lt others ends))
+          (covers_by after passes q nodes c.args.chart.now c.requires.charted whole c.loop-test.test marks best c.in_ok-marks.ensures.closed (c.in_ok-marks.ensures.earned whole) (c.requires.nearest whole)
+          (subst (λ (es : List Edge). AreEntered after q nodes es marks c.loop-test.test best) c.deref.ensures.value
+          (subst (λ (ms : List Bool). AreEntered after q nodes c.deref.result.now ms c.loop-test.test best) c.deref-in-loop-test.ensures.value c.in_ok-best.ensures.within)));
+    }
+
+pub told-requires-clause-covers : goal.told-requires-clause-covers
+told-requires-clause-covers g c =
+    λ is k lt.
+    let past = c.loop-test-test.false in
+    let whole = subst (λ (ms : List Bool). IsWhole ms) c.deref-2.ensures.value (c.is_whole-whole.ensures is) in
+    c.loop-test.invariant.covers whole k (omega (arith, lt, past))
