@@ -1,5 +1,5 @@
 //! What was read of a question so far.
-ghost use Rattle.std.specs.Prelude.{◌≡◌, ◌≢◌, ◌++◌, ◌∷◌, List, [], Some, None, Ok, Err, IfOk, IfErr, OnOk, replicate, is_some, length, if◌then◌else◌};
+ghost use Rattle.std.specs.Prelude.{◌≡◌, ◌≢◌, ◌++◌, ◌∷◌, List, [], Some, None, Ok, Err, IfOk, IfErr, OnOk, replicate, is_some, length, ◌&&◌, ◌==◌, if◌then◌else◌};
 ghost use Rattle.std.specs.Option.{option_and_then};
 ghost use Rattle.fmp_bytes.specs.Bytes.{pieces_of};
 ghost use Rattle.std.specs.List.{list_all};
@@ -92,7 +92,7 @@ impl Draft {
 
     /// Puts the pattern behind the others of its moment. False where it has no word yet. The error is want of memory.
     #[tactic(auto, unfolding(crate::specs::Reading::with_pattern))]
-    fn end_pattern(&mut self) -> Result<bool, AllocError>
+    pub(crate) fn end_pattern(&mut self) -> Result<bool, AllocError>
         ensures none { IfOk result (λ done. done ≡ is_some (spec.with_pattern self.old)) }
         ensures done { (d : spec.Draft) → spec.with_pattern self.old ≡ Some d → OnOk result (self.new ≡ d) }
     {
@@ -117,6 +117,21 @@ impl Draft {
         let patterns = mem::replace(&mut self.patterns, Vec::new(self.alloc));
         self.moment = Some(Moment::new(patterns));
         Ok(true)
+    }
+
+    /// Whether no word of a moment was read.
+    pub(crate) fn is_fresh(&self) -> bool
+        ensures { result ≡ (length self.now.patterns == 0 && length self.now.pattern == 0) }
+    {
+        self.patterns.is_empty() && self.pattern.is_empty()
+    }
+
+    /// Takes the complete patterns out of the draft, as a moment.
+    pub(crate) fn take_moment(&mut self) -> Moment
+        ensures is { result ≡ self.old.patterns }
+        ensures rest { self.new ≡ record self.old { patterns = [] } }
+    {
+        Moment::new(mem::replace(&mut self.patterns, Vec::new(self.alloc)))
     }
 
     /// Takes the step out of the draft. Where `without` was read, the patterns behind it are the moment that must not come before the first.

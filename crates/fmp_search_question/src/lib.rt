@@ -5,12 +5,17 @@
 
 mod draft;
 mod fault;
+mod lasting;
 mod matching;
+mod parts;
 mod question;
 mod reading;
+mod stage;
 mod words;
 
 pub use fault::{QuestionFault, ReadFault};
+pub use lasting::Lasting;
 pub use matching::allows;
+pub use parts::{is_lasting, read_lasting};
 pub use question::{Moment, Pattern, Piece, Question, Step};
 pub use reading::read_question;

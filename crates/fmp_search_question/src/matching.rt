@@ -89,7 +89,11 @@ fn has_pattern(room: &mut Vec<u8>, text: &[u8], pattern: &Pattern) -> Result<boo
 }
 
 /// Whether each pattern of a moment stands in some line of a text. The lines may differ. The room and the error are as at `has_pattern`.
-fn has_moment(room: &mut Vec<u8>, text: &[u8], moment: &Moment) -> Result<bool, AllocError>
+pub(crate) fn has_moment(
+    room: &mut Vec<u8>,
+    text: &[u8],
+    moment: &Moment,
+) -> Result<bool, AllocError>
     ensures { IfOk result (λ r. r ≡ spec.has_moment text.now moment.now) }
 {
     for pattern in moment.patterns() {
