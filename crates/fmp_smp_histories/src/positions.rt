@@ -161,9 +161,10 @@ fn release_each(config: &Config, scripts: &Scripts, positions: &mut [u32; 64], m
 fn release_all(config: &Config, scripts: &Scripts, positions: &mut [u32; 64], made: &Record)
     ensures { positions.new ≡ released_tasks config.now scripts.now positions.old made.now.releases }
 {
-    if !scripts.is_straight() {
-        release_each(config, scripts, positions, made);
+    if scripts.is_straight() {
+        return;
     }
+    release_each(config, scripts, positions, made);
 }
 
 /// Moves the position of the task that could make a call: back to 0 where it ended, and on where it made a call that did not spin.
