@@ -20,7 +20,7 @@ lists() {
     run 0 "$(as_file printf '%s\n' 'CRE_CYC(cycid, {cycatr | .., exinf, cychdr, cyctim, cycphs});' '  cycatr: TA_NULL TA_STA' \
         '  cyctim: within 1 to 2147483647' '  cycphs: within 0 to 2147483647')" /dev/null list CRE_CYC
     run 0 "$(as_file printf '%s\n' 'F10 no PROCESSORS line' '  Begin with `PROCESSORS(n);`.')" /dev/null list F10
-    run 0 "$(as_file echo ini_sem is left out)" /dev/null list ini_sem
+    run 0 "$(as_file echo fmpsim has no ini_sem)" /dev/null list ini_sem
     run 2 /dev/null "$(as_file echo fmpsim: nothing is called jump: see fmpsim list)" list jump
     unwritten list
     # each call, statement and fault has one line, and each call of the document has one
@@ -235,7 +235,7 @@ left_out_names() {
         CFG_INT DEF_INH ATT_ISR xsns_dpn xsns_xpn DEF_EXC {acre,del,ref}_{tsk,sem,flg,dtq,mpf,cyc,alm,spn} ini_{sem,flg,dtq,mpf,mtx}
         set_tim get_tim get_utm isig_tim frsm_tsk get_inf dis_wai idis_wai ena_wai iena_wai sns_ker ext_ker ATT_INI ATT_TER TMO_NBLK)
     for name in "${names[@]}"; do
-        play list "$name" && [ ! -s errors ] && [ "$(cat output)" = "$name is left out" ] || { each=no && echo "list $name"; }
+        play list "$name" && [ ! -s errors ] && [ "$(cat output)" = "fmpsim has no $name" ] || { each=no && echo "list $name"; }
     done
     count "$each" list '# each name that is left out'
 }

@@ -22,7 +22,7 @@ text_kinds =
 
 -- what to do about a fault of a configuration
 abbrev pub config_advice : ConfigKind → List ℕ
-config_advice config.Syntax = codes "Compare the statement with its form: `fmpsim list CRE_TSK`. The word is the token that does not fit."
+config_advice config.Syntax = codes "Compare the statement with its form, which `fmpsim list` tells of its name. The word is the token that does not fit."
 config_advice config.CutShort = codes "Close the comment, string, statement or class that begins in this line."
 config_advice config.Unsupported = codes "Leave this statement out: `fmpsim list` has those that are read."
 config_advice config.OutsideClass = codes "Put the statement into a `CLASS(..) { .. }`."

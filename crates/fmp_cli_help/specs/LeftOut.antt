@@ -20,7 +20,9 @@ names =
     ∷ codes "chg_ipm" ∷ codes "get_ipm" ∷ codes "dis_int" ∷ codes "ena_int" ∷ codes "xsns_dpn" ∷ codes "xsns_xpn"
     ∷ codes "CRE_MTX" ∷ codes "CRE_MBX" ∷ codes "CRE_PDQ" ∷ codes "CRE_MBF" ∷ codes "CRE_MPL" ∷ codes "DEF_TEX"
     ∷ codes "DEF_OVR" ∷ codes "DEF_EXC" ∷ codes "CFG_INT" ∷ codes "DEF_INH" ∷ codes "ATT_ISR" ∷ codes "ATT_INI"
-    ∷ codes "ATT_TER" ∷ codes "TMO_NBLK" ∷ []
+    ∷ codes "ATT_TER" ∷ codes "TMO_NBLK"
+    ∷ codes "get_lod" ∷ codes "mget_lod" ∷ codes "get_nth" ∷ codes "mget_nth" ∷ codes "ras_ter" ∷ codes "dis_ter"
+    ∷ codes "ena_ter" ∷ codes "sns_ter" ∷ codes "adj_tim" ∷ codes "fch_hrt" ∷ codes "clr_int" ∷ codes "ras_int" ∷ codes "prb_int" ∷ codes "CRE_ISR" ∷ []
 
 -- the word is the name of a service call, a statement or a constant that is left out: of a left-out family by its beginning or
 -- its end, or one by one

@@ -21,7 +21,7 @@ everything =
     ++ codes "\nFaults of events, scripts and traces:\n" ++ faults.all_of_texts
 
 unfoldable pub left_out_line : List ℕ → List ℕ
-left_out_line word = word ++ codes " is left out\n"
+left_out_line word = codes "fmpsim has no " ++ word ++ codes "\n"
 
 -- what is told of a fault's number, of a name that is left out, or of a word of the texts
 unfoldable pub of_fault_or_left_out : List ℕ → Option (List ℕ)

@@ -1,5 +1,7 @@
 -- The name that is nearest to a word.
-use Rattle.std.specs.Prelude.{ℕ, ◌/◌, List, [], ◌∷◌, length, Option, Some, None, map, nat_eq, nat_le, nat_lt, if◌then◌else◌}
+use Rattle.std.specs.Prelude.{ℕ, ◌/◌, List, [], ◌∷◌, length, Option, Some, None, find, map, option_map, nat_eq, nat_le, nat_lt, ◌==◌, if◌then◌else◌}
+use Rattle.std.specs.List.{starts_with}
+use Rattle.std.specs.Option.{option_or}
 use Rattle.std.specs.Str.{str_to_ascii_lowercase}
 use Rattle.strsim.specs.Edits.{levenshtein_row}
 use Rattle.fmp_calls.specs.declared.kinds.ObjectKind.{ObjectKind}
@@ -62,9 +64,18 @@ near_call word = nearer word (near_spin_call word) (calls.text_of families.RetHd
 unfoldable pub near_statement : List ℕ → Option (List ℕ)
 near_statement word = nearest word None (map statements.text_of table.STATEMENT_NAMES)
 
--- the nearest call, statement or code
+-- the first code whose name begins with a word of three bytes at least
+unfoldable pub code_begun : List ℕ → Option (List ℕ)
+code_begun word = if nat_lt (length word) 3 then None else option_map name_of (find (λ code. starts_with ◌==◌ (name_of code) word) all_codes)
+
+-- the nearest call or code, or else a code that begins so
+unfoldable pub near_answer : List ℕ → Option (List ℕ)
+near_answer word = option_or (nearest word (near_call word) (map name_of all_codes)) (code_begun word)
+
+-- the nearest call, statement or code, or else a code that begins so
 unfoldable pub near_word : List ℕ → Option (List ℕ)
-near_word word = nearest word (nearest word (near_call word) (map statements.text_of table.STATEMENT_NAMES)) (map name_of all_codes)
+near_word word =
+    option_or (nearest word (nearest word (near_call word) (map statements.text_of table.STATEMENT_NAMES)) (map name_of all_codes)) (code_begun word)
 
 -- the nearest attribute of those that such an object may have
 unfoldable pub near_attribute : ObjectKind → List ℕ → Option (List ℕ)

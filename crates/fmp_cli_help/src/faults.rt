@@ -44,7 +44,7 @@ fn config_advice(kind: ConfigKind) -> &'static [u8]
 {
     match kind {
         ConfigKind::Syntax =>
-            b"Compare the statement with its form: `fmpsim list CRE_TSK`. The word is the token that does not fit.",
+            b"Compare the statement with its form, which `fmpsim list` tells of its name. The word is the token that does not fit.",
         ConfigKind::CutShort =>
             b"Close the comment, string, statement or class that begins in this line.",
         ConfigKind::Unsupported =>

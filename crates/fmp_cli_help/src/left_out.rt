@@ -13,7 +13,7 @@ const ENDINGS: [&[u8]; 7] = [
 ];
 
 /// Those that are left out one by one.
-const NAMES: [&[u8]; 32] = [
+const NAMES: [&[u8]; 46] = [
     b"frsm_tsk",
     b"isig_tim",
     b"get_inf",
@@ -46,10 +46,24 @@ const NAMES: [&[u8]; 32] = [
     b"ATT_INI",
     b"ATT_TER",
     b"TMO_NBLK",
+    b"get_lod",
+    b"mget_lod",
+    b"get_nth",
+    b"mget_nth",
+    b"ras_ter",
+    b"dis_ter",
+    b"ena_ter",
+    b"sns_ter",
+    b"adj_tim",
+    b"fch_hrt",
+    b"clr_int",
+    b"ras_int",
+    b"prb_int",
+    b"CRE_ISR",
 ];
 
 /// Whether a word begins with one of these.
-fn begins_with_one(beginnings: &[&[u8]], word: &[u8]) -> bool
+pub(crate) fn begins_with_one(beginnings: &[&[u8]], word: &[u8]) -> bool
     ensures { result ≡ list_any (λ beginning. starts_with ◌==◌ word.now beginning.now) beginnings.now }
 {
     beginnings
@@ -65,7 +79,7 @@ fn ends_with_one(endings: &[&[u8]], word: &[u8]) -> bool
 }
 
 /// Whether a word is one of these names.
-fn is_one(names: &[&[u8]], word: &[u8]) -> bool
+pub(crate) fn is_one(names: &[&[u8]], word: &[u8]) -> bool
     ensures { result ≡ list_any (λ name. bytes_eq name.now word.now) names.now }
 {
     names.iter().any(|name| *name == word)

@@ -16,6 +16,7 @@ mod laws;
 mod left_out;
 mod listing;
 mod near;
+mod projects;
 mod statements;
 mod words;
 
@@ -28,5 +29,6 @@ pub use laws::{
 };
 pub use left_out::is_left_out;
 pub use listing::{about, everything, put_left_out};
-pub use near::{near_attribute, near_call, near_statement, near_word, nearer};
+pub use near::{near_answer, near_attribute, near_call, near_statement, near_word, nearer};
+pub use projects::{is_class_word, is_notice_word, is_project_word};
 pub use statements::put_about as put_statement;

@@ -38,8 +38,9 @@ pub fn everything(alloc: Global) -> Result<Vec<u8>, AllocError>
 pub fn put_left_out(out: &mut Vec<u8>, word: &[u8]) -> Result<(), AllocError>
     ensures { OnOk result (out.new.items ≡ out.old.items ++ spec.left_out_line word.now) }
 {
+    out.extend_from_slice(b"fmpsim has no ")?;
     out.extend_from_slice(word)?;
-    out.extend_from_slice(b" is left out\n")
+    out.extend_from_slice(b"\n")
 }
 
 /// Adds what is told of a fault, of what is left out or of a word of the texts, and says whether the word is one of these.

@@ -1,5 +1,6 @@
 //! The name that is nearest to a word.
-ghost use Rattle.std.specs.Prelude.{◌≡◌, ℕ, List, IfOk, map};
+ghost use Rattle.std.specs.Prelude.{◌≡◌, ◌==◌, ℕ, List, IfOk, find, map};
+ghost use Rattle.std.specs.List.{starts_with};
 ghost use Rattle.std.specs.Option.{option_copied};
 ghost use Rattle.fmp_codes.specs.Codes as codes;
 ghost use Rattle.fmp_codes.specs.declared.calls.Call.TheVariants as families;
@@ -219,14 +220,50 @@ pub fn near_statement(alloc: Global, word: &[u8]) -> Result<Option<&'static [u8]
     nearest(alloc, word, None, &STATEMENT_NAMES)
 }
 
-/// The call, statement or code that is nearest to a word: the first of the nearest in this order, if one is near.
+/// The first code whose name begins with a word.
+fn find_code(word: &[u8]) -> Option<Code>
+    ensures { result ≡ find (λ code. starts_with ◌==◌ (codes.name_of code) word.now) codes.all_codes }
+{
+    Code::ALL
+        .iter()
+        .copied()
+        .find(|code| Code::name(*code).as_bytes().starts_with(word))
+}
+
+/// The first code whose name begins with a word of three bytes at least.
+#[tactic(auto, unfolding(crate::specs::Near::code_begun))]
+fn code_begun(word: &[u8]) -> Option<&'static [u8]>
+    ensures { option_copied result ≡ spec.code_begun word.now }
+{
+    if word.len() < 3 {
+        return None;
+    }
+    match find_code(word) {
+        Some(code) => Some(Code::name(code).as_bytes()),
+        None => None,
+    }
+}
+
+/// The call or code that is nearest to a word: the first of the nearest in this order, if one is near, or else the first code that begins so.
+#[tactic(auto, unfolding(crate::specs::Near::near_answer))]
+pub fn near_answer(alloc: Global, word: &[u8]) -> Result<Option<&'static [u8]>, AllocError>
+    ensures { IfOk result (λ found. option_copied found ≡ spec.near_answer word.now) }
+{
+    let best = near_call(alloc, word)?;
+    let best = nearest(alloc, word, best, &Code::ALL)?;
+    Ok(best.or(code_begun(word)))
+}
+
+/// The call, statement or code that is nearest to a word: the first of the nearest in this order, if one is near, or else the first code
+/// that begins so.
 #[tactic(auto, unfolding(crate::specs::Near::near_word))]
 pub fn near_word(alloc: Global, word: &[u8]) -> Result<Option<&'static [u8]>, AllocError>
     ensures { IfOk result (λ found. option_copied found ≡ spec.near_word word.now) }
 {
     let best = near_call(alloc, word)?;
     let best = nearest(alloc, word, best, &STATEMENT_NAMES)?;
-    nearest(alloc, word, best, &Code::ALL)
+    let best = nearest(alloc, word, best, &Code::ALL)?;
+    Ok(best.or(code_begun(word)))
 }
 
 /// The attribute that is nearest to a word, of those that such an object may have: the first of the nearest in their order, if one is near.
