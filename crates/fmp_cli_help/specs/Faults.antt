@@ -44,7 +44,7 @@ text_advice text.UnknownName = codes "Use the name of an object of the configura
 text_advice text.WrongArguments = codes "Compare the arguments with the call's: `fmpsim list act_tsk`."
 text_advice text.NumberOutOfRange = codes "Give a number within its range, without leading zeros, and a processor that the machine has."
 text_advice text.CutShort = codes "End the last line with a line feed, and the last script with `end`."
-text_advice text.TooMany = codes "There may be 1000000 events, 1073741824 bytes, and 256 steps in a script."
+text_advice text.TooMany = codes "There may be 1000000 events, 1073741824 bytes, and in a script 256 steps, 256 labels and 1024 jumps."
 text_advice text.Memory = codes "Give the program more memory."
 
 -- the line of a fault: its number and its words

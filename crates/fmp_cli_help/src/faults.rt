@@ -86,7 +86,7 @@ fn text_advice(kind: TextKind) -> &'static [u8]
         TextKind::CutShort =>
             b"End the last line with a line feed, and the last script with `end`.",
         TextKind::TooMany =>
-            b"There may be 1000000 events, 1073741824 bytes, and 256 steps in a script.",
+            b"There may be 1000000 events, 1073741824 bytes, and in a script 256 steps, 256 labels and 1024 jumps.",
         TextKind::Memory => b"Give the program more memory.",
     }
 }

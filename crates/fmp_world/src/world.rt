@@ -46,6 +46,7 @@ impl<'a> World<'a> {
         scripts: &'a Scripts,
         turns: u32,
     ) -> Result<World<'a>, AllocError>
+        requires { turns ≤ 2 ^ 31 }
         ensures { IfOk result (λ w. w ≡ opening config.entry.now scripts.entry.now turns) }
     {
         let history = History::new(alloc, config, scripts, turns)?;
