@@ -148,7 +148,7 @@ refused_configurations() {
         esac && count yes list || count no list "# $size bytes"
     done
     run 2 /dev/null "$(as_file echo fmpsim: nothing is called machine: see fmpsim list)" list machine
-    run 1 /dev/null "$(as_file echo fmpsim: -: line 1: F10 no PROCESSORS line)" list -
+    run 2 /dev/null "$(as_file echo fmpsim: nothing is called -: see fmpsim list)" list -
 }
 
 # Of each call it is told what it does and what it answers, word for word as deeds.txt has it, which was written by hand; and each of the

@@ -28,8 +28,6 @@ one_from_input() {
     from=$trace run 0 "$(as_file echo yes)" /dev/null check --partial "$machine" -
     from=$trace run 0 "$late/trace.vcd" /dev/null wave "$machine" -
     from=$machine run 0 "$late/trace.gtkw" /dev/null wave - --gtkw
-    play list "$machine" && cp output listed
-    from=$machine run 0 listed /dev/null list -
     play view "$machine" "$trace" && cp output page
     from=$trace run 0 page /dev/null view "$machine" -
     from=$dead/machine.cfg run 5 "$dead/trace.txt" /dev/null explore - "$dead/scripts.txt" "${question[@]}"

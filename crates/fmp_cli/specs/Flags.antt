@@ -37,9 +37,9 @@ page_by differences = if differences then DifferencesPage else Page
 abbrev pub form_by : Bool → TextForm
 form_by partial = if partial then form.Partial else form.Trace
 
--- a word after `list` is the path of a configuration: it is `-`, which stands for standard input, or a `.` or a `/` is in it
+-- a word behind `list` is the path of a configuration: a `.` or a `/` is in it
 abbrev pub is_path : List ℕ → Bool
-is_path word = bytes_eq word (codes "-") || list_any (λ b. (b == full_stop) || (b == slash)) word
+is_path word = list_any (λ b. (b == full_stop) || (b == slash)) word
 
 -- the subcommand that a word names, if it names one
 abbrev pub subcommand_by : Option Text → Option Subcommand

@@ -191,8 +191,8 @@ it answers, that statement with its attributes and the ranges of its numbers on 
 machine, or that fault with what to do about it. An answer, a word of a trace, an attribute or
 a constant, such as `E_QOVR`, `held` or `TA_TPRI`: what it means.
 
-With a name that has a `.` or a `/` in it, the path of a configuration, or with `-`, one from
-standard input: what was read of it, in a line each. An object has its number there, its name, and the fields of its statement:
+With a name that has a `.` or a `/` in it, the path of a configuration: what was read of it, in
+a line each. An object has its number there, its name, and the fields of its statement:
 
   processors 2
   timer local
@@ -569,16 +569,13 @@ fn view_in<'a>(matches: &ArgMatches<'a>) -> Request<'a>
     Request::Trace(paths, page_for(differences))
 }
 
-/// Whether a word after `list` is the path of a configuration: it is `-`, which stands for standard input, or it has a `.` or a `/` in it, as
-/// nothing has that is called so.
+/// Whether a word behind `list` is the path of a configuration: it has a `.` or a `/` in it, as nothing has that is called so.
 fn is_path(word: &str) -> bool
     ensures { result ≡ is_path word.entry.now }
 {
-    word == "-"
-        || word
-            .as_bytes()
-            .iter()
-            .any(|byte| *byte == b'.' || *byte == b'/')
+    word.as_bytes()
+        .iter()
+        .any(|byte| *byte == b'.' || *byte == b'/')
 }
 
 /// What `list` is asked for by the word behind it, if there is one, and by the flag.
