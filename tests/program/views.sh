@@ -3,6 +3,7 @@
 views() {
     local folder first='' exact=yes same=yes plain=yes
     for folder in "$top"/examples/*/; do
+        [ -f "$folder/trace.txt" ] || continue
         play view "$folder/machine.cfg" "$folder/trace.txt"
         # the trace stands in it byte for byte, but for what is escaped, and all else of it is its own
         part_of output trace | cmp - "$folder/trace.txt" || exact=no
@@ -101,6 +102,7 @@ half_a_page() {
 differences() {
     local folder part edits well
     for folder in "$top"/examples/*/; do
+        [ -f "$folder/trace.txt" ] || continue
         well=yes
         play view "$folder/machine.cfg" "$folder/trace.txt" || well=no
         mv output own.html
@@ -130,7 +132,8 @@ differences() {
         '  End the last line with a line feed, and the last script with `end`.')" view --context --differences "$folder/machine.cfg" cut.txt
     run 1 /dev/null "$(as_file echo fmpsim: cut.txt: line 1: F1 syntax)" view --differences cut.txt "$folder/trace.txt"
     unread view --differences missing "$folder/trace.txt"
-    unread view --differences "$folder/machine.cfg" -
+    play view "$folder/machine.cfg" "$folder/trace.txt" && mv output own.page
+    from=$folder/trace.txt run 0 own.page /dev/null view --differences "$folder/machine.cfg" -
     unwritten view --differences "$folder/machine.cfg" changed.txt
     half_of_differences
 }
@@ -169,6 +172,7 @@ in_a_browser() {
         return
     fi
     for folder in "$top"/examples/*/; do
+        [ -f "$folder/trace.txt" ] || continue
         well=yes
         play view "$folder/machine.cfg" "$folder/trace.txt"
         mv output page.html

@@ -613,7 +613,7 @@ def all_of(player):
     yield "replay: each line left out", lambda: player.misses_no_line(*whole)
     yield "replay: each line left out, of objects", lambda: player.misses_no_line(*worked_out("objects.test"))
     for folder in sorted((TOP / "examples").iterdir()):
-        if folder.is_dir():
+        if (folder / "trace.txt").is_file():
             texts = [(folder / name).read_text() for name in ("machine.cfg", "trace.txt")]
             yield f"examples/{folder.name}", lambda texts=texts: player.replays_trace(*texts)
     yield "each number", lambda: player.replays(NUMBERS, ALL_END)

@@ -5,6 +5,7 @@ waves() {
     local folder timed=yes drawn=no
     run 0 "$late/trace.vcd" /dev/null wave "$late/machine.cfg" "$late/trace.txt"
     for folder in "$top"/examples/*/; do
+        [ -f "$folder/trace.txt" ] || continue
         play wave "$folder/machine.cfg" "$folder/trace.txt"
         diff "$(as_file grep '^#' output)" "$(as_file seq -f '#%.0f' 0 "$(wc -l < "$folder/trace.txt")")" || timed=no
     done
