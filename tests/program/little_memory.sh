@@ -30,7 +30,7 @@ little_memory() {
 # the system ends the run by a signal: that is so in at most 8 of the rooms below the first in which the run is whole. The frames of an
 # unproved program are larger, since what it checks stands in them too, so there it is so in at most 24.
 starved() {
-    local memory ended well=yes all=() most=8
+    local memory ended well=yes all=() most=12
     [ "$kind" != unproved ] || most=24
     for memory in "${rooms[@]}"; do
         : > output
