@@ -27,7 +27,7 @@ little_memory() {
 
 # starved TEXT WORD..: in each of the $rooms the run of these words writes this text, or whole lines of its beginning and that
 # memory ran out. It does so in the first room, and the whole in the last. Where there is room for all but for the stack to grow,
-# the system ends the run by a signal: that is so in at most 8 of the rooms below the first in which the run is whole. The frames of an
+# the system ends the run by a signal: that is so in at most 12 of the rooms below the first in which the run is whole. The frames of an
 # unproved program are larger, since what it checks stands in them too, so there it is so in at most 24.
 starved() {
     local memory ended well=yes all=() most=12
