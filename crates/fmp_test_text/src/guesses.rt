@@ -78,8 +78,8 @@ fn each_of_64_tasks_by_its_name(rt: HostRuntime) -> Result<(), Fail> {
     Ok(())
 }
 
-/// Lines of the common form, with arguments of all kinds.
-const COMMON: [&[u8]; 18] = [
+/// Lines of the common form, with arguments of all kinds, and with blanks and carriage returns.
+const COMMON: [&[u8]; 22] = [
     b"P1 tick\n",
     b"P2 ipi\n",
     b"P1 ret_hdr\n",
@@ -98,12 +98,16 @@ const COMMON: [&[u8]; 18] = [
     b"P1 msta_alm(A, 100, 2)\n",
     b"P1 sta_cyc(C)\n",
     b"P1 loc_spn(L)\n",
+    b"  P1 tick\n",
+    b"P2\t\tipi \t\n",
+    b"\tP1  act_tsk(T2)\n",
+    b"P1 ret_hdr \r\n",
 ];
 
-/// Whether the short way finds something, up to the line feed: by its contract it is what the line says.
+/// Whether the short way finds something, up to the end of the line: by its contract it is what the line says.
 fn is_short(names: &Names, line: &[u8]) -> bool {
     match quick_event(names, line) {
-        Some((_, rest)) => rest == b"\n".as_slice(),
+        Some((_, rest)) => rest == b"\n".as_slice() || rest == b"\r\n".as_slice(),
         None => false,
     }
 }

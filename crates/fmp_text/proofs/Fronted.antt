@@ -1,6 +1,6 @@
 -- What the short reader finds is spelled.
 use Rattle.std.proofs.Common.{◌≡◌, ℕ, ◌+◌, ◌*◌, ◌-◌, ◌/◌, ◌%◌, ◌<◌, ◌≤◌, ◌^◌, Bool, true, false, eqb, get_or, Option, Bor, IfSome, inl, inr, List, [], ◌∷◌, ◌++◌, length, take, drop, Some, None, Ok, refl, sym, ap, subst, ◌∙◌, arith, decimal, append_assoc, length-append, suc}
-use Rattle.std.specs.Prelude.{codes, slice_index}
+use Rattle.std.specs.Prelude.{codes, not, slice_index}
 use Rattle.std.specs.Option.{option_copied}
 use Rattle.std.specs.List.{list_all, join_with_byte}
 use Rattle.std.proofs.lemmas.List.{append-nil, take_all}
@@ -12,7 +12,7 @@ use Rattle.fmp_codes.specs.declared.calls.Call.TheVariants as calls
 use Rattle.fmp_codes.specs.declared.numbers.Proc.{Proc}
 use Rattle.fmp_codes.specs.declared.records.Event.{Event}
 use Rattle.fmp_codes.specs.declared.records.Event.TheVariants as events
-use Rattle.fmp_bytes.proofs.Prefixes.{list_all-both}
+use Rattle.fmp_bytes.proofs.Prefixes.{list_all-both, list_all-weaker}
 use Rattle.fmp_bytes.specs.declared.classes.Class.TheVariants.{Blank, Line}
 use Rattle.fmp_bytes.specs.Bytes.{is_of, behind}
 use Rattle.fmp_bytes.proofs.Spelled.{behind_is}
@@ -23,12 +23,12 @@ use Rattle.fmp_calls.proofs.Matched.{call_of-same, call_of-agrees}
 use Rattle.fmp_names.specs.Names.{NameLists, AreValid}
 use Rattle.fmp_names.proofs.Listed.{list_all-at}
 use Rattle.fmp_text.specs.Argument.{ranged, constant_of}
-use Rattle.fmp_text.specs.Grammar.{AreBlank, Padded, IsNumber, SpellsValue, SpellsPieces, SpellsArguments, SpellsCall}
-use Rattle.fmp_text.specs.TextGrammar.{IsAlone, OnProcessor, SpellsEvent}
-use Rattle.fmp_text.specs.Fronts.{IsFront, IsBehindComma, IsClosed, IsClosedBehind, IsMade, IsNumberOf, Happens}
+use Rattle.fmp_text.specs.Grammar.{AreBlank, Padded, IsNumber, SpellsValue, SpellsPieces, SpellsArguments, SpellsEnclosed, FollowsName, SpellsCall}
+use Rattle.fmp_text.specs.TextGrammar.{Ended, IsAlone, OnProcessor, SpellsEvent}
+use Rattle.fmp_text.specs.Fronts.{IsFront, IsBehindBlank, IsBehindBlanks, IsBehindEnd, IsBehindComma, IsClosed, IsClosedBehind, IsMade, IsNumberOf, Happens}
 use Rattle.fmp_text.specs.Events.{HasNoFeed, IsFirstLine}
 use Rattle.fmp_text.proofs.SpelledEvents.{line_of_spelled}
-use Rattle.fmp_text.proofs.SpelledTexts.{one_read}
+use Rattle.fmp_text.proofs.SpelledTexts.{no_feed, one_read}
 
 -- ---- numbers
 
@@ -174,6 +174,30 @@ module _ (names : NameLists) (kinds tail : List ArgumentKind) (kind : ArgumentKi
       subst (λ (ks : List ArgumentKind). IsClosedBehind names ks others all text end.now) whole (closed_next names kind tail others more all value text rest after end.now added some f comma closed)
   goes_on after all None next comma closed = tt
 
+-- ---- blanks
+
+pub behind_space : (text rest : List ℕ) → text ≡ 32 ∷ rest → IsBehindBlank text rest
+unfolding is_of
+behind_space text rest e = (32, refl, e)
+
+pub behind_tab : (text : List ℕ) (found : Option (Bor (List ℕ))) → IfSome found (λ rest. text ≡ 9 ∷ rest.now) → IfSome found (λ rest. IsBehindBlank text rest.now)
+unfolding is_of
+behind_tab text (Some rest) e = (9, refl, e)
+behind_tab text None e = tt
+
+pub no_blanks : (text : List ℕ) → IsBehindBlanks text text
+no_blanks text = record { blanks = []; blank = refl; parts = refl }
+
+blank_first : (b : ℕ) (blanks : List ℕ) → is_of Blank b ≡ true → AreBlank blanks → AreBlank (b ∷ blanks)
+blank_first b blanks is all = rw is all
+
+pub blanks_more : (text rest more : List ℕ) → IsBehindBlanks text rest → IsBehindBlank rest more → IsBehindBlanks text more
+blanks_more text rest more s (b, is, e) = record {
+  blanks = s.blanks ++ (b ∷ []);
+  blank = list_all-both (is_of Blank) s.blanks (b ∷ []) s.blank (blank_first b [] is refl);
+  parts = s.parts ∙ ap (λ (r : List ℕ). s.blanks ++ r) e ∙ sym (append_assoc s.blanks (b ∷ []) more);
+}
+
 -- ---- calls
 
 pub call_made : (names : NameLists) (call made : Call) (kinds : List ArgumentKind) (values : List Value) (text end : List ℕ) (found : Option Call) → kinds ≡ kinds_of call
@@ -217,40 +241,92 @@ return_spelled names = record { before = []; rest = []; before_blank = refl; fol
 
 -- ---- what happens on a processor
 
-on_digit : (names : NameLists) (processor : Proc) (Says : List ℕ → Type 0) (number : ℕ) (token : List ℕ) → IsNumberOf names number processor → Says token
-    → OnProcessor names processor Says (80 ∷ ((48 + number) ∷ (32 ∷ token)))
-unfolding is_of
-on_digit names processor Says number token is says =
+-- blanks behind what happens
+alone_more : (word token blanks : List ℕ) → IsAlone word token → AreBlank blanks → IsAlone word (token ++ blanks)
+alone_more word token blanks a blank = record {
+  behind = a.behind ++ blanks;
+  behind_blank = list_all-both (is_of Blank) a.behind blanks a.behind_blank blank;
+  parts = ap (λ (t : List ℕ). t ++ blanks) a.parts ∙ append_assoc word a.behind blanks;
+}
+
+enclosed_more : (names : NameLists) (call : Call) (text blanks : List ℕ) → SpellsEnclosed names call text → AreBlank blanks → SpellsEnclosed names call (text ++ blanks)
+enclosed_more names call text blanks e blank = record {
+  between = e.between;
+  inner = e.inner;
+  behind = e.behind ++ blanks;
+  between_blank = e.between_blank;
+  behind_blank = list_all-both (is_of Blank) e.behind blanks e.behind_blank blank;
+  arguments = e.arguments;
+  parts = ap (λ (t : List ℕ). t ++ blanks) e.parts ∙ append_assoc e.between (40 ∷ (e.inner ++ (41 ∷ e.behind))) blanks
+      ∙ ap (λ (r : List ℕ). e.between ++ (40 ∷ r)) (append_assoc e.inner (41 ∷ e.behind) blanks);
+}
+
+follows_more : (names : NameLists) (call : Call) (text blanks : List ℕ) → FollowsName names call text → AreBlank blanks → FollowsName names call (text ++ blanks)
+follows_more names call text blanks (inl (bare, all)) blank = inl (bare, list_all-both (is_of Blank) text blanks all blank)
+follows_more names call text blanks (inr (bare, e)) blank = inr (bare, enclosed_more names call text blanks e blank)
+
+call_more : (names : NameLists) (token blanks : List ℕ) (call : Call) → SpellsCall names token call → AreBlank blanks → SpellsCall names (token ++ blanks) call
+call_more names token blanks call s blank = record {
+  before = s.before;
+  rest = s.rest ++ blanks;
+  before_blank = s.before_blank;
+  follows = follows_more names call s.rest blanks s.follows blank;
+  parts = ap (λ (t : List ℕ). t ++ blanks) s.parts ∙ append_assoc s.before (text_of call ++ s.rest) blanks
+      ∙ ap (λ (r : List ℕ). s.before ++ r) (append_assoc (text_of call) s.rest blanks);
+}
+
+happens_more : (names : NameLists) (processor : Proc) (token blanks : List ℕ) (event : Event) → Happens names processor token event → AreBlank blanks
+    → Happens names processor (token ++ blanks) event
+happens_more names processor token blanks (events.Tick on) (same, says) blank = (same, alone_more (codes "tick") token blanks says blank)
+happens_more names processor token blanks (events.Ipi on) (same, says) blank = (same, alone_more (codes "ipi") token blanks says blank)
+happens_more names processor token blanks (events.Call on call) (same, says) blank = (same, call_more names token blanks call says blank)
+
+on_digit : (names : NameLists) (processor : Proc) (Says : List ℕ → Type 0) (number blank : ℕ) (before between token : List ℕ) → IsNumberOf names number processor → AreBlank before
+    → AreBlank (blank ∷ between) → Says token → OnProcessor names processor Says (before ++ (80 ∷ ((48 + number) ∷ (blank ∷ (between ++ token)))))
+on_digit names processor Says number blank before between token is ahead behind says =
     let spelled : decimal number ≡ (48 + number) ∷ [] = decimal_digit number (omega (arith, is.most)) in
     record {
-      before = [];
+      before = before;
       number = number;
-      between = 32 ∷ [];
+      between = blank ∷ between;
       rest = token;
-      before_blank = refl;
+      before_blank = ahead;
       least = is.least;
       most = is.within;
       is_number = is.is_number;
       apart = omega arith;
-      between_blank = refl;
+      between_blank = behind;
       happens = says;
-      parts = ap (λ (d : List ℕ). 80 ∷ (d ++ (32 ∷ token))) (sym spelled);
+      parts = ap (λ (d : List ℕ). before ++ (80 ∷ (d ++ (blank ∷ (between ++ token))))) (sym spelled);
     }
 
-event_on : (names : NameLists) (processor : Proc) (number : ℕ) (token : List ℕ) (event : Event) → IsNumberOf names number processor → Happens names processor token event
-    → SpellsEvent names (80 ∷ ((48 + number) ∷ (32 ∷ token))) event
-event_on names processor number token (events.Tick on) is (same, says) = subst (λ (p : Proc). OnProcessor names p (IsAlone (codes "tick")) (80 ∷ ((48 + number) ∷ (32 ∷ token)))) (sym same) (on_digit names processor _ number token is says)
-event_on names processor number token (events.Ipi on) is (same, says) = subst (λ (p : Proc). OnProcessor names p (IsAlone (codes "ipi")) (80 ∷ ((48 + number) ∷ (32 ∷ token)))) (sym same) (on_digit names processor _ number token is says)
-event_on names processor number token (events.Call on call) is (same, says) =
-    subst (λ (p : Proc). OnProcessor names p (λ rest. SpellsCall names rest call) (80 ∷ ((48 + number) ∷ (32 ∷ token)))) (sym same) (on_digit names processor _ number token is says)
+module _ (names : NameLists) (processor : Proc) (number blank : ℕ) (before between token : List ℕ) (is : IsNumberOf names number processor) (ahead : AreBlank before) (behind : AreBlank (blank ∷ between)) where
+  abbrev event_text : List ℕ
+  event_text = before ++ (80 ∷ ((48 + number) ∷ (blank ∷ (between ++ token))))
 
-pub event_spelled : (names : NameLists) (processor : Proc) (text first second behind end : List ℕ) (number : ℕ) (event : Event) → IsNumberOf names number processor
-    → text ≡ 80 ∷ first → first ≡ (48 + number) ∷ second → second ≡ 32 ∷ behind → IsFront (Happens names processor) behind event end → IsFront (SpellsEvent names) text event end
-event_spelled names processor text first second behind end number event is begins digit between f = record {
-  token = 80 ∷ ((48 + number) ∷ (32 ∷ f.token));
-  spelled = event_on names processor number f.token event is f.spelled;
-  parts = begins ∙ ap (λ (r : List ℕ). 80 ∷ r) (digit ∙ ap (λ (r : List ℕ). (48 + number) ∷ r) (between ∙ ap (λ (r : List ℕ). 32 ∷ r) f.parts));
-}
+  event_on : (event : Event) → Happens names processor token event → SpellsEvent names event_text event
+  event_on (events.Tick on) (same, says) =
+      subst (λ (p : Proc). OnProcessor names p (IsAlone (codes "tick")) event_text) (sym same) (on_digit names processor _ number blank before between token is ahead behind says)
+  event_on (events.Ipi on) (same, says) =
+      subst (λ (p : Proc). OnProcessor names p (IsAlone (codes "ipi")) event_text) (sym same) (on_digit names processor _ number blank before between token is ahead behind says)
+  event_on (events.Call on call) (same, says) =
+      subst (λ (p : Proc). OnProcessor names p (λ rest. SpellsCall names rest call) event_text) (sym same) (on_digit names processor _ number blank before between token is ahead behind says)
+
+pub event_spelled : (names : NameLists) (processor : Proc) (text start first second third behind end rest : List ℕ) (number : ℕ) (event : Event) → IsNumberOf names number processor
+    → IsBehindBlanks text start → start ≡ 80 ∷ first → first ≡ (48 + number) ∷ second → IsBehindBlank second third → IsBehindBlanks third behind
+    → IsFront (Happens names processor) behind event end → IsBehindBlanks end rest → IsFront (SpellsEvent names) text event rest
+event_spelled names processor text start first second third behind end rest number event is ahead begins digit (b, blank, apart) more f tail =
+    let token = f.token ++ tail.blanks in
+    let whole = 80 ∷ ((48 + number) ∷ (b ∷ (more.blanks ++ token))) in
+    let inner : behind ≡ token ++ rest = f.parts ∙ ap (λ (r : List ℕ). f.token ++ r) tail.parts ∙ sym (append_assoc f.token tail.blanks rest) in
+    let wide : third ≡ (more.blanks ++ token) ++ rest = more.parts ∙ ap (λ (r : List ℕ). more.blanks ++ r) inner ∙ sym (append_assoc more.blanks token rest) in
+    let line : start ≡ whole ++ rest = begins ∙ ap (λ (r : List ℕ). 80 ∷ r) (digit ∙ ap (λ (r : List ℕ). (48 + number) ∷ r) (apart ∙ ap (λ (r : List ℕ). b ∷ r) wide)) in
+    record {
+      token = ahead.blanks ++ whole;
+      spelled = event_on names processor number b ahead.blanks more.blanks token is ahead.blank (blank_first b more.blanks blank more.blank) event
+          (happens_more names processor f.token tail.blanks event f.spelled tail.blank);
+      parts = ahead.parts ∙ ap (λ (r : List ℕ). ahead.blanks ++ r) line ∙ sym (append_assoc ahead.blanks whole rest);
+    }
 
 pub happens_call : (names : NameLists) (processor : Proc) (text end : List ℕ) (call : Call) → IsFront (SpellsCall names) text call end → IsFront (Happens names processor) text (events.Call processor call) end
 happens_call names processor text end call f = record { token = f.token; spelled = (refl, f.spelled); parts = f.parts }
@@ -269,17 +345,38 @@ drop_rest line rest =
     let place : length (line ++ (10 ∷ rest)) - length rest ≡ length line + 1 = omega (arith, length-append line (10 ∷ rest)) in
     ap (λ (n : ℕ). drop n (line ++ (10 ∷ rest))) place ∙ drop-append-add line (10 ∷ rest) 1
 
--- a line feed behind an event ends the first line
-pub first_ended : (names : NameLists) (bytes rest behind : List ℕ) (event : Event) → AreValid names → IsFront (SpellsEvent names) bytes event rest → rest ≡ 10 ∷ behind
+no_feed_byte : (b : ℕ) → is_of Line b ≡ true → not (eqb b 10) ≡ true
+unfolding is_of
+no_feed_byte b line = go (eqb b 10) refl
+  where
+    go : (t : Bool) → eqb b 10 ≡ t → not t ≡ true
+    go true e = absurd (false≢true (ap (is_of Line) (sym (eqb-true b 10 e)) ∙ line))
+    go false e = refl
+
+no_feed_ended : (core line : List ℕ) → Ended core line → list_all (is_of Line) core ≡ true → HasNoFeed line
+no_feed_ended core line (inl is) all = rw is (no_feed_in core all)
+no_feed_ended core line (inr is) all =
+    let cores = list_all-weaker (is_of Line) (λ b. not (eqb b 10)) no_feed_byte core all in
+    rw is (no_feed (core ++ (13 ∷ [])) (list_all-both (λ b. not (eqb b 10)) core (13 ∷ []) cores refl))
+
+line_ended : (names : NameLists) (bytes line core behind : List ℕ) (event : Event) → AreValid names → SpellsEvent names core event → Ended core line → bytes ≡ line ++ (10 ∷ behind)
     → IsFirstLine names bytes (Ok (Some event)) (length bytes - length behind)
-first_ended names bytes rest behind event valid f feed =
-    let whole : bytes ≡ f.token ++ (10 ∷ behind) = f.parts ∙ ap (λ (r : List ℕ). f.token ++ r) feed in
-    let long : length bytes ≡ length f.token + suc (length behind) = ap length whole ∙ length-append f.token (10 ∷ behind) in
+line_ended names bytes line core behind event valid spelled ended whole =
+    let long : length bytes ≡ length line + suc (length behind) = ap length whole ∙ length-append line (10 ∷ behind) in
     record {
-      line = f.token;
-      no_feed = no_feed_in f.token (line_of_spelled names f.token event valid f.spelled);
-      parts = whole ∙ ap (λ (r : List ℕ). f.token ++ (10 ∷ r)) (sym (rw whole (drop_rest f.token behind)));
+      line = line;
+      no_feed = no_feed_ended core line ended (line_of_spelled names core event valid spelled);
+      parts = whole ∙ ap (λ (r : List ℕ). line ++ (10 ∷ r)) (sym (rw whole (drop_rest line behind)));
       some = omega (arith, long);
       within = omega arith;
-      says = sym (one_read names f.token event valid (f.token, inl refl, f.spelled));
+      says = sym (one_read names line event valid (core, ended, spelled));
     }
+
+-- the end of a line behind an event ends the first line
+pub first_ended : (names : NameLists) (bytes rest behind : List ℕ) (event : Event) → AreValid names → IsFront (SpellsEvent names) bytes event rest → IsBehindEnd rest behind
+    → IsFirstLine names bytes (Ok (Some event)) (length bytes - length behind)
+first_ended names bytes rest behind event valid f (inl feed) =
+    line_ended names bytes f.token f.token behind event valid f.spelled (inl refl) (f.parts ∙ ap (λ (r : List ℕ). f.token ++ r) feed)
+first_ended names bytes rest behind event valid f (inr feed) =
+    line_ended names bytes (f.token ++ (13 ∷ [])) f.token behind event valid f.spelled (inr refl)
+    (f.parts ∙ ap (λ (r : List ℕ). f.token ++ r) feed ∙ sym (append_assoc f.token (13 ∷ []) (10 ∷ behind)))

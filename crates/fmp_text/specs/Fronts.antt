@@ -1,6 +1,7 @@
 -- What stands at the front of a text, as the short reader takes it apart: an event, in it a call, and its arguments.
-use Rattle.std.specs.Prelude.{◌≡◌, ℕ, ◌≤◌, List, ◌∷◌, ◌++◌, codes}
-use Rattle.fmp_bytes.specs.Bytes.{close_parenthesis, comma}
+use Rattle.std.specs.Prelude.{◌≡◌, ℕ, ◌≤◌, ◌⊎◌, true, List, ◌∷◌, ◌++◌, codes}
+use Rattle.fmp_bytes.specs.declared.classes.Class.TheVariants.{Blank}
+use Rattle.fmp_bytes.specs.Bytes.{is_of, carriage_return, close_parenthesis, comma, line_feed}
 use Rattle.fmp_codes.specs.Numbers.{as_proc}
 use Rattle.fmp_codes.specs.declared.calls.Call.{Call}
 use Rattle.fmp_codes.specs.declared.numbers.Proc.{Proc}
@@ -18,6 +19,20 @@ pub record IsFront {X : Type 0} (Spells : List ℕ → X → Type 0) (text : Lis
   pub token : List ℕ
   pub spelled : Spells token value
   pub parts : text ≡ token ++ rest
+
+-- one blank, and the rest follows
+abbrev pub IsBehindBlank : List ℕ → List ℕ → Type 0
+IsBehindBlank text rest = (blank : ℕ) × (is_of Blank blank ≡ true) × (text ≡ blank ∷ rest)
+
+-- blanks or none, and the rest follows
+pub record IsBehindBlanks (text rest : List ℕ) : Type 0 where
+  pub blanks : List ℕ
+  pub blank : AreBlank blanks
+  pub parts : text ≡ blanks ++ rest
+
+-- the end of a line, and the rest follows
+abbrev pub IsBehindEnd : List ℕ → List ℕ → Type 0
+IsBehindEnd text rest = (text ≡ line_feed ∷ rest) ⊎ (text ≡ carriage_return ∷ (line_feed ∷ rest))
 
 -- a comma and blanks, and the rest follows
 pub record IsBehindComma (text rest : List ℕ) : Type 0 where

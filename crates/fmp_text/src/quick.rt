@@ -5,7 +5,7 @@ ghost use Rattle.fmp_calls.specs.Table.{kinds_of};
 ghost use Rattle.fmp_calls.specs.declared.kinds.ArgumentKind.TheVariants as kinds;
 ghost use Rattle.fmp_text.specs.Grammar.{IsNumber, IsObjectName, SpellsValue, SpellsCall};
 ghost use Rattle.fmp_text.specs.TextGrammar.{SpellsEvent};
-ghost use Rattle.fmp_text.specs.Fronts.{IsFront, IsBehindComma, IsClosedBehind, IsMade, IsNumberOf, Happens};
+ghost use Rattle.fmp_text.specs.Fronts.{IsFront, IsBehindBlank, IsBehindBlanks, IsBehindComma, IsClosedBehind, IsMade, IsNumberOf, Happens};
 ghost use Rattle.fmp_text.specs.Argument.{constant_of};
 
 use crate::argument::ranged;
@@ -38,6 +38,29 @@ pub(crate) fn after_byte(byte: u8, text: &[u8]) -> Option<&[u8]>
     ensures { IfSome result (λ rest. text.now ≡ byte ∷ rest.now) }
 {
     behind(byte, text)
+}
+
+/// What follows a space or a tab, where the text begins with one.
+#[inline(always)]
+fn behind_blank(text: &[u8]) -> Option<&[u8]>
+    ensures { IfSome result (λ rest. IsBehindBlank text.now rest.now) }
+{
+    match after_byte(b' ', text) {
+        Some(rest) => Some(rest),
+        None => after_byte(b'\t', text),
+    }
+}
+
+/// What follows the spaces and tabs that the text begins with, if any.
+#[inline(always)]
+fn behind_blanks(text: &[u8]) -> &[u8]
+    ensures { IsBehindBlanks text.now result.now }
+{
+    let mut rest = text;
+    while let Some(more) = behind_blank(rest) {
+        rest = more;
+    }
+    rest
 }
 
 /// The value of a decimal digit, and what follows it.
@@ -296,14 +319,17 @@ fn happening_front<'a>(names: &Names, processor: Proc, text: &'a [u8]) -> Option
     Some((Event::Call(processor, call), rest))
 }
 
-/// The event that the text begins with, and what follows it. `None` says nothing.
+/// The event that the text begins with, with the blanks around it, and what follows. `None` says nothing.
 #[inline(always)]
 pub fn quick_event<'a>(names: &Names, text: &'a [u8]) -> Option<(Event, &'a [u8])>
     ensures { IfSome result (λ found. IsFront (SpellsEvent names.now) text.now found.0 found.1.now) }
 {
-    let (number, rest) = digit_front(after_byte(b'P', text)?)?;
-    let behind = after_byte(b' ', rest)?;
+    let start = behind_blanks(text);
+    let first = after_byte(b'P', start)?;
+    let (number, second) = digit_front(first)?;
+    let third = behind_blank(second)?;
+    let behind = behind_blanks(third);
     let processor = processor_at(names, number)?;
     let (event, end) = happening_front(names, processor, behind)?;
-    Some((event, end))
+    Some((event, behind_blanks(end)))
 }

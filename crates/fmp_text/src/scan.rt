@@ -1,6 +1,7 @@
 //! Finding the next line of an event text that says something.
 ghost use Rattle.std.specs.Prelude.{◌≡◌, ◌≢◌, ◌<◌, ◌≤◌, ◌+◌, ◌^◌, length, drop, Ok, None, IfSome};
 ghost use Rattle.fmp_text.specs.Events.{ScansTo, HasNoFeed, IsFirstLine};
+ghost use Rattle.fmp_text.specs.Fronts.{IsBehindEnd};
 
 use crate::fault::TextKind;
 use crate::line::line_event;
@@ -24,6 +25,17 @@ struct SaidLine {
     length: usize,
 }
 
+/// What follows the end of a line, a line feed with a carriage return before it or not, where the text begins with that.
+#[inline(always)]
+fn behind_end(text: &[u8]) -> Option<&[u8]>
+    ensures { IfSome result (λ rest. IsBehindEnd text.now rest.now) }
+{
+    match after_byte(b'\r', text) {
+        Some(feed) => after_byte(b'\n', feed),
+        None => after_byte(b'\n', text),
+    }
+}
+
 /// The first line, where it is whole and an event of the common form.
 #[inline(always)]
 fn quick_line(names: &Names, bytes: &[u8]) -> Option<SaidLine>
@@ -31,7 +43,7 @@ fn quick_line(names: &Names, bytes: &[u8]) -> Option<SaidLine>
 {
     names.validity();
     let (event, rest) = quick_event(names, bytes)?;
-    let behind = after_byte(b'\n', rest)?;
+    let behind = behind_end(rest)?;
     Some(SaidLine {
         said: Ok(Some(event)),
         length: bytes.len() - behind.len(),
