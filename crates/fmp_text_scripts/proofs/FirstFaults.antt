@@ -7,7 +7,7 @@ use Rattle.std.proofs.lemmas.List.{append-nil}
 use Rattle.std.proofs.lemmas.List.Elements.{All-nil, All-cons, All-push, All-tail}
 use Rattle.fmp_bytes.specs.Bytes.{pieces_of}
 use Rattle.fmp_bytes.proofs.Cutting.{join-pieces_of, some-pieces_of, apart-pieces_of}
-use Rattle.fmp_bytes.proofs.Parsed.{tested_ok, bind_parts}
+use Rattle.fmp_bytes.proofs.Parsed.{bind_parts}
 use Rattle.fmp_names.specs.Names.{NameLists, AreValid}
 use Rattle.fmp_text.specs.Limits.{most_bytes}
 use Rattle.fmp_text.specs.declared.fault.TextFault.{TextFault}
@@ -29,16 +29,17 @@ use Rattle.fmp_bytes.proofs.Prefixes.{list_all-weaker, list_all-both}
 use Rattle.fmp_bytes.proofs.Tokens.{identifier_words}
 use Rattle.fmp_bytes.proofs.Words.{same_word}
 use Rattle.fmp_text_scripts.specs.Scripts.{Steps}
-use Rattle.fmp_text_scripts.specs.Ways.{most_steps, most_labels}
+use Rattle.fmp_text_scripts.specs.Ways.{most_labels}
 use Rattle.fmp_text_scripts.specs.Lines.{said_in}
 use Rattle.fmp_text_scripts.specs.Texts.{Open, Reading, nothing_read, took, with_line, at_end, after_line, fault_at, scripts_from, scripts_in}
 use Rattle.fmp_codes.specs.declared.calls.Call.{Call}
 use Rattle.fmp_text.specs.TextGrammar.{SpellsNothing}
 use Rattle.fmp_text_scripts.specs.declared.linking.Jump.{Jump}
 use Rattle.fmp_text_scripts.specs.declared.linking.Label.{Label}
-use Rattle.fmp_text_scripts.specs.ScriptGrammar.{Part, Asks, Stands, Jumps, ArePlaced, AreNew, IsLabelName, IsLine, SpellsEnd, SpellsHead, SpellsLabel, SpellsPart, SpellsParts, SpellsScripts, calls_of, is_behind, jumps_of, labels_of}
+use Rattle.fmp_text_scripts.specs.ScriptGrammar.{IsLabelName, IsLine, SpellsEnd, SpellsHead, SpellsLabel, SpellsPart, SpellsParts, SpellsScripts}
+use Rattle.fmp_text_scripts.specs.Sources.{Part, Asks, Stands, Jumps, ArePlaced, AreNew, calls_of, is_behind, jumps_of, labels_of}
 use Rattle.fmp_text_scripts.proofs.ScriptFaults.{line_fault}
-use Rattle.fmp_text_scripts.specs.FirstFaults.{HaveNoFault, LeaveOpen, CanEnd, Say, all_labels, ending, FaultInLine, AreOpen, FaultAtEnd, FirstFault}
+use Rattle.fmp_text_scripts.specs.FirstFaults.{HaveNoFault, LeaveOpen, Say, all_labels, ending, FaultInLine, AreOpen, FaultAtEnd, FirstFault}
 use Rattle.fmp_text_scripts.proofs.Read.{scripts_from-cut, judged}
 use Rattle.fmp_text_scripts.proofs.SpelledLines.{LineSays, said_of, end_read, part_read, line_is_spelled}
 use Rattle.fmp_text_scripts.proofs.SpelledScripts.{reading, opened, with_part, MayCome, record_of, last_line, opening_parts, taken_parts, closed_parts, scripts_in-spelled, text_is_spelled}

@@ -6,7 +6,7 @@ use Rattle.std.specs.Str.{bytes_eq}
 use Rattle.std.proofs.lemmas.Bool.{cond_both, ltb-true, eqb-false}
 use Rattle.std.proofs.lemmas.List.Elements.{All-nil, All-push}
 use Rattle.std.proofs.lemmas.List.Quantifiers.{all_pairs_push}
-use Rattle.fmp_bytes.specs.declared.classes.Class.TheVariants.{Argument, Blank, Word, Line}
+use Rattle.fmp_bytes.specs.declared.classes.Class.TheVariants.{Argument, Blank, Word}
 use Rattle.fmp_bytes.specs.Bytes.{is_of, prefix, after, behind, colon, is_identifier}
 use Rattle.fmp_bytes.specs.Results.{◌>>=◌}
 use Rattle.fmp_calls.specs.Arguments.{CallInBits}
@@ -27,7 +27,7 @@ use Rattle.fmp_text_scripts.specs.declared.ways.Way.{Way}
 use Rattle.fmp_text_scripts.specs.Linking.{has_label, linked}
 use Rattle.fmp_text_scripts.specs.Scripts.{Steps, AreInBits}
 use Rattle.fmp_text_scripts.specs.Ways.{most_steps, most_labels, most_ways}
-use Rattle.fmp_text_scripts.specs.Lines.{label_in, function_in, begins, ends, asks, goal_in, pattern_of, valued, turned, turn_with, turn_in, turns, goes, stands, other_said, are_line, said_by, said_in}
+use Rattle.fmp_text_scripts.specs.Lines.{label_in, function_in, begins, ends, asks, goal_in, pattern_of, valued, turn_with, turn_in, turns, goes, stands, other_said, are_line, said_by, said_in}
 use Rattle.fmp_text_scripts.proofs.Linked.{linked_long}
 use Rattle.fmp_text_scripts.specs.Texts.{Open, Reading, nothing_read, asked, labelled, jumped, ended, closed, took, with_line, at_end, after_line, scripts_from, scripts_in}
 

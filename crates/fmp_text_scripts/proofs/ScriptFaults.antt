@@ -1,6 +1,6 @@
 -- A line of a script text is read with a fault exactly where the table of faults has it.
-use Rattle.std.proofs.Common.{◌≡◌, ◌≢◌, ℕ, ℤ, ◌+◌, ◌≤◌, ◌==◌, ◌^◌, not, cond, Bool, true, false, ◌&&◌, ◌⊎◌, inl, inr, List, [], ◌∷◌, ◌++◌, length, drop, suc, Option, Some, None, Result, Ok, Err, is_some, refl, sym, ap, subst, ◌∙◌, arith}
-use Rattle.std.specs.Prelude.{codes, nat_lt, decimal, option_map}
+use Rattle.std.proofs.Common.{◌≡◌, ◌≢◌, ℕ, ℤ, ◌+◌, ◌≤◌, ◌==◌, ◌^◌, cond, Bool, true, false, ◌&&◌, ◌⊎◌, inl, inr, List, [], ◌∷◌, ◌++◌, length, drop, suc, Option, Some, None, Result, Ok, Err, is_some, refl, sym, ap, subst, ◌∙◌, arith}
+use Rattle.std.specs.Prelude.{codes, nat_lt, decimal}
 use Rattle.std.specs.List.{list_all, list_any, prefix_len}
 use Rattle.std.specs.Option.{ok_or}
 use Rattle.std.specs.Str.{bytes_eq}
@@ -17,7 +17,6 @@ use Rattle.fmp_calls.specs.Table.{named, text_of}
 use Rattle.fmp_calls.specs.declared.kinds.NameKind.TheVariants.{Function}
 use Rattle.fmp_calls.proofs.Matched.{named-text_of, no_ipi, no_tick, text_of-named}
 use Rattle.fmp_codes.specs.declared.calls.Call.{Call}
-use Rattle.fmp_codes.specs.declared.calls.Call.TheVariants as calls
 use Rattle.fmp_codes.specs.Numbers.{as_proc}
 use Rattle.fmp_codes.specs.declared.records.Event.{Event}
 use Rattle.fmp_codes.specs.declared.records.Event.TheVariants as event
@@ -52,10 +51,11 @@ use Rattle.fmp_text_scripts.specs.Linking.{has_label, linked}
 use Rattle.fmp_text_scripts.specs.Lines.{name_in, label_in, function_in, begins, ends, asks, is_taken, code_in, value_in, pattern_of, valued, goal_in, turned, turn_with, turn_in, turns, goes, stands, other_said, are_line, said_by, said_in}
 use Rattle.fmp_text_scripts.specs.Scripts.{Steps}
 use Rattle.fmp_text_scripts.specs.Ways.{most_steps, most_labels, most_ways}
-use Rattle.fmp_text_scripts.specs.ScriptGrammar.{Jumps, SpellsPart}
+use Rattle.fmp_text_scripts.specs.ScriptGrammar.{SpellsPart}
+use Rattle.fmp_text_scripts.specs.Sources.{Jumps}
 use Rattle.fmp_text_scripts.specs.ScriptFaults.{HeadFault, EndFault, JumpFault, NameFault, GoalFault, SpellsData, ValueFault, IsNoCode, TurnFault, LabelFault, OtherFault, IsOneName, ScriptFault, StepFault, WordFault}
 use Rattle.fmp_text_scripts.specs.Texts.{Open, Reading, ended, took, with_line}
-use Rattle.fmp_text_scripts.proofs.SpelledLines.{blanks_no_word, by_word, first_word_of, word_stays, IsNumber, value_is, code_word, code_read, IsCode, text_spelled, part_says, IsSaying, IsFree, free_parts}
+use Rattle.fmp_text_scripts.proofs.SpelledLines.{blanks_no_word, by_word, first_word_of, word_stays, value_is, code_word, code_read, text_spelled, part_says, free_parts}
 use Rattle.fmp_text_scripts.proofs.SpelledScripts.{reading}
 
 -- ---- words

@@ -1,5 +1,5 @@
 -- A line of a script text is read exactly where it is spelled.
-use Rattle.std.proofs.Common.{◌≡◌, ◌≢◌, ℕ, ℤ, ◌≤◌, ◌^◌, ◌==◌, Bool, true, false, not, ◌&&◌, ◌||◌, get_or, slice_index, eqb, ltb, ◌⊎◌, inl, inr, List, [], ◌∷◌, ◌++◌, length, Option, Some, None, Result, Ok, Err, cond, suc, refl, sym, ap, subst, ◌∙◌, ◌-◌, leb, arith, append_assoc, length-append}
+use Rattle.std.proofs.Common.{◌≡◌, ◌≢◌, ℕ, ℤ, ◌≤◌, ◌^◌, ◌==◌, Bool, true, false, not, ◌&&◌, ◌||◌, get_or, slice_index, eqb, ltb, ◌⊎◌, inl, inr, List, [], ◌∷◌, ◌++◌, length, Option, Some, None, Result, Ok, Err, cond, refl, sym, ap, subst, ◌∙◌, ◌-◌, leb, arith, append_assoc, length-append}
 use Rattle.std.specs.Prelude.{codes}
 use Rattle.std.specs.List.{list_all, prefix_len}
 use Rattle.std.specs.Option.{ok_or}
@@ -32,7 +32,7 @@ use Rattle.fmp_codes.specs.Codes as code
 use Rattle.fmp_codes.specs.declared.codes.Code.{Code}
 use Rattle.fmp_codes.specs.declared.codes.Code.TheVariants.{Accepted, Parameter, Identifier, Context, IllegalUse, ObjectState, QueueOverflow, WaitReleased, TimedOut}
 use Rattle.fmp_bytes.proofs.Prefixes.{prefix-append, prefix-after, after-stops, list_all-take_while, stops-cons, stops-append, stops-all, list_all-weaker, list_all-both, list_all-parts}
-use Rattle.fmp_bytes.proofs.Included.{argument-word, line-argument, line-blank, not_argument-blank, not_blank-argument, not_word-blank}
+use Rattle.fmp_bytes.proofs.Included.{argument-word, line-argument, not_argument-blank, not_blank-argument}
 use Rattle.fmp_bytes.proofs.Parsed.{ok_or_parts, tested_ok, bind_parts}
 use Rattle.fmp_bytes.proofs.Tokens.{identifier_bytes, identifier_words, number_bytes}
 use Rattle.fmp_calls.specs.Table.{text_of}
@@ -48,13 +48,14 @@ use Rattle.fmp_text.specs.Grammar.{AreBlank}
 use Rattle.fmp_text.specs.TextGrammar.{Ended, SpellsNothing}
 use Rattle.fmp_text.proofs.SpelledCalls.{not-word, call_in-spelled, call_is_spelled, word_of_call, line_of_call, blanks_in_line}
 use Rattle.fmp_text.proofs.SpelledEvents.{blanks_stop, blank_between, line_of_words}
-use Rattle.fmp_text.proofs.SpelledTexts.{after_first, core_of, ended, nothing_read, nothing_spelled, skipped_parts, without_return-cases}
+use Rattle.fmp_text.proofs.SpelledTexts.{after_first, ended, nothing_read, nothing_spelled, skipped_parts, without_return-cases}
 use Rattle.fmp_text_scripts.specs.declared.line.Said.{Said}
 use Rattle.fmp_text_scripts.specs.declared.line.Said.TheVariants as said
 use Rattle.fmp_text_scripts.specs.declared.ways.Pattern.{Pattern}
 use Rattle.fmp_text_scripts.specs.declared.ways.Pattern.TheVariants as pattern
 use Rattle.fmp_text_scripts.specs.Lines.{name_in, label_in, function_in, begins, ends, asks, is_taken, code_in, value_in, pattern_of, valued, goal_in, turned, turn_with, turn_in, turns, goes, stands, other_said, are_line, said_by, said_in}
-use Rattle.fmp_text_scripts.specs.ScriptGrammar.{Part, Asks, Stands, Jumps, SpellsHead, SpellsEnd, SpellsStep, SpellsLabel, SpellsGoal, SpellsAnswer, SpellsOn, SpellsPart, IsLabelName, IsLine}
+use Rattle.fmp_text_scripts.specs.ScriptGrammar.{SpellsHead, SpellsEnd, SpellsStep, SpellsLabel, SpellsGoal, SpellsAnswer, SpellsOn, SpellsPart, IsLine}
+use Rattle.fmp_text_scripts.specs.Sources.{Part, Asks, Stands, Jumps}
 
 -- ---- the first word of a text
 

@@ -20,14 +20,14 @@ use Rattle.fmp_text_scripts.specs.declared.line.Said.{Said}
 use Rattle.fmp_text_scripts.specs.declared.line.Said.TheVariants as said
 use Rattle.fmp_text_scripts.specs.declared.linking.Jump.{Jump}
 use Rattle.fmp_text_scripts.specs.declared.linking.Label.{Label}
-use Rattle.fmp_text_scripts.specs.declared.ways.Pattern.{Pattern}
 use Rattle.fmp_text_scripts.specs.declared.ways.Way.{Way}
 use Rattle.fmp_text_scripts.specs.Scripts.{Steps}
 use Rattle.fmp_text_scripts.specs.Ways.{most_steps, most_labels, most_ways}
 use Rattle.fmp_text_scripts.specs.Lines.{said_in}
 use Rattle.fmp_text_scripts.specs.Linking.{has_label, is_any, linked}
 use Rattle.fmp_text_scripts.specs.Texts.{Open, Reading, nothing_read, ended, took, with_line, at_end, after_line, fault_at, scripts_from, scripts_in}
-use Rattle.fmp_text_scripts.specs.ScriptGrammar.{Part, Asks, Stands, Jumps, Source, calls_of, jumps_of, labels_of, ArePlaced, AreNew, IsScript, AreScripts, SpellsPart, IsLine, SpellsLines, SpellsScripts}
+use Rattle.fmp_text_scripts.specs.ScriptGrammar.{SpellsPart, IsLine, SpellsLines, SpellsScripts}
+use Rattle.fmp_text_scripts.specs.Sources.{Part, Asks, Stands, Jumps, Source, calls_of, jumps_of, labels_of, ArePlaced, AreNew, IsScript, AreScripts}
 use Rattle.fmp_text_scripts.proofs.Read.{scripts_from-cut, scripts_from-last}
 use Rattle.fmp_text_scripts.proofs.Kept.{scripts_fit}
 use Rattle.fmp_text_scripts.proofs.Linked.{linked_long}

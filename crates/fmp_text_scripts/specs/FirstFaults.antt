@@ -14,7 +14,8 @@ use Rattle.fmp_text_scripts.specs.Linking.{has_label, linked}
 use Rattle.fmp_text_scripts.specs.Scripts.{Steps}
 use Rattle.fmp_text_scripts.specs.Ways.{most_labels}
 use Rattle.fmp_text_scripts.specs.ScriptFaults.{ScriptFault}
-use Rattle.fmp_text_scripts.specs.ScriptGrammar.{Part, ArePlaced, AreNew, IsLine, SpellsEnd, SpellsHead, SpellsParts, SpellsScripts, calls_of, is_behind, jumps_of, labels_of}
+use Rattle.fmp_text_scripts.specs.ScriptGrammar.{IsLine, SpellsEnd, SpellsHead, SpellsParts, SpellsScripts}
+use Rattle.fmp_text_scripts.specs.Sources.{Part, ArePlaced, AreNew, calls_of, is_behind, jumps_of, labels_of}
 use Rattle.fmp_text_scripts.specs.Texts.{Open, scripts_in}
 
 -- these whole lines say these scripts and leave this one open: those before its head spell the scripts, and those behind it its parts

@@ -3,6 +3,7 @@ pub mod Scripts  -- Scripts: what the tasks and handlers of a function ask, one 
 pub mod Linking  -- Labels, and the jumps to them by their names.
 pub mod Lines  -- What a line of a script text says.
 pub mod Texts  -- Reading a script text, up to its first fault.
+pub mod Sources  -- Sources: what the lines of a script say, in which labels have names, and which script that is.
 pub mod ScriptGrammar  -- The grammar of script texts, apart from how they are read: which texts spell which scripts.
 pub mod ScriptFaults  -- What is wrong with a line of a script text, apart from how it is read: rows of faults, each where none above it is there.
 pub mod Views  -- What contracts see of scripts and of a reader.

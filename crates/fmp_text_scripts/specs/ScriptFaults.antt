@@ -1,6 +1,6 @@
 -- What is wrong with a line of a script text, apart from how it is read: rows of faults, each where none above it is there. They are told behind the
 -- scripts that the lines before it say, and the one that these leave open.
-use Rattle.std.specs.Prelude.{◌≡◌, ◌≢◌, ℕ, ℤ, ◌^◌, ◌≤◌, ◌⊎◌, ◌==◌, Bool, true, false, is_some, List, [], ◌∷◌, ◌++◌, length, Option, None, Some, codes}
+use Rattle.std.specs.Prelude.{◌≡◌, ◌≢◌, ℕ, ℤ, ◌^◌, ◌≤◌, ◌⊎◌, ◌==◌, Bool, true, false, is_some, List, length, Option, None, Some, codes}
 use Rattle.std.specs.List.{list_all, list_any}
 use Rattle.fmp_bytes.specs.declared.classes.Class.TheVariants.{Argument, Blank, Line}
 use Rattle.fmp_bytes.specs.Bytes.{is_of, prefix, after, behind, colon, is_identifier}
@@ -22,7 +22,8 @@ use Rattle.fmp_text_scripts.specs.declared.ways.Pattern.{Pattern}
 use Rattle.fmp_text_scripts.specs.Lines.{are_line, is_taken}
 use Rattle.fmp_text_scripts.specs.Linking.{has_label, linked}
 use Rattle.fmp_text_scripts.specs.Scripts.{Steps}
-use Rattle.fmp_text_scripts.specs.ScriptGrammar.{Jumps, SpellsPart}
+use Rattle.fmp_text_scripts.specs.ScriptGrammar.{SpellsPart}
+use Rattle.fmp_text_scripts.specs.Sources.{Jumps}
 use Rattle.fmp_text_scripts.specs.Texts.{Open}
 use Rattle.fmp_text_scripts.specs.Ways.{most_steps, most_labels, most_ways}
 

@@ -1,6 +1,6 @@
 //! What the functions of a configuration ask.
-ghost use Rattle.std.specs.Prelude.{◌≡◌, ◌==◌, ◌↔◌, IsTrue, length, slice_get, map, find};
-ghost use Rattle.std.specs.List.{list_all, list_any};
+ghost use Rattle.std.specs.Prelude.{◌≡◌, ◌==◌, ◌<◌, ◌↔◌, ℕ, IsTrue, length, slice_get, slice_index, map, find};
+ghost use Rattle.std.specs.List.{list_all, list_any, position_or_len};
 ghost use Rattle.std.specs.Option.{option_copied};
 ghost use Rattle.fmp_text_scripts.specs.Scripts.{AreStraight, script_of, script_of_option, ways_of, ways_of_option};
 ghost use Rattle.fmp_text_scripts.specs.Ways as spec;
@@ -19,17 +19,22 @@ pub struct Script {
     pub ways: Vec<Way>,
 }
 
+/// How many functions there may be.
+const FUNCTIONS: usize = 256;
+
 /// Scripts, in the order of their text. A function without one asks nothing.
 #[derive(Drop)]
 pub struct Scripts {
     scripts: Vec<Script>,
+    /// For each function how many scripts stand before its first one, or where it has none, how many there are.
+    places: [usize; FUNCTIONS],
     /// Whether none of them has a way.
     straight: bool,
 }
 
 impl Model for Scripts {
-    ghost use Rattle.std.specs.Prelude.{◌≡◌, ◌==◌, List, length, map};
-    ghost use Rattle.std.specs.List.{list_all};
+    ghost use Rattle.std.specs.Prelude.{◌≡◌, ◌==◌, ◌<◌, ℕ, List, length, map, slice_index};
+    ghost use Rattle.std.specs.List.{list_all, position_or_len};
     ghost use Rattle.fmp_text_scripts.specs.Scripts.{Steps};
     ghost use Rattle.fmp_text_scripts.specs.Views.{steps_of};
 
@@ -37,7 +42,8 @@ impl Model for Scripts {
 
     ghost view = { λ s. map steps_of s.scripts.items };
 
-    ghost invariant = { λ s. s.straight ≡ list_all (λ x. length x.ways.items == 0) s.scripts.items };
+    ghost invariant = { λ s. (s.straight ≡ list_all (λ x. length x.ways.items == 0) s.scripts.items)
+        × ((f : ℕ) → f < 256 → slice_index s.places f ≡ position_or_len (λ x. x.function == f) s.scripts.items) };
 }
 
 impl Scripts {
@@ -46,7 +52,12 @@ impl Scripts {
         ensures { result ≡ map steps_of scripts.items }
     {
         let straight = are_straight(&scripts);
-        Scripts { scripts, straight }
+        let places = places_of(&scripts);
+        Scripts {
+            scripts,
+            places,
+            straight,
+        }
     }
 
     /// Whether no script has a way.
@@ -60,8 +71,8 @@ impl Scripts {
     pub fn step(&self, function: Option<u8>, position: u32) -> Option<Call>
         ensures { result ≡ slice_get (script_of_option self.now function) position }
     {
-        let function = usize::from(function?);
-        step_in(&self.scripts, function, position as usize)
+        let function = function?;
+        step_in(&self.scripts, &self.places, function, position as usize)
     }
 
     /// Where a function's script goes on that has come behind a call which answered so, at once or by the end of its wait.
@@ -70,10 +81,14 @@ impl Scripts {
     {
         match function {
             None => onward(&[], position, code, value),
-            Some(function) => {
-                let function = usize::from(function);
-                onward_in(&self.scripts, function, position, code, value)
-            }
+            Some(function) => onward_in(
+                &self.scripts,
+                &self.places,
+                function,
+                position,
+                code,
+                value,
+            ),
         }
     }
 
@@ -92,11 +107,40 @@ fn are_straight(scripts: &[Script]) -> bool
     scripts.iter().all(|script| script.ways.is_empty())
 }
 
+/// How many scripts stand before the first one of a function, or where it has none, how many there are.
+fn place_of(scripts: &[Script], function: usize) -> usize
+    ensures { result ≡ position_or_len (λ s. s.function == function) scripts.now }
+{
+    scripts
+        .iter()
+        .take_while(|script| script.function != function)
+        .count()
+}
+
+/// For each function how many scripts stand before its first one, or where it has none, how many there are.
+fn places_of(scripts: &[Script]) -> [usize; FUNCTIONS]
+    ensures { (f : ℕ) → f < 256 → slice_index result f ≡ position_or_len (λ s. s.function == f) scripts.now }
+{
+    let mut places = [0; FUNCTIONS];
+    for function in 0..FUNCTIONS {
+        places[function] = place_of(scripts, function);
+    }
+    places
+}
+
+/// The script behind so many others, if there is one.
+fn script_at(scripts: &[Script], place: usize) -> Option<&Script>
+    ensures { option_copied result ≡ slice_get scripts.now place }
+{
+    scripts.get(place)
+}
+
 /// The script of a function.
-fn found(scripts: &[Script], function: usize) -> Option<&Script>
+fn found<'a>(scripts: &'a [Script], places: &[usize; FUNCTIONS], function: u8) -> Option<&'a Script>
+    requires { slice_index places.now function ≡ position_or_len (λ s. s.function == function) scripts.now }
     ensures { option_copied result ≡ find (λ s. s.function == function) scripts.now }
 {
-    scripts.iter().find(|script| script.function == function)
+    script_at(scripts, places[usize::from(function)])
 }
 
 /// The step at a position from 0, or none past the end.
@@ -108,10 +152,16 @@ fn step_at(steps: &[Call], position: usize) -> Option<Call>
 
 /// The step at a position of a function's script.
 #[tactic(auto, using(crate::proofs::Found::script_found))]
-fn step_in(scripts: &[Script], function: usize, position: usize) -> Option<Call>
+fn step_in(
+    scripts: &[Script],
+    places: &[usize; FUNCTIONS],
+    function: u8,
+    position: usize,
+) -> Option<Call>
+    requires { slice_index places.now function ≡ position_or_len (λ s. s.function == function) scripts.now }
     ensures { result ≡ slice_get (script_of (map steps_of scripts.now) function) position }
 {
-    match found(scripts, function) {
+    match found(scripts, places, function) {
         Some(script) => step_at(&script.steps, position),
         None => None,
     }
@@ -121,14 +171,16 @@ fn step_in(scripts: &[Script], function: usize, position: usize) -> Option<Call>
 #[tactic(auto, using(crate::proofs::Found::ways_found))]
 fn onward_in(
     scripts: &[Script],
-    function: usize,
+    places: &[usize; FUNCTIONS],
+    function: u8,
     position: u32,
     code: Code,
     value: Option<i64>,
 ) -> u32
+    requires { slice_index places.now function ≡ position_or_len (λ s. s.function == function) scripts.now }
     ensures { result ≡ spec.onward (ways_of (map steps_of scripts.now) function) position code value }
 {
-    match found(scripts, function) {
+    match found(scripts, places, function) {
         Some(script) => onward(&script.ways, position, code, value),
         None => onward(&[], position, code, value),
     }
