@@ -9,11 +9,11 @@ use Rattle.fmp_codes.specs.declared.records.Record.{Record}
 use Rattle.fmp_setup.specs.Setup.{Setup}
 use Rattle.fmp_rules.specs.World.{World, item}
 use Rattle.fmp_rules.specs.Objects.{alarm}
-use Rattle.fmp_rules.specs.Arguments.{ticks_of}
 use Rattle.fmp_rules.specs.Arrivals.{State, numbered}
 use Rattle.fmp_rules.specs.Step.{step, replay}
 use Rattle.fmp_rules.specs.Boot.{booted}
 use Rattle.fmp_law_balance.specs.Accepted.{is_accepted, names, one_if}
+use Rattle.fmp_law_waits.specs.Meanings.{ticks_in}
 use Rattle.fmp_law_waits.specs.Waits.{is_tick_for}
 
 -- the event is a call that starts this alarm
@@ -47,7 +47,7 @@ without_tick next (Some n) = if n == 1 then next else Some (n - 1)
 -- more than its time, where it is stopped none, and each tick that counts for it takes one, the last of which stops it
 abbrev pub alarm_left_after : {Q : Type 0} → World Q → Object → Record → Option ℕ → Option ℕ
 alarm_left_after w a r left =
-    if starts_alarm a r.event && is_accepted r.answer then ticks_of (alarm_time r.event)
+    if starts_alarm a r.event && is_accepted r.answer then ticks_in (alarm_time r.event)
     else if stops_alarm a r.event && is_accepted r.answer then None
     else if is_tick_for w.timer (alarm w a).assigned r.answer r.event then without_tick None left
     else left

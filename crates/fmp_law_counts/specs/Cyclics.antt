@@ -6,12 +6,13 @@ use Rattle.fmp_codes.specs.declared.calls.TimeCall.TheVariants as time
 use Rattle.fmp_codes.specs.declared.records.Event.{Event}
 use Rattle.fmp_codes.specs.declared.records.Event.TheVariants as event
 use Rattle.fmp_codes.specs.declared.records.Record.{Record}
+use Rattle.fmp_setup.specs.declared.setup.CyclicSetup.{CyclicSetup}
 use Rattle.fmp_setup.specs.Setup.{Setup}
 use Rattle.fmp_rules.specs.World.{World, item}
 use Rattle.fmp_rules.specs.Objects.{cyclic}
 use Rattle.fmp_rules.specs.Arrivals.{State, numbered}
 use Rattle.fmp_rules.specs.Step.{step, replay}
-use Rattle.fmp_rules.specs.Boot.{phase_left, booted}
+use Rattle.fmp_rules.specs.Boot.{booted}
 use Rattle.fmp_law_balance.specs.Accepted.{is_accepted, names}
 use Rattle.fmp_law_waits.specs.Waits.{is_tick_for}
 use Rattle.fmp_law_counts.specs.Alarms.{without_tick}
@@ -43,8 +44,11 @@ cyclic_left_by c m [] left = left
 cyclic_left_by c m (e ∷ es) left = cyclic_left_by c (step numbered m e).0 es (cyclic_left_after m c (step numbered m e).1 left)
 
 -- what is left of it at boot: where it is started then, one tick more than its phase
+abbrev pub left_at_boot : CyclicSetup → Option ℕ
+left_at_boot s = if s.starts then Some (s.phase + 1) else None
+
 abbrev pub cyclic_at_boot : Setup → Object → Option ℕ
-cyclic_at_boot s c = item None (map phase_left s.cyclics) c.number
+cyclic_at_boot s c = item None (map left_at_boot s.cyclics) c.number
 
 -- after these events the machine's count of the cyclic handler c is what the records say
 abbrev pub IsCyclicTimed : Setup → List Event → Object → Type 0

@@ -9,11 +9,11 @@ use Rattle.fmp_codes.specs.declared.records.Record.{Record}
 use Rattle.fmp_codes.specs.declared.records.Release.{Release}
 use Rattle.fmp_setup.specs.Setup.{Setup, counts_for}
 use Rattle.fmp_rules.specs.World.{task}
-use Rattle.fmp_rules.specs.Arguments.{ticks_of}
 use Rattle.fmp_rules.specs.Arrivals.{State, numbered}
 use Rattle.fmp_rules.specs.Step.{step, replay, answers}
 use Rattle.fmp_rules.specs.Boot.{booted}
 use Rattle.fmp_law_balance.specs.Accepted.{one_if}
+use Rattle.fmp_law_waits.specs.Meanings.{ticks_in}
 use Rattle.fmp_law_waits.specs.Waits.{begins, ends, is_released, is_tick_for, nobody_waits, after_records}
 use Rattle.fmp_law_waits.specs.Laws.{left_of}
 
@@ -46,6 +46,6 @@ EndsAtLastTick c earlier e later p t n =
     let begun = step numbered (replay numbered (booted c) earlier) e in
     let now = replay numbered begun.0 later in
     let tick = (step numbered now (event.Tick p)).1 in
-    left_of (begins t begun.1) ≡ ticks_of (pos n) → GoesOn t (answers numbered begun.0 later) →
+    left_of (begins t begun.1) ≡ ticks_in (pos n) → GoesOn t (answers numbered begun.0 later) →
     tick.answer ≡ answer.Taken → counts_for now.timer p (task now t).assigned ≡ true →
     (is_released t tick.releases ≡ true) ↔ (ticks_for t begun.0 later ≡ n)

@@ -12,7 +12,8 @@ use Rattle.fmp_codes.specs.declared.records.Event.{Event}
 use Rattle.fmp_codes.specs.declared.records.Event.TheVariants as event
 use Rattle.fmp_rules.specs.declared.machine.Wait.{Wait}
 use Rattle.fmp_rules.specs.declared.machine.Wait.TheVariants as wait
-use Rattle.fmp_rules.specs.Arguments.{number_within, ticks_of, forever}
+use Rattle.fmp_rules.specs.Arguments.{number_within, forever}
+use Rattle.fmp_law_waits.specs.Meanings.{ticks_in}
 
 -- a wait of a task that began and is not ended
 pub record OpenWait : Type 0 where
@@ -22,13 +23,13 @@ pub record OpenWait : Type 0 where
 
 -- a wait of an object, which an argument names by its number, with this timeout, of a task on p
 abbrev pub asked_of : (Object → Wait) → ℤ → ℤ → Proc → Option OpenWait
-asked_of waits id timeout p = option_map (λ n. record { wait = waits (as_object n); left = ticks_of timeout; assigned = p }) (number_within 32 id)
+asked_of waits id timeout p = option_map (λ n. record { wait = waits (as_object n); left = ticks_in timeout; assigned = p }) (number_within 32 id)
 
 -- the wait that begins where this call from p makes its caller wait
 abbrev pub asked : Proc → Call → Option OpenWait
 asked p (call.Task task.SlpTsk) = Some (record { wait = wait.Sleep; left = None; assigned = p })
-asked p (call.Task (task.TslpTsk timeout)) = Some (record { wait = wait.Sleep; left = ticks_of timeout; assigned = p })
-asked p (call.Task (task.DlyTsk time)) = Some (record { wait = wait.Delay; left = ticks_of time; assigned = p })
+asked p (call.Task (task.TslpTsk timeout)) = Some (record { wait = wait.Sleep; left = ticks_in timeout; assigned = p })
+asked p (call.Task (task.DlyTsk time)) = Some (record { wait = wait.Delay; left = ticks_in time; assigned = p })
 asked p (call.Sync (sync.WaiSem id)) = asked_of wait.Semaphore id forever p
 asked p (call.Sync (sync.TwaiSem id timeout)) = asked_of wait.Semaphore id timeout p
 asked p (call.Sync (sync.WaiFlg id pattern mode)) = asked_of (λ f. wait.Eventflag f pattern mode) id forever p

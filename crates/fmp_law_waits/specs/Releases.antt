@@ -15,12 +15,11 @@ use Rattle.fmp_codes.specs.declared.records.Release.{Release}
 use Rattle.fmp_setup.specs.Setup.{Setup}
 use Rattle.fmp_rules.specs.declared.machine.Wait.{Wait}
 use Rattle.fmp_rules.specs.declared.machine.Wait.TheVariants as wait
-use Rattle.fmp_rules.specs.Objects.{holds}
-use Rattle.fmp_rules.specs.TaskCalls.{is_sleep}
 use Rattle.fmp_law_balance.specs.Accepted.{is_accepted, names}
 use Rattle.fmp_law_balance.specs.Semaphores.{signals}
 use Rattle.fmp_law_balance.specs.Queues.{sends, receives}
 use Rattle.fmp_law_balance.specs.Pools.{returns}
+use Rattle.fmp_law_waits.specs.Meanings.{has_bits}
 use Rattle.fmp_law_waits.specs.Asked.{OpenWait}
 use Rattle.fmp_law_waits.specs.Waits.{OpenWaits, after_record, is_number_of, is_released, is_tick_for}
 
@@ -48,7 +47,7 @@ abbrev pub Gives : Event → Task → Wait → Option ℤ → Type 0
 Gives e t wait.Sleep value = (wakes t e ≡ true) × (value ≡ None)
 Gives e t wait.Delay value = ⊥
 Gives e t (wait.Semaphore s) value = (signals s e ≡ true) × (value ≡ None)
-Gives e t (wait.Eventflag f pattern mode) value = (sets f e ≡ true) × ((x : ℕ) × (value ≡ Some (pos x)) × (holds x pattern mode ≡ true))
+Gives e t (wait.Eventflag f pattern mode) value = (sets f e ≡ true) × ((x : ℕ) × (value ≡ Some (pos x)) × (has_bits x pattern mode ≡ true))
 Gives e t (wait.Send d offer) value = (receives d e ≡ true) × (value ≡ None)
 Gives e t (wait.Receive d) value = (is_some (sends d e) ≡ true) × (value ≡ sends d e)
 Gives e t (wait.Pool m) value = (is_some (returns m e) ≡ true) × (value ≡ returns m e)
@@ -100,9 +99,13 @@ NoneTwice (x ∷ xs) = (is_released x.task xs ≡ false) × NoneTwice xs
 abbrev pub NoneOverdue : OpenWaits → Type 0
 NoneOverdue pending = (t : Task) (o : OpenWait) → pending t ≡ Some o → o.left ≢ Some 0
 
+abbrev pub is_of_sleep : Wait → Bool
+is_of_sleep wait.Sleep = true
+is_of_sleep other = false
+
 -- the event, where it is an accepted call, has to end this wait of this task: it wakes it up or breaks off its wait
 abbrev pub must_end : Task → Wait → Event → Bool
-must_end t y e = breaks_off t e || (wakes t e && is_sleep (Some y))
+must_end t y e = breaks_off t e || (wakes t e && is_of_sleep y)
 
 -- whose wait an accepted call has to end is released
 abbrev pub ReleasesCalled : OpenWaits → Record → Type 0

@@ -18,7 +18,7 @@ use Rattle.fmp_setup.specs.declared.setup.TaskSetup.{TaskSetup}
 use Rattle.fmp_setup.specs.declared.setup.Timer.{Timer}
 use Rattle.fmp_setup.specs.Setup.{Setup, counts_for}
 use Rattle.fmp_rules.specs.World.{no_task, item}
-use Rattle.fmp_rules.specs.Tick.{one_less}
+use Rattle.fmp_law_waits.specs.Meanings.{after_tick}
 use Rattle.fmp_law_balance.specs.Accepted.{is_accepted}
 use Rattle.fmp_law_balance.specs.Queues.{is_call_of}
 use Rattle.fmp_law_waits.specs.Asked.{OpenWait, asked_by}
@@ -77,7 +77,7 @@ assigned_by c t other q = q
 
 -- the ticks left after this record, and the processor, of a wait that it does not end
 abbrev pub left_after : Setup → Record → OpenWait → Option ℕ
-left_after c r o = if is_tick_for c.timer o.assigned r.answer r.event then one_less o.left else o.left
+left_after c r o = if is_tick_for c.timer o.assigned r.answer r.event then after_tick o.left else o.left
 
 abbrev pub assigned_after : Setup → Task → Record → OpenWait → Proc
 assigned_after c t r o = if is_accepted r.answer then assigned_by c t (migrates t r.event) o.assigned else o.assigned
