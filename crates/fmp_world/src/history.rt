@@ -158,6 +158,13 @@ impl<'a> History<'a> {
         self.config.is_same(config) && self.scripts.is_same(scripts) && self.turns == turns
     }
 
+    /// Whether a processor has something to do.
+    pub(crate) fn has_choice(&self, p: Proc) -> bool
+        ensures { result ≡ is_some (scripted.choice self.now.config self.now.scripts self.now.records p) }
+    {
+        (self.kernel.pending(p) && !self.kernel.held(p)) || self.kernel.runner(p).is_some()
+    }
+
     /// What a processor does next. None where it has nothing to do.
     pub(crate) fn choose(&self, p: Proc) -> Option<Event>
         ensures { result ≡ scripted.choice self.now.config self.now.scripts self.now.records p }

@@ -108,7 +108,7 @@ impl<'a> World<'a> {
     pub fn has_turn(&self, p: Proc) -> bool
         ensures { result ≡ is_some (scripted.choice self.now.config self.now.scripts self.now.records p) }
     {
-        self.history.choose(p).is_some()
+        self.history.has_choice(p)
     }
 
     /// One tick of a processor. Where it is held, it is recorded so, and has to be given again.
