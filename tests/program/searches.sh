@@ -181,6 +181,11 @@ takes_each_word() {
     done
 }
 
+# are_counting EDIT: standard error has at least one line, this edit makes each of them two numbers, and both of them grow from line to line, the second from 1 on
+are_counting() {
+    sed -E "$1" errors | awk 'NF != 2 || $1 + 0 <= places + 0 && NR > 1 || $2 + 0 <= seconds + 0 { wrong = 1 } { places = $1; seconds = $2 } END { exit wrong || NR == 0 }'
+}
+
 # tells_how_far: at a terminal a search of more than a second tells how far it has come, and takes that away before its answer. A signal ends
 # it with nothing written.
 tells_how_far() {
@@ -199,4 +204,18 @@ tells_how_far() {
     timeout --preserve-status -s INT 1 "$program" "${words[@]}" < /dev/null > output 2> errors
     [ $? = 130 ] && [ ! -s output ] && [ ! -s errors ] && well=yes
     count "$well" "${words[@]}" '# and a signal'
+    # where it is asked for, in lines that count up, of which the first stands there after a second
+    well=no
+    timeout --preserve-status -s INT 3 "$program" "${words[@]}" --progress < /dev/null > output 2> errors
+    are_counting 's/^fmpsim: ([0-9]+) places, line [0-9]+, ([0-9]+) s$/\1 \2/' && well=yes
+    count "$well" "${words[@]}" --progress '# on a pipe'
+    words=(smp "$top/examples/scripted-spin-lock/machine.cfg" "$top/examples/scripted-spin-lock/scripts.txt" --ticks 1 --turns 100 --seeds 1..100000000 --find E_PAR)
+    well=no
+    timeout --preserve-status -s INT 3 "$program" "${words[@]}" < /dev/null > output 2> errors
+    [ $? = 130 ] && [ ! -s output ] && [ ! -s errors ] && well=yes
+    count "$well" "${words[@]}" '# on a pipe, not asked for'
+    well=no
+    timeout --preserve-status -s INT 3 "$program" "${words[@]}" --progress < /dev/null > output 2> errors
+    are_counting 's/^fmpsim: at seed ([0-9]+), ([0-9]+) s$/\1 \2/' && well=yes
+    count "$well" "${words[@]}" --progress '# on a pipe'
 }

@@ -13,7 +13,7 @@ abbrev pub explore_line : App
 explore_line = line_of (codes "explore") (
     path_rule (codes "CFG") ∷ path_rule (codes "SCRIPTS") ∷ wanted_rule (codes "ticks") ∷ wanted_rule (codes "turns") ∷ wanted_rule (codes "find")
     ∷ flag_rule (codes "prompt") ∷ value_rule (codes "drift") ∷ value_rule (codes "places") ∷ value_rule (codes "from") ∷ value_rule (codes "layer")
-    ∷ flag_rule (codes "context") ∷ [])
+    ∷ flag_rule (codes "progress") ∷ flag_rule (codes "context") ∷ [])
 
 -- what clap finds in the words of that command line, by the ids of the arguments
 unfoldable pub found_in : List Text → List Row
@@ -51,4 +51,5 @@ pub record Asks (rows : List Row) (r : ExploreRequest) : Type 0 where
   pub places : IsPlaces (first_of (codes "places") rows) r.bounds.places
   pub from : option_map (λ t. t.now) r.from ≡ first_of (codes "from") rows
   pub layer : option_map (λ t. t.now) r.layer ≡ first_of (codes "layer") rows
+  pub progress : IsFlag (one_of (codes "progress") rows) r.progress
   pub context : IsFlag (one_of (codes "context") rows) r.context

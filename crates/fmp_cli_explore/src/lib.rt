@@ -18,7 +18,8 @@ pub use bounds::Bounds;
 use clap::error::ErrorKind;
 use clap::{ArgMatches, Command, Error};
 use fmp_cli_table::{
-    CONFIG_PART, CONTEXT_PART, Form, Part, SCRIPTS_PART, Title, flag_in, line, option_in, text_in,
+    CONFIG_PART, CONTEXT_PART, Form, PROGRESS_PART, Part, SCRIPTS_PART, Title, flag_in, line,
+    option_in, text_in,
 };
 use std::alloc::{AllocError, Global};
 
@@ -123,6 +124,7 @@ const PARTS: &[Part<'static>] = &[
         form: Form::Value("DIR"),
         about: "Writes there the traces from which longer orders go on, one a file",
     },
+    PROGRESS_PART,
     CONTEXT_PART,
 ];
 
@@ -145,6 +147,8 @@ pub struct ExploreRequest<'a> {
     pub from: Option<&'a str>,
     /// The path of the folder for the traces from which to go on. Without it none are written.
     pub layer: Option<&'a str>,
+    /// Whether it is told how far the search has come, where standard error is no terminal, too.
+    pub progress: bool,
     /// Whether what stands beside a fault is to be shown.
     pub context: bool,
 }
@@ -179,6 +183,7 @@ fn request_of<'a>(matches: &ArgMatches<'a>) -> Option<ExploreRequest<'a>>
     let bounds = bounds_of(matches)?;
     let from = option_in(matches, "from");
     let layer = option_in(matches, "layer");
+    let progress = flag_in(matches, "progress");
     let context = flag_in(matches, "context");
     Some(ExploreRequest {
         config,
@@ -190,6 +195,7 @@ fn request_of<'a>(matches: &ArgMatches<'a>) -> Option<ExploreRequest<'a>>
         bounds,
         from,
         layer,
+        progress,
         context,
     })
 }

@@ -15,7 +15,7 @@ use fmp_run_devices::{Sink, Source};
 use fmp_run_events::{RunFault, Status};
 use fmp_run_explore::ExploreFault;
 use fmp_run_seeds::run_seeds_find;
-use fmp_run_smp::{SeedFound, run_scripts, run_seeds};
+use fmp_run_smp::{SeedFound, SeedProgress, run_scripts, run_seeds};
 use fmp_smp::Open;
 use std::alloc::Global;
 use std::sync::Wait;
@@ -84,7 +84,7 @@ pub fn play<T: Threads + Wait + Sync, R: Source, S: Source, W: Sink>(
 
 /// Has processors follow scripts in the order of each seed from the first to the last, up to the first whose run ends quiet while a task
 /// waits, tells that one, and writes its trace.
-pub fn seek<R: Source, S: Source, W: Sink>(
+pub fn seek<R: Source, S: Source, W: Sink, P: SeedProgress>(
     alloc: Global,
     config: &mut R,
     scripts: &mut S,
@@ -92,6 +92,7 @@ pub fn seek<R: Source, S: Source, W: Sink>(
     request: &SmpRequest<'_>,
     first: u64,
     last: u64,
+    progress: &mut P,
 ) -> Result<Option<SeedFound>, RunFault>
     requires config_calls { R.failures config.old < 2 ^ 64 - 1 }
     requires script_calls { S.failures scripts.old < 2 ^ 64 - 1 }
@@ -124,12 +125,14 @@ pub fn seek<R: Source, S: Source, W: Sink>(
 {
     let ticks = request.limits.ticks;
     let turns = request.limits.turns;
-    run_seeds(alloc, config, scripts, trace, ticks, turns, first, last)
+    run_seeds(
+        alloc, config, scripts, trace, ticks, turns, first, last, progress,
+    )
 }
 
 /// Has processors follow scripts in the order of each seed from the first to the last, up to the first whose run shows what a question
 /// asks, tells that one, and writes its trace.
-pub fn seek_shown<R: Source, S: Source, W: Sink>(
+pub fn seek_shown<R: Source, S: Source, W: Sink, P: SeedProgress>(
     alloc: Global,
     config: &mut R,
     scripts: &mut S,
@@ -138,6 +141,7 @@ pub fn seek_shown<R: Source, S: Source, W: Sink>(
     request: &SmpRequest<'_>,
     first: u64,
     last: u64,
+    progress: &mut P,
 ) -> Result<Option<SeedFound>, ExploreFault>
     requires config_calls { R.failures config.old < 2 ^ 64 - 1 }
     requires script_calls { S.failures scripts.old < 2 ^ 64 - 1 }
@@ -172,6 +176,6 @@ pub fn seek_shown<R: Source, S: Source, W: Sink>(
     let ticks = request.limits.ticks;
     let turns = request.limits.turns;
     run_seeds_find(
-        alloc, config, scripts, trace, question, ticks, turns, first, last,
+        alloc, config, scripts, trace, question, ticks, turns, first, last, progress,
     )
 }

@@ -22,7 +22,8 @@ pub use colours::{Colour, colour_of};
 pub use found::{flag_in, matched, option_in, text_in};
 pub use limits::Limits;
 pub use parts::{
-    COLOUR_PART, CONFIG_PART, CONTEXT_PART, EVENTS_PART, Form, Part, SCRIPTS_PART, Title, line,
+    COLOUR_PART, CONFIG_PART, CONTEXT_PART, EVENTS_PART, Form, PROGRESS_PART, Part, SCRIPTS_PART,
+    Title, line,
 };
 pub use seeds::Seeds;
 use seeds::seeds_of;
@@ -111,6 +112,7 @@ const PARTS: &[Part<'static>] = &[
         form: Form::Flag,
         about: "Ends with status 7 where a task waits at the end, and nothing else is left to do",
     },
+    PROGRESS_PART,
     CONTEXT_PART,
     COLOUR_PART,
 ];
@@ -131,6 +133,8 @@ pub struct SmpRequest<'a> {
     pub find: Option<&'a str>,
     /// Whether it is a status of its own that a task waits at a quiet end.
     pub strict: bool,
+    /// Whether it is told how far a run of many seeds has come.
+    pub progress: bool,
     /// Whether what stands beside a fault is to be shown.
     pub context: bool,
     /// When the trace is coloured.
@@ -166,6 +170,7 @@ fn request_of<'a>(matches: &ArgMatches<'a>) -> SmpRequest<'a>
     let seeds = seeds_of(matches);
     let find = option_in(matches, "find");
     let strict = flag_in(matches, "strict");
+    let progress = flag_in(matches, "progress");
     let context = flag_in(matches, "context");
     let colour = colour_of(matches);
     SmpRequest {
@@ -176,6 +181,7 @@ fn request_of<'a>(matches: &ArgMatches<'a>) -> SmpRequest<'a>
         seeds,
         find,
         strict,
+        progress,
         context,
         colour,
     }

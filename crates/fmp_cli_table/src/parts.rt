@@ -67,6 +67,13 @@ pub const CONTEXT_PART: Part<'static> = Part {
     about: "Shows below a fault its line, its place and what is wanted there; at a terminal by itself, unless there is --no-context",
 };
 
+/// The option that has it told how far a long run has come.
+pub const PROGRESS_PART: Part<'static> = Part {
+    id: "progress",
+    form: Form::Flag,
+    about: "Tells on standard error how far it has come, a line a second; at a terminal by itself",
+};
+
 /// The option that says when a trace is coloured.
 pub const COLOUR_PART: Part<'static> = Part {
     id: "color",

@@ -10,7 +10,7 @@ ghost use Rattle.fmp_run_seeds.specs.Found.{IsBegun, IsSought};
 use crate::seeking::sought;
 use fmp_run_devices::{Sink, Source, write_out};
 use fmp_run_explore::{ExploreFault, question_from};
-use fmp_run_smp::SeedFound;
+use fmp_run_smp::{SeedFound, SeedProgress};
 use fmp_run_texts::{RunFault, Status, texts_from};
 use std::alloc::Global;
 
@@ -29,7 +29,7 @@ pub fn status_of_found(found: &Option<SeedFound>) -> Status
 ///
 /// Each run is as that of [`run_scripts`](fmp_run_smp::run_scripts) with its seed, and it may be one at its limit of turns. The line `end` stands
 /// where nothing can change any more, and each processor whose ticks count has taken all of them or nothing waits for one.
-pub fn run_seeds_find<R: Source, S: Source, W: Sink>(
+pub fn run_seeds_find<R: Source, S: Source, W: Sink, P: SeedProgress>(
     alloc: Global,
     config: &mut R,
     scripts: &mut S,
@@ -39,6 +39,7 @@ pub fn run_seeds_find<R: Source, S: Source, W: Sink>(
     turns: u32,
     first: u64,
     last: u64,
+    progress: &mut P,
 ) -> Result<Option<SeedFound>, ExploreFault>
     requires config_calls { R.failures config.old < 2 ^ 64 - 1 }
     requires script_calls { S.failures scripts.old < 2 ^ 64 - 1 }
@@ -81,10 +82,13 @@ pub fn run_seeds_find<R: Source, S: Source, W: Sink>(
         Ok(asked) => asked,
         Err(fault) => return Err(fault),
     };
-    let (found, text) = match sought(alloc, &machine, &list, &asked, ticks, turns, first, last) {
+    let (found, text) = match sought(
+        alloc, &machine, &list, &asked, ticks, turns, first, last, progress,
+    ) {
         Ok(sought) => sought,
         Err(_) => return Err(ExploreFault::Run(RunFault::Memory)),
     };
+    progress.end();
     match write_out(trace, text.as_slice()) {
         Ok(()) => Ok(found),
         Err(_) => Err(ExploreFault::Run(RunFault::Write)),

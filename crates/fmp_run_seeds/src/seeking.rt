@@ -7,7 +7,7 @@ ghost use Rattle.fmp_run_seeds.specs.Found.{Seeks};
 
 use fmp_codes::{Answer, Event, Proc, Record};
 use fmp_rules::Config;
-use fmp_run_smp::{SeedFound, history_text, waiting_at_end};
+use fmp_run_smp::{SeedFound, SeedProgress, history_text, waiting_at_end};
 use fmp_search_orders::Rules;
 use fmp_search_question::Question;
 use fmp_search_showing::shows;
@@ -71,7 +71,7 @@ fn found_by(
 }
 
 /// The first of the seeds whose run shows what is asked, if there is one, and what is written of it. The error is want of memory.
-pub(crate) fn sought(
+pub(crate) fn sought<P: SeedProgress>(
     alloc: Global,
     config: &Config,
     scripts: &Scripts,
@@ -80,6 +80,7 @@ pub(crate) fn sought(
     turns: u32,
     first: u64,
     last: u64,
+    progress: &mut P,
 ) -> Result<(Option<SeedFound>, Vec<u8>), AllocError>
     requires short { length question.now ≤ 255 }
     requires ticks { ticks ≤ 1000000 }
@@ -92,11 +93,13 @@ pub(crate) fn sought(
         return Ok((None, Vec::new(alloc)));
     }
     for seed in first..last {
+        progress.tell(seed);
         let tried = found_by(alloc, config, scripts, question, ticks, turns, seed)?;
         if let Some((found, text)) = tried {
             return Ok((Some(found), text));
         }
     }
+    progress.tell(last);
     let tried = found_by(alloc, config, scripts, question, ticks, turns, last)?;
     match tried {
         Some((found, text)) => Ok((Some(found), text)),

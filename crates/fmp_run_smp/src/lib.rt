@@ -13,5 +13,5 @@ mod seeds;
 mod threads;
 
 pub use ending::{SmpEnd, history_text, status_of_end, waiting_at_end};
-pub use seeds::{SeedFound, run_seeds, status_of_found};
+pub use seeds::{SeedFound, SeedProgress, run_seeds, status_of_found};
 pub use threads::{run_scripts, run_threads};

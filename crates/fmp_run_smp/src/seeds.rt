@@ -14,6 +14,15 @@ use fmp_run_texts::{RunFault, Status, texts_from};
 use fmp_text_scripts::Scripts;
 use std::alloc::{AllocError, Global};
 
+/// One who is told which seed is played. No answer depends on it.
+pub trait SeedProgress {
+    /// The run of this seed begins.
+    fn tell(&mut self, seed: u64);
+
+    /// The last run has ended, and nothing is written yet.
+    fn end(&mut self);
+}
+
 /// A seed whose run ends quiet while a task waits.
 #[derive(Drop)]
 pub struct SeedFound {
@@ -59,7 +68,7 @@ fn found_by(
 }
 
 /// The first of the seeds whose run ends quiet while a task waits, if there is one, and what is written of it. The error is want of memory.
-fn sought(
+fn sought<P: SeedProgress>(
     alloc: Global,
     config: &Config,
     scripts: &Scripts,
@@ -67,6 +76,7 @@ fn sought(
     turns: u32,
     first: u64,
     last: u64,
+    progress: &mut P,
 ) -> Result<(Option<SeedFound>, Vec<u8>), AllocError>
     requires ticks { ticks ≤ 1000000 }
     requires least { 1 ≤ turns }
@@ -78,11 +88,13 @@ fn sought(
         return Ok((None, Vec::new(alloc)));
     }
     for seed in first..last {
+        progress.tell(seed);
         let tried = found_by(alloc, config, scripts, ticks, turns, seed)?;
         if let Some((found, text)) = tried {
             return Ok((Some(found), text));
         }
     }
+    progress.tell(last);
     let tried = found_by(alloc, config, scripts, ticks, turns, last)?;
     match tried {
         Some((found, text)) => Ok((Some(found), text)),
@@ -94,7 +106,7 @@ fn sought(
 /// up to the first whose run ends quiet while a task waits, and writes the trace of that run. Where there is none, nothing is written.
 ///
 /// Each run is as that of [`run_scripts`](crate::run_scripts) with its seed. One at its limit of turns is passed over, whoever waits there.
-pub fn run_seeds<R: Source, S: Source, W: Sink>(
+pub fn run_seeds<R: Source, S: Source, W: Sink, P: SeedProgress>(
     alloc: Global,
     config: &mut R,
     scripts: &mut S,
@@ -103,6 +115,7 @@ pub fn run_seeds<R: Source, S: Source, W: Sink>(
     turns: u32,
     first: u64,
     last: u64,
+    progress: &mut P,
 ) -> Result<Option<SeedFound>, RunFault>
     requires config_calls { R.failures config.old < 2 ^ 64 - 1 }
     requires script_calls { S.failures scripts.old < 2 ^ 64 - 1 }
@@ -140,10 +153,11 @@ pub fn run_seeds<R: Source, S: Source, W: Sink>(
         Ok(texts) => texts,
         Err(fault) => return Err(fault),
     };
-    let (found, text) = match sought(alloc, &machine, &list, ticks, turns, first, last) {
+    let (found, text) = match sought(alloc, &machine, &list, ticks, turns, first, last, progress) {
         Ok(sought) => sought,
         Err(_) => return Err(RunFault::Memory),
     };
+    progress.end();
     match write_out(trace, text.as_slice()) {
         Ok(()) => Ok(found),
         Err(_) => Err(RunFault::Write),

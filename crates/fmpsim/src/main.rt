@@ -28,10 +28,11 @@ use fmp_cli_table::SmpRequest;
 use fmp_run_events::{MemSource, ReadSource, RunFault, Status, WriteSink, run_life};
 use fmp_run_explore::Progress;
 use fmp_run_list::run_list;
+use fmp_run_smp::SeedProgress;
 use fmp_run_wave::run_save;
 use fmp_trace_check::Verdict;
 use output::{Ending, is_coloured, kept, settled, settled_begun, settled_life, settled_search};
-use progress::ProgressLine;
+use progress::{ProgressForm, ProgressLine};
 use scripts::Misfit;
 use std::io;
 use std::io::{Input, IsTerminal, Read, Write};
@@ -297,12 +298,13 @@ fn explored<R: Files + Input + Print + Eprint + Clock + AllocGlobal>(
         line,
         text: TextForm::Scripts,
     };
-    let mut progress = ProgressLine::new(rt, is_terminal);
+    let told = ProgressForm::at(is_terminal, request.progress);
+    let mut progress = ProgressLine::new(rt, told);
     let run = match request.from {
         Some(begun) => explore_from(rt, &paths, request, begun, &mut progress),
         None => explore(rt, &paths, request, &mut progress),
     };
-    progress.end();
+    Progress::end(&mut progress);
     tell_begun(rt, request.from.unwrap_or(""), line, &run);
     replied(rt, &paths, telling, request.question, run)
 }
@@ -499,11 +501,12 @@ fn unformed<R: Eprint>(rt: &R) -> Status {
 }
 
 /// How a run of processors that follow scripts ends the program. A fault is told.
-fn scripted<R: Env + Files + Input + Print + Eprint + AllocGlobal + Threads + Wait + Sync>(
+fn scripted<R: Env + Files + Input + Print + Eprint + Clock + AllocGlobal + Threads + Wait + Sync>(
     rt: &R,
     request: &SmpRequest<'_>,
     line: LineForm,
     is_terminal: bool,
+    is_told_at_terminal: bool,
 ) -> Status {
     let Some(coloured) = is_coloured(rt, request.colour, is_terminal) else {
         return uncoloured(rt);
@@ -520,7 +523,10 @@ fn scripted<R: Env + Files + Input + Print + Eprint + AllocGlobal + Threads + Wa
         line,
         text: TextForm::Scripts,
     };
-    let run = scripts::smp(rt, &paths, request, coloured, line);
+    let told = ProgressForm::at(is_told_at_terminal, request.progress);
+    let mut progress = ProgressLine::new(rt, told);
+    let run = scripts::smp(rt, &paths, request, coloured, line, &mut progress);
+    SeedProgress::end(&mut progress);
     replied(rt, &paths, telling, request.find.unwrap_or(""), run)
 }
 
@@ -562,7 +568,7 @@ fn execute<R: Env + Files + Input + Print + Eprint + Clock + AllocGlobal + Threa
             ended(rt, &paths, Telling { line, text }, run)
         }
         Ok(Request::Save(paths)) => ended(rt, &paths, events, saved(rt, &paths)),
-        Ok(Request::Smp(request)) => scripted(rt, &request, line, is_terminal),
+        Ok(Request::Smp(request)) => scripted(rt, &request, line, is_terminal, is_told_at_terminal),
         Ok(Request::Explore(request)) => explored(rt, &request, line, is_told_at_terminal),
         Ok(Request::Shrink(request)) => shrunk(rt, &request, line),
         Ok(Request::List(name)) => ended(rt, &NO_PATHS, events, list(rt, name)),

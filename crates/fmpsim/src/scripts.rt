@@ -13,7 +13,7 @@ use fmp_cli_table::{Seeds, SmpRequest};
 use fmp_run_events::{MemSource, ReadSource, Sink, Source, Status, WriteSink};
 use fmp_run_explore::ExploreFault;
 use fmp_run_seeds::status_of_found as status_of_shown;
-use fmp_run_smp::{SeedFound, status_of_found};
+use fmp_run_smp::{SeedFound, SeedProgress, status_of_found};
 use std::alloc::Global;
 use std::io;
 use std::io::{Input, Read};
@@ -114,7 +114,7 @@ impl Misfit {
 }
 
 /// Writes the trace of the first seed whose run is looked for: that shows what is asked, or at whose end a task waits.
-fn sought<R: Source, S: Source, W: Sink>(
+fn sought<R: Source, S: Source, W: Sink, P: SeedProgress>(
     alloc: Global,
     config: &mut R,
     scripts: &mut S,
@@ -122,6 +122,7 @@ fn sought<R: Source, S: Source, W: Sink>(
     request: &SmpRequest<'_>,
     first: u64,
     last: u64,
+    progress: &mut P,
 ) -> Result<Outcome, ExploreFault>
     requires config_calls { R.failures config.old < 2 ^ 64 - 1 }
     requires script_calls { S.failures scripts.old < 2 ^ 64 - 1 }
@@ -130,23 +131,26 @@ fn sought<R: Source, S: Source, W: Sink>(
     if let Some(question) = request.find {
         let question = question.as_bytes();
         let found = seek_shown(
-            alloc, config, scripts, trace, question, request, first, last,
+            alloc, config, scripts, trace, question, request, first, last, progress,
         )?;
         let status = status_of_shown(&found);
         return Ok(Outcome::of_seeds(alloc, found, status));
     }
-    let found = seek(alloc, config, scripts, trace, request, first, last)?;
+    let found = seek(
+        alloc, config, scripts, trace, request, first, last, progress,
+    )?;
     let status = status_of_found(&found);
     Ok(Outcome::of_seeds(alloc, found, status))
 }
 
 /// Writes the trace of what is asked for: of one run, or of the first of many that is looked for.
-fn made<R: AllocGlobal + Threads + Wait + Sync, S: Read + Drop, W: Sink>(
+fn made<R: AllocGlobal + Threads + Wait + Sync, S: Read + Drop, W: Sink, P: SeedProgress>(
     rt: &R,
     config: &[u8],
     scripts: S,
     trace: &mut W,
     request: &SmpRequest<'_>,
+    progress: &mut P,
 ) -> Result<Outcome, ExploreFault>
     requires { W.failures trace.old < 2 ^ 64 - 1 }
 {
@@ -162,6 +166,7 @@ fn made<R: AllocGlobal + Threads + Wait + Sync, S: Read + Drop, W: Sink>(
             request,
             first,
             last,
+            progress,
         );
     }
     let played = play(rt, alloc, &mut config, &mut scripts, trace, request)?;
@@ -169,37 +174,44 @@ fn made<R: AllocGlobal + Threads + Wait + Sync, S: Read + Drop, W: Sink>(
 }
 
 /// Writes the trace, in colours or not.
-fn written<R, S>(
+fn written<R, S, P>(
     rt: &R,
     config: &[u8],
     scripts: S,
     request: &SmpRequest<'_>,
     coloured: bool,
+    progress: &mut P,
 ) -> Result<Outcome, Ending>
 where
     R: Print + AllocGlobal + Threads + Wait + Sync,
     S: Read + Drop,
+    P: SeedProgress,
 {
     let mut trace = WriteSink::new(rt.alloc(), io::writer(rt))?;
     if coloured {
         let mut colours = ColourSink::new(trace);
-        let run = made(rt, config, scripts, &mut colours, request);
+        let run = made(rt, config, scripts, &mut colours, request, progress);
         return settled_search(run, colours.below().is_closed());
     }
-    let run = made(rt, config, scripts, &mut trace, request);
+    let run = made(rt, config, scripts, &mut trace, request, progress);
     settled_search(run, trace.is_closed())
 }
 
-/// Reads both texts, and has processors follow the scripts. What is reported beside the trace has this form.
-pub fn smp<R: Files + Input + Print + Eprint + AllocGlobal + Threads + Wait + Sync>(
+/// Reads both texts, and has processors follow the scripts. What is reported beside the trace has this form, and which seed is played is told.
+pub fn smp<R, P>(
     rt: &R,
     paths: &Paths<'_>,
     request: &SmpRequest<'_>,
     coloured: bool,
     form: LineForm,
-) -> Result<Status, Ending> {
+    progress: &mut P,
+) -> Result<Status, Ending>
+where
+    R: Files + Input + Print + Eprint + AllocGlobal + Threads + Wait + Sync,
+    P: SeedProgress,
+{
     let (config, scripts) = both_opened(rt, paths)?;
-    match written(rt, config.as_slice(), scripts, request, coloured) {
+    match written(rt, config.as_slice(), scripts, request, coloured, progress) {
         Ok(run) => {
             run.tell(rt, paths, form, config.as_slice());
             Ok(run.status)

@@ -14,5 +14,6 @@ returns c = record {
   places = c.in_ok-bounds.ensures.places;
   from = c.option_in-from.ensures;
   layer = c.option_in-layer.ensures;
+  progress = c.flag_in-progress.ensures;
   context = c.flag_in-context.ensures;
 }

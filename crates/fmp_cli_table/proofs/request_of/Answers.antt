@@ -15,6 +15,7 @@ returns c =
       seeds = c.seeds_of-seeds.ensures;
       find = c.option_in-find.ensures;
       strict = c.flag_in-strict.ensures;
+      progress = c.flag_in-progress.ensures;
       context = c.flag_in-context.ensures;
       colour = c.colour_of-colour.ensures;
     }

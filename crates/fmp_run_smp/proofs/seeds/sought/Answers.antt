@@ -4,13 +4,13 @@ use Rattle.fmp_run_smp.proofs.Seeking.{one_more}
 use Rattle.fmp_run_smp.proofs.seeds.sought.Goals as goal
 
 pub loop-seed-preserved : goal.loop-seed-preserved
-loop-seed-preserved c =
+loop-seed-preserved g c =
     let a = c.args in
     one_more a.config.now a.scripts.now a.ticks a.turns a.first c.loop-seed.seed c.loop-seed.invariant
     (subst (Tries a.config.now a.scripts.now a.ticks a.turns c.loop-seed.seed) c.in_default.is c.in_ok-tried.ensures)
 
 pub returns-in-None : goal.returns-in-None
-returns-in-None c =
+returns-in-None g c =
     let a = c.args in
     let right : a.first ≤ a.last = omega (arith, c.if-last-first.false) in
     let within : c.loop-seed.seed ≤ a.last = c.loop-seed.auto.seed-end right in
