@@ -16,6 +16,7 @@ views() {
     # the template stands in the program as it is, so it has none of these
     ! LC_ALL=C grep -q '["\\]' first && ! LC_ALL=C grep -q '[^ -~]' first || plain=no
     count "$plain" view '# bytes of the template'
+    words_of_waits_and_answers
     every_value
     tags_in_fields
     sed '3s/taken/none/' "$late/trace.txt" > changed.txt
@@ -31,6 +32,37 @@ views() {
     half_a_page
     differences
     in_a_browser
+}
+
+# words_of_waits_and_answers: what the page says of each kind of wait, as it is told in a state, and of each answer is what they mean.
+words_of_waits_and_answers() {
+    local word said well=yes
+    while IFS='|' read -r word said; do
+        grep -qF " $word: '$said'" first || { well=no && echo "$word: no $said"; }
+    done << 'end of words'
+slp|asleep
+dly|delayed
+sem|waits for semaphore
+flg|waits for eventflag
+sdtq|waits to send to
+rdtq|waits to receive from
+mpf|waits for a block of
+E_OK|done
+E_TMOUT|the time ran out
+E_CTX|not allowed in this context
+E_ID|no such object
+E_PAR|an argument out of range
+E_OBJ|not in this state of the object
+E_QOVR|a count is at its limit
+E_ILUSE|not used so
+E_RLWAI|released by force
+wait|the caller waits
+spin|the lock is taken: tries again
+gone|the caller ended
+idle|nobody is there to make the call
+held|held back, to be given again
+end of words
+    count "$well" view '# words of waits and answers'
 }
 
 # part_of PAGE NAME: the text of this name in a page, as a browser reads it.
