@@ -14,6 +14,7 @@ searches() {
     has_places explore-priority-inversion 2200 --ticks 3
     has_places explore-migration 3600 --ticks 3
     has_places explore-philosophers 19435 --ticks 0
+    places_of_each_kind
     folder=$top/examples/explore-lock-order
     from=$folder/scripts.txt run 5 "$folder/trace.txt" /dev/null explore "$folder/machine.cfg" - --ticks 0 --turns 4 --find 'end & waits sem'
     unread explore "$folder/machine.cfg" missing --ticks 0 --turns 1 --find end
@@ -66,14 +67,49 @@ judged() {
     run 0 "$(as_file echo yes)" /dev/null check "$1" trace.txt
 }
 
-# has_places FOLDER N WORD..: an example has so many places under these options: there is room for all of them, and with one place less
-# there is not.
+# has_places FOLDER N WORD..: an example has so many places under these options.
 has_places() {
-    local cfg=$top/examples/$1/machine.cfg scripts=$top/examples/$1/scripts.txt well=no
-    run 0 "$(as_file echo never)" /dev/null explore "$cfg" "$scripts" "${@:3}" "${question[@]}" --places "$2"
-    play explore "$cfg" "$scripts" "${@:3}" "${question[@]}" --places $(($2 - 1))
+    are_places "$2" "$top/examples/$1/machine.cfg" "$top/examples/$1/scripts.txt" "${@:3}" "${question[@]}"
+}
+
+# are_places N WORD..: a search that shows nothing goes through so many places: there is room for all of them, and with one place less there is not.
+are_places() {
+    local well=no
+    run 0 "$(as_file echo never)" /dev/null explore "${@:2}" --places "$1"
+    play explore "${@:2}" --places $(($1 - 1))
     [ $? = 6 ] && [ ! -s errors ] && grep -qxE 'not within [0-9]+' output && well=yes
-    count "$well" explore "$cfg" "$scripts" "${@:3}" "${question[@]}" --places $(($2 - 1))
+    count "$well" explore "${@:2}" --places $(($1 - 1))
+}
+
+# places_of_each_kind: two processors make two calls each, on things of their own, and end their tasks. What the one did does not depend on how far the
+# other has come, so there are four by four places, whatever the calls change: the same place is met by each order that leads to it. An order of
+# six steps, three of each, would be 20 different ones, and with all that they come through there would be 69 places.
+places_of_each_kind() {
+    local kind first second p
+    for p in 1 2; do
+        printf 'DEF_CLASS(C%s, %s, {%s});\nCLASS(C%s) {\n' $p $p $p $p
+        printf 'CRE_TSK(T%s, {TA_ACT, 0, main%s, 10, 4096, NULL});\nCRE_SEM(S%s, {TA_TFIFO, 0, 10});\n' $p $p $p
+        printf 'CRE_FLG(F%s, {TA_NULL, 0});\nCRE_DTQ(D%s, {TA_TFIFO, 4, NULL});\nCRE_MPF(M%s, {TA_TFIFO, 4, 64, NULL, NULL});\n' $p $p $p
+        printf 'CRE_ALM(A%s, {TA_NULL, 0, alarm});\nCRE_CYC(Y%s, {TA_NULL, 0, cyclic, 3, 2});\nCRE_SPN(L%s, {TA_NULL});\n}\n' $p $p $p
+    done | sed '1i PROCESSORS(2);' > kinds.cfg
+    while IFS='|' read -r kind first second; do
+        for p in 1 2; do
+            printf 'script main%s\n%s\n%s\nend\n' $p "${first//@/$p}" "${second//@/$p}"
+        done > "$kind.scripts"
+        are_places 16 kinds.cfg "$kind.scripts" --ticks 0 --turns 100 --find E_PAR
+    done << 'end of kinds'
+wakeup|wup_tsk(TSK_SELF)|wup_tsk(TSK_SELF)
+priority|chg_pri(TSK_SELF, 5)|chg_pri(TSK_SELF, 6)
+semaphore|sig_sem(S@)|sig_sem(S@)
+eventflag|set_flg(F@, 1)|set_flg(F@, 6)
+data_queue|psnd_dtq(D@, 5)|psnd_dtq(D@, -6)
+pool|pget_mpf(M@)|pget_mpf(M@)
+alarm|sta_alm(A@, 5)|sta_alm(A@, 7)
+cyclic|sta_cyc(Y@)|stp_cyc(Y@)
+spin_lock|loc_spn(L@)|unl_spn(L@)
+cpu_lock|loc_cpu()|unl_cpu()
+dispatching|dis_dsp()|ena_dsp()
+end of kinds
 }
 
 # begins_behind: a search begins where a trace ends. What it writes begins with that trace, and lines count with those of it.
