@@ -1,4 +1,4 @@
-# Builds fmpsim without a proof, and installs it with its manual, completions, tools, pages and examples. `make install` builds nothing: PROGRAM
+# Builds fmpsim without a proof, and installs it with its manual, completions, tools, pages, examples and the library that runs C on it. `make install` builds nothing: PROGRAM
 # is what `rt run` leaves in crates/fmpsim, or ./test.sh, or `make unproved`.
 #
 #     make unproved
@@ -22,8 +22,9 @@ fish = $(share)/fish/vendor_completions.d/fmpsim.fish
 # a command, fmpsim-from-toppers and so on.
 own = $(share)/fmpsim
 tools = from-toppers from-log from-trace run-list
-pages = GUIDE.md FORMATS.md PROFILE.md DECISIONS.md view.png wave.png
-files = LICENSE $(tools:%=tools/%) tools/c_numbers.py $(pages:%=docs/%) $(shell find tools/toppers-stub docs/formats examples -type f)
+pages = GUIDE.md HOST.md FORMATS.md PROFILE.md DECISIONS.md view.png wave.png
+files = LICENSE $(tools:%=tools/%) tools/c_numbers.py $(pages:%=docs/%) host/README.md host/fmphost.mk \
+    $(shell find tools/toppers-stub docs/formats examples host/include host/src host/gen host/programs -type f)
 
 .PHONY: unproved install uninstall
 
@@ -44,10 +45,12 @@ install:
 	    $(INSTALL) -D -m "$$mode" "$$file" '$(own)'/"$$file" || exit 1; \
 	done
 	@for tool in $(tools); do ln -sf "../share/fmpsim/tools/$$tool" '$(bin)'/"fmpsim-$$tool" || exit 1; done
+	@ln -sf ../share/fmpsim/host/gen/fmphost-cfg '$(bin)/fmphost-cfg'
 
 # Files that this version does not know stay, and their folders.
 uninstall:
 	rm -f '$(program)' '$(manual)' '$(bash)' '$(zsh)' '$(fish)'
 	@for tool in $(tools); do rm -f '$(bin)'/"fmpsim-$$tool"; done
+	rm -f '$(bin)/fmphost-cfg'
 	@for file in $(files); do rm -f '$(own)'/"$$file"; done
 	@test ! -d '$(own)' || find '$(own)' -depth -type d -empty -delete

@@ -44,10 +44,10 @@ found_in() {
 
 # What is installed.
 wanted() {
-    printf '%s\n' bin/fmpsim bin/fmpsim-{from-{toppers,log,trace},run-list} share/man/man1/fmpsim.1 share/bash-completion/completions/fmpsim \
+    printf '%s\n' bin/fmpsim bin/fmphost-cfg bin/fmpsim-{from-{toppers,log,trace},run-list} share/man/man1/fmpsim.1 share/bash-completion/completions/fmpsim \
         share/fish/vendor_completions.d/fmpsim.fish share/zsh/site-functions/_fmpsim \
-        share/fmpsim/{LICENSE,tools/{from-toppers,from-log,from-trace,run-list,c_numbers.py},docs/{GUIDE.md,FORMATS.md,PROFILE.md,DECISIONS.md,view.png,wave.png}}
-    (cd "$top" && find tools/toppers-stub docs/formats examples -type f | sed 's|^|share/fmpsim/|')
+        share/fmpsim/{LICENSE,tools/{from-toppers,from-log,from-trace,run-list,c_numbers.py},host/{README.md,fmphost.mk},docs/{GUIDE.md,HOST.md,FORMATS.md,PROFILE.md,DECISIONS.md,view.png,wave.png}}
+    (cd "$top" && find tools/toppers-stub docs/formats examples host/{include,src,gen,programs} -type f | sed 's|^|share/fmpsim/|')
 }
 
 # is_same FOLDER: each installed file is the repository's, and may be executed where that one may.

@@ -1,0 +1,63 @@
+# Runs a project's C on this machine: docs/HOST.md. The project's Makefile has two lines,
+#
+#     FMPHOST_CFG = machine.cfg
+#     include .../host/fmphost.mk
+#
+# and `make fmphost` builds fmphost-out/run of the C files beside it. Where the project has static API files of TOPPERS, FMPHOST_TOPPERS
+# names them in place of the first line, with the words of tools/from-toppers.
+
+FMPHOST := $(patsubst %/,%,$(dir $(abspath $(lastword $(MAKEFILE_LIST)))))
+FMPHOST_OUT ?= fmphost-out
+FMPHOST_CFG ?= $(if $(FMPHOST_TOPPERS),$(FMPHOST_OUT)/machine.cfg,machine.cfg)
+FMPHOST_SOURCES ?= $(wildcard *.c)
+# headers that declare what an exinf names, or a block's size
+FMPHOST_HEADERS ?=
+# what the project's compiler is given: -I, -D
+FMPHOST_FLAGS ?=
+FMPHOST_RUN ?= $(FMPHOST_OUT)/run
+FMPHOST_LIBRARY ?= $(FMPHOST_OUT)/libfmphost.a
+fmphost_room := $(dir $(FMPHOST_LIBRARY))parts
+FMPSIM ?= fmpsim
+LD ?= ld
+OBJCOPY ?= objcopy
+
+fmphost_clang := $(findstring clang,$(shell $(CC) --version 2>/dev/null))
+# The hooks have TOPPERS' and C's types, which are not those that gcc knows of its sanitizers.
+fmphost_c := $(CC) -std=gnu11 -Wall -Wextra $(if $(fmphost_clang),,-Wno-builtin-declaration-mismatch) -g -I'$(FMPHOST)/include' -I'$(FMPHOST_OUT)'
+# Each access calls a hook, each line is its own (-O0), and a call's place is that of its caller.
+fmphost_seen := -O0 -fno-optimize-sibling-calls -Wno-unused-parameter -fsanitize=thread \
+    $(if $(fmphost_clang),-mllvm -tsan-distinguish-volatile=1 -mllvm -tsan-instrument-read-before-write=1,--param tsan-distinguish-volatile=1)
+fmphost_objects := $(patsubst %.c,$(FMPHOST_OUT)/%.o,$(notdir $(FMPHOST_SOURCES)))
+fmphost_parts := $(patsubst $(FMPHOST)/src/%.c,$(fmphost_room)/%.o,$(wildcard $(FMPHOST)/src/*.c))
+vpath %.c $(sort $(dir $(FMPHOST_SOURCES)))
+
+.PHONY: fmphost
+fmphost: $(FMPHOST_RUN)
+
+$(FMPHOST_RUN): $(fmphost_objects) $(FMPHOST_OUT)/kernel_cfg.o $(FMPHOST_LIBRARY)
+	$(CC) $(FMPHOST_SANITIZERS) -o $@ $^ -Wl,--wrap=memcpy,--wrap=memmove,--wrap=memset
+$(fmphost_objects): $(FMPHOST_OUT)/%.o: %.c $(FMPHOST_OUT)/kernel_cfg.h
+	$(fmphost_c) $(fmphost_seen) $(FMPHOST_FLAGS) -c -o $@ $<
+$(FMPHOST_OUT)/kernel_cfg.o: $(FMPHOST_OUT)/kernel_cfg.c
+	$(fmphost_c) $(FMPHOST_SANITIZERS) -O1 -I. $(addprefix -I,$(sort $(dir $(FMPHOST_SOURCES) $(FMPHOST_CFG)))) $(FMPHOST_FLAGS) -c -o $@ $<
+$(FMPHOST_OUT)/kernel_cfg.c: $(FMPHOST_OUT)/kernel_cfg.h
+	@touch $@
+$(FMPHOST_OUT)/kernel_cfg.h: $(FMPHOST_CFG) $(FMPHOST)/gen/fmphost-cfg
+	@mkdir -p $(FMPHOST_OUT)
+	'$(FMPHOST)/gen/fmphost-cfg' $< -o $(FMPHOST_OUT) --fmpsim '$(FMPSIM)' $(addprefix --include ,$(FMPHOST_HEADERS))
+ifdef FMPHOST_TOPPERS
+$(FMPHOST_OUT)/machine.cfg: $(firstword $(FMPHOST_TOPPERS))
+	@mkdir -p $(FMPHOST_OUT)
+	'$(FMPHOST)/../tools/from-toppers' $(FMPHOST_TOPPERS) > $@ || { rm -f $@; exit 1; }
+endif
+
+# One object whose own names are hidden, so that a program may have a function `run` or a variable `state`; and its code in a section of its
+# own, so that a crash in it is known to be that of the access for which it was called. Its copies of memory are no accesses of the program.
+fmphost_real := $(foreach name,memcpy memmove memset,--redefine-sym $(name)=__real_$(name))
+$(FMPHOST_LIBRARY): $(fmphost_parts)
+	$(LD) -r -o $(fmphost_room)/all.o $^
+	$(OBJCOPY) --localize-hidden --rename-section .text=fmphost_text,alloc,load,readonly,code,contents $(fmphost_real) $(fmphost_room)/all.o
+	rm -f $@ && $(AR) rc $@ $(fmphost_room)/all.o
+$(fmphost_parts): $(fmphost_room)/%.o: $(FMPHOST)/src/%.c $(wildcard $(FMPHOST)/src/*.h $(FMPHOST)/include/*.h)
+	@mkdir -p $(fmphost_room)
+	$(fmphost_c) $(FMPHOST_SANITIZERS) -O2 -fvisibility=hidden -c -o $@ $<

@@ -1,0 +1,27 @@
+/* What the generated kernel_cfg.c tells the runner of a configuration. Objects stand kind by kind, and in a kind by their numbers. */
+#ifndef FMPHOST_CFG_H
+#define FMPHOST_CFG_H
+#include <stddef.h>
+#include <stdint.h>
+
+enum { FMPHOST_TASK, FMPHOST_SEM, FMPHOST_FLG, FMPHOST_DTQ, FMPHOST_MPF, FMPHOST_CYC, FMPHOST_ALM, FMPHOST_SPN, FMPHOST_KINDS };
+
+struct fmphost_object {
+    const char *name;
+    int kind, number;
+    void (*body)(intptr_t exinf); /* of a task or a handler */
+    intptr_t exinf;
+    int blocks;         /* of a pool */
+    size_t size;        /* of a block */
+    unsigned char *memory;
+    int counts;         /* a cyclic handler that counts ticks from boot */
+};
+
+extern const struct fmphost_object fmphost_objects[];
+extern const int fmphost_object_count;
+extern const int fmphost_processors;
+extern const int fmphost_master;          /* the processor whose ticks count for all, or 0 where each counts its own */
+extern const char fmphost_configuration[]; /* the path of its text */
+extern const char fmphost_version[];       /* of the fmpsim that read it, */
+extern const uint64_t fmphost_listed;      /* and a hash of what that said of it */
+#endif

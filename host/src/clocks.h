@@ -1,0 +1,12 @@
+/* Which of two things that contexts did came before the other by the kernel's own order, and not by chance: vector clocks. */
+#ifndef CLOCKS_H
+#define CLOCKS_H
+#include "contexts.h"
+
+void clocks_make(void);
+void clocks_begin(struct context *who, int processor);   /* a task's or handler's code begins */
+void clocks_event(struct context *caller, int processor, const struct answer *answer); /* after an event; NULL: a tick or an interrupt */
+uint32_t clock_now(int context);                         /* its own count */
+bool clock_knows(int context, int other, uint32_t count);
+void clocks_atomic(int context, uint32_t *kept, bool acquires, bool releases); /* an atomic access: its address keeps a clock */
+#endif

@@ -1,0 +1,204 @@
+#include "memory.h"
+#include "clocks.h"
+#include "outcome.h"
+#include "run.h"
+#include <string.h>
+
+enum { WORD = 8, MOST_SEEN = 12, MOST_WORDS = 1 << 15, WORD_SLOTS = 1 << 16, MOST_ATOMIC = 1 << 10 };
+struct seen { /* an access that was made, of one context */
+    short context;
+    unsigned char bytes; /* which of the word's */
+    bool writes, atomic;
+    unsigned char processor;
+    uint32_t count;
+    uintptr_t place;
+};
+struct word {
+    uintptr_t number;
+    short first;          /* the context that touched it first */
+    bool shared, written;
+    uint64_t at_first;    /* what it was before it was touched */
+    int seen_count;
+    struct seen seen[MOST_SEEN];
+    int clock;            /* of atomic accesses, from 1 */
+};
+/* In rooms of their own, not from malloc: what the program gets of malloc has to be the same in each order. */
+static struct word *words;
+static uint32_t *slots;               /* the words by their hashes, from 1 */
+static uint32_t (*atomic_clock)[MOST_CONTEXTS];
+static long word_count, atomic_count;
+struct learned *learned;
+
+void memory_make(void) {
+    words = own_room(MOST_WORDS * sizeof *words);
+    slots = own_room(WORD_SLOTS * sizeof *slots);
+    atomic_clock = own_room(MOST_ATOMIC * sizeof *atomic_clock);
+}
+
+static size_t slot_of(uintptr_t number, size_t slot_count) {
+    return (size_t)((number * 0x9e3779b97f4a7c15u) >> 40) & (slot_count - 1);
+}
+
+/* Whole words are read, also where the program has but a byte of one. */
+__attribute__((no_sanitize("address"))) static uint64_t value_of(uintptr_t number) {
+    return *(const volatile uint64_t *)(number * WORD);
+}
+
+static struct word *word_at(uintptr_t number, bool make) {
+    size_t i = slot_of(number, WORD_SLOTS);
+    for (; slots[i] != 0; i = (i + 1) & (WORD_SLOTS - 1))
+        if (words[slots[i] - 1].number == number)
+            return &words[slots[i] - 1];
+    if (!make)
+        return NULL;
+    if (word_count == MOST_WORDS)
+        give_up("the program touches more than %d words of memory in a run: --turns makes runs shorter", MOST_WORDS);
+    struct word *word = &words[word_count++];
+    slots[i] = (uint32_t)word_count;
+    *word = (struct word){.number = number, .first = -1, .at_first = value_of(number)};
+    return word;
+}
+
+/* --- words that were learned --- */
+
+static bool is_learned(uintptr_t number) {
+    for (size_t i = slot_of(number, LEARNED_SLOTS); learned->slot[i] != 0; i = (i + 1) & (LEARNED_SLOTS - 1))
+        if (learned->word[learned->slot[i] - 1] == number)
+            return true;
+    return false;
+}
+
+void learn_word(uintptr_t number) {
+    if (is_learned(number) || learned->count == MOST_LEARNED)
+        return;
+    size_t i = slot_of(number, LEARNED_SLOTS);
+    while (learned->slot[i] != 0)
+        i = (i + 1) & (LEARNED_SLOTS - 1);
+    learned->word[learned->count++] = number;
+    learned->slot[i] = (short)learned->count;
+}
+
+void learned_only(long count) {
+    memset(learned->slot, 0, sizeof learned->slot);
+    learned->count = 0;
+    for (long i = 0; i < count; i++)
+        learn_word(learned->word[i]);
+}
+
+/* --- points --- */
+
+/* Is it a place at which another may go on? Only where another one touches the word too, and one of both writes. */
+static bool is_point(struct context *me, uintptr_t number, bool writes) {
+    struct word *word = word_at(number, !own_stack(me, number * WORD));
+    if (word == NULL)
+        return is_learned(number);
+    int id = (int)(me - contexts);
+    if (word->first < 0) {
+        int owner = owner_of_stack(number * WORD);
+        word->first = (short)(owner >= 0 ? owner : id);
+    }
+    word->shared |= word->first != id;
+    word->written |= writes;
+    if (word->shared && word->written && learned->learns)
+        learn_word(number);
+    return (word->shared && word->written) || is_learned(number);
+}
+
+/* --- races --- */
+
+static unsigned char bytes_in(uintptr_t number, uintptr_t at, unsigned size) {
+    unsigned bits = 0;
+    for (unsigned i = 0; i < WORD; i++)
+        if (number * WORD + i >= at && number * WORD + i < at + size)
+            bits |= 1u << i;
+    return (unsigned char)bits;
+}
+
+static _Noreturn void end_at_race(const struct seen *seen, const struct seen *now, uintptr_t at, unsigned size) {
+    outcome->race[0] = (struct access){at, seen->place, size, seen->context, seen->writes, seen->atomic, seen->processor};
+    outcome->race[1] = (struct access){at, now->place, size, now->context, now->writes, now->atomic, now->processor};
+    end_run(RACE, " ");
+}
+
+static bool races(const struct seen *seen, const struct seen *now) {
+    return (seen->bytes & now->bytes) && (seen->writes || now->writes) && !(seen->atomic && now->atomic) &&
+           !clock_knows(now->context, seen->context, seen->count) &&
+           (options.races == RACES_ALL || (options.races == RACES_BETWEEN && seen->processor != now->processor));
+}
+
+/* Looks whether one that was made before is not ordered with it, and keeps it in the place of the context's own like it. */
+static void record(struct context *me, uintptr_t number, const struct context *access) {
+    struct word *word = word_at(number, false);
+    if (word == NULL)
+        return;
+    int id = (int)(me - contexts), mine = -1;
+    struct seen now = {(short)id, bytes_in(number, access->at, access->size), access->writes, access->atomic, (unsigned char)run_processor(me),
+                       clock_now(id), access->place};
+    for (int i = 0; i < word->seen_count; i++) {
+        struct seen *seen = &word->seen[i];
+        if (seen->context != id && races(seen, &now))
+            end_at_race(seen, &now, access->at, access->size);
+        if (seen->context == id && seen->writes == now.writes && seen->bytes == now.bytes)
+            mine = i;
+    }
+    if (mine < 0)
+        mine = word->seen_count < MOST_SEEN ? word->seen_count++ : (int)(now.place % MOST_SEEN);
+    word->seen[mine] = now;
+}
+
+void memory_touch(uintptr_t at, unsigned size, bool writes, bool atomic, uintptr_t place) {
+    struct context *me = running;
+    if (me == NULL || size == 0)
+        return;
+    bool point = false;
+    me->place = place; /* before memory is looked at: a crash there is that of the access */
+    for (uintptr_t number = at / WORD; number <= (at + size - 1) / WORD; number++)
+        point |= is_point(me, number, writes);
+    me->at = at, me->size = size, me->writes = writes, me->atomic = atomic;
+    if (point && options.points) {
+        me->next = ACCESS;
+        context_stop();
+    }
+    for (uintptr_t number = at / WORD; number <= (at + size - 1) / WORD; number++)
+        record(me, number, me);
+}
+
+/* One processor's turn at a time is made, so a plain access does for an atomic one; the order that it gives is kept in its word's clock. */
+void memory_atomic(uintptr_t at, unsigned size, bool writes, int order, uintptr_t place) {
+    memory_touch(at, size, writes, true, place);
+    struct word *word = running != NULL ? word_at(at / WORD, true) : NULL;
+    if (word == NULL)
+        return;
+    if (word->clock == 0 && atomic_count == MOST_ATOMIC)
+        give_up("the program has more than %d atomic variables", MOST_ATOMIC);
+    if (word->clock == 0)
+        word->clock = (int)++atomic_count;
+    bool acquires = order != __ATOMIC_RELAXED && order != __ATOMIC_RELEASE;
+    bool releases = writes && order != __ATOMIC_RELAXED && order != __ATOMIC_ACQUIRE && order != __ATOMIC_CONSUME;
+    clocks_atomic((int)(running - contexts), atomic_clock[word->clock - 1], acquires, releases);
+}
+
+/* --- hashes of what the program has in its memory --- */
+
+static uint64_t hash_words(bool all) {
+    uint64_t sum = 0; /* in no order, since the table's is that of a run */
+    for (long i = 0; i < word_count; i++) {
+        const struct word *word = &words[i];
+        if (!(all || (word->shared && word->written)) || owner_of_stack(word->number * WORD) >= 0)
+            continue;
+        uint64_t value = value_of(word->number);
+        if (value == word->at_first) /* so it does not matter whether it was touched */
+            continue;
+        uint64_t part = (value + 0x9e3779b97f4a7c15u) * (word->number | 1);
+        sum += part ^ part >> 29;
+    }
+    return sum;
+}
+
+uint64_t memory_hash(void) {
+    return hash_words(false);
+}
+
+uint64_t memory_hash_all(void) {
+    return hash_words(true);
+}

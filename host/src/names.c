@@ -1,0 +1,110 @@
+#define _GNU_SOURCE
+#include "names.h"
+#include "contexts.h"
+#include <link.h>
+#include <stdio.h>
+#include <stdlib.h>
+#include <string.h>
+#include <unistd.h>
+
+static uintptr_t base;
+
+static int first_object(struct dl_phdr_info *info, size_t size, void *into) {
+    (void)size;
+    *(uintptr_t *)into = info->dlpi_addr;
+    return 1; /* the program itself is the first */
+}
+
+static uintptr_t load_address(void) {
+    if (base == 0)
+        dl_iterate_phdr(first_object, &base);
+    return base;
+}
+
+static FILE *ask_tool(const char *form, uintptr_t address) {
+    char path[4096], command[9000];
+    ssize_t length = readlink("/proc/self/exe", path, sizeof path - 1);
+    if (length < 0)
+        return NULL;
+    path[length] = '\0';
+    snprintf(command, sizeof command, form, path, (unsigned long)address);
+    return popen(command, "r");
+}
+
+/* Where addr2line is not there or knows nothing, the address does: `addr2line -e PROGRAM` makes a line of it. */
+static void ask_place(uintptr_t code, char *name, size_t room) {
+    char function[512] = "?", place[400] = "?";
+    uintptr_t address = code - load_address() - 1; /* of the call, not of what comes after it */
+    FILE *tool = ask_tool("addr2line -s -f -e '%s' 0x%lx 2>/dev/null", address);
+    if (tool != NULL) {
+        if (fgets(function, sizeof function, tool) && fgets(place, sizeof place, tool)) {
+            function[strcspn(function, "\n")] = '\0';
+            place[strcspn(place, " \n")] = '\0';
+        }
+        pclose(tool);
+    }
+    if (function[0] == '?')
+        snprintf(name, room, "0x%lx", (unsigned long)address);
+    else
+        snprintf(name, room, "%s %s", function, place);
+}
+
+const char *place_name(uintptr_t code) {
+    enum { MOST_KNOWN = 256 }; /* an order names few places often */
+    static struct { uintptr_t code; char name[1024]; } known[MOST_KNOWN];
+    static int count;
+    for (int i = 0; i < count; i++)
+        if (known[i].code == code)
+            return known[i].name;
+    int at = count < MOST_KNOWN ? count++ : MOST_KNOWN - 1;
+    known[at].code = code;
+    ask_place(code, known[at].name, sizeof known[at].name);
+    return known[at].name;
+}
+
+static bool in_block(uintptr_t address, char *name, size_t room) {
+    for (int i = 0; i < fmphost_object_count; i++) {
+        const struct fmphost_object *pool = &fmphost_objects[i];
+        uintptr_t from = (uintptr_t)pool->memory;
+        if (pool->kind != FMPHOST_MPF || address < from || address >= from + pool->size * (size_t)pool->blocks)
+            continue;
+        snprintf(name, room, "block %zu of %s, byte %zu", (address - from) / pool->size, pool->name, (address - from) % pool->size);
+        return true;
+    }
+    return false;
+}
+
+static void ask_symbol(uintptr_t address, char *name, size_t room) {
+    FILE *tool = ask_tool("nm -nS --defined-only '%s' 2>/dev/null", 0);
+    char line[700], symbol[512];
+    unsigned long at, size, wanted = address - load_address();
+    char type;
+    while (tool != NULL && fgets(line, sizeof line, tool))
+        if (sscanf(line, "%lx %lx %c %511s", &at, &size, &type, symbol) == 4 && wanted >= at && wanted < at + size) {
+            if (wanted == at)
+                snprintf(name, room, "%s", symbol);
+            else
+                snprintf(name, room, "%s, byte %lu", symbol, wanted - at);
+        }
+    if (tool != NULL)
+        pclose(tool);
+}
+
+const char *variable_name(uintptr_t address) {
+    enum { MOST_KNOWN = 256 };
+    static struct { uintptr_t address; char name[600]; } known[MOST_KNOWN];
+    static int count;
+    for (int i = 0; i < count; i++)
+        if (known[i].address == address)
+            return known[i].name;
+    int at = count < MOST_KNOWN ? count++ : MOST_KNOWN - 1;
+    char *name = known[at].name;
+    size_t room = sizeof known[at].name;
+    known[at].address = address;
+    snprintf(name, room, "0x%lx", (unsigned long)address);
+    if (owner_of_stack(address) >= 0)
+        snprintf(name, room, "a variable on %s's stack", context_name(owner_of_stack(address)));
+    else if (!in_block(address, name, room))
+        ask_symbol(address, name, room);
+    return name;
+}

@@ -1,0 +1,193 @@
+/* The searches, and the replay of a file. */
+#include "choices.h"
+#include "memory.h"
+#include "outcome.h"
+#include "places.h"
+#include "process.h"
+#include "report.h"
+#include "search.h"
+#include "searches.h"
+#include <stdio.h>
+#include <stdlib.h>
+#include <string.h>
+
+static long runs;
+static struct path first_path;      /* of the first finding, */
+static long first_learned;          /* and what was known when its run began */
+static bool first_timed;
+
+static bool is_enough(void) {
+    return (found_so_far() && !options.goes_on) || runs >= options.most_runs;
+}
+
+static void count(bool counts_end) {
+    runs++;
+    if (is_finding() && !found_so_far()) {
+        path_of_outcome();
+        first_path = path;
+        first_learned = learned_before;
+        first_timed = ticks_from_boot;
+    }
+    note_run((uint64_t)runs, counts_end);
+}
+
+static void begin_anew(void) {
+    runs = 0;
+    kept->valid = 0;
+    forget_runs();
+}
+
+/* The first finding is told of a run that is made again, so that it is known to be so: its trace and its order are of that one. */
+static int tell(const char *what, bool complete) {
+    uint64_t hash;
+    int again = 0;
+    if (found_so_far()) {
+        tell_findings(what);
+        first_finding(&hash);
+        learned_only(first_learned);
+        ticks_from_boot = first_timed;
+        path = first_path;
+        kept->valid = 0;
+        process_run(by_path);
+        again = outcome->trace_hash != hash;
+        if (again)
+            fputs("fmphost: it does not do the same again: does the program use the time, a random number, or what it left in a file?\n", stderr);
+    }
+    if (!again)
+        write_files();
+    int status = tell_summary(what, complete);
+    return again ? 3 : status;
+}
+
+/* --- orders --- */
+
+/* Points or ticks were missing where more was learned, so what was gone through may not be all. */
+static bool learned_more(long *words, bool *timed) {
+    bool more = *words != learned->count || *timed != learned->timed;
+    *words = learned->count;
+    *timed = learned->timed;
+    return more;
+}
+
+int play_orders(void) {
+    bool complete = false;
+    learn_words();
+    long words = learned->count;
+    bool timed = learned->timed;
+    begin_anew();
+    for (;;) {
+        ticks_from_boot = learned->timed;
+        process_run(search_choose);
+        if (learned_more(&words, &timed) && (!is_finding() || options.goes_on)) {
+            search_anew();
+            begin_anew();
+            continue;
+        }
+        count(outcome->ending != LEFT_OFF);
+        if (is_enough())
+            break;
+        complete = !search_next();
+        if (complete)
+            break;
+        kept->valid = search_common();
+    }
+    return tell("order", complete);
+}
+
+/* --- places --- */
+
+/* Each place is gone on from once by all that may happen there, in the order in which they were found: so what is found is shortest. */
+static long from_place;
+static int wanted;
+
+static int by_place(uint32_t enabled, long turn) {
+    if (turn < path.length)
+        return path.action[turn];
+    if (from_place >= 0 && turn == path.length)
+        return wanted;
+    bool is_new;
+    long here = places_here(from_place, wanted, &is_new);
+    if (is_new)
+        places->place[here].enabled = enabled;
+    return enabled == 0 ? ENDS_HERE : LEAVES_OFF;
+}
+
+/* The answers that the last run began with and this one begins with, too. */
+static void keep_common(void) {
+    long common = 0;
+    while (common < path.length && common < outcome->turns && outcome->turn[common].action == path.action[common])
+        common++;
+    kept->valid = common < outcome->turns ? outcome->turn[common].answers_before : 0;
+}
+
+static bool go_on_from(long place, int action) {
+    from_place = place;
+    wanted = action;
+    path.length = place < 0 ? 0 : places_path(place, path.action, options.turns - 1);
+    if (path.length < 0)
+        return false;
+    if (place >= 0)
+        keep_common();
+    process_run(by_place);
+    struct path gone = path;
+    count(outcome->ending != LEFT_OFF);
+    path = gone;
+    return true;
+}
+
+/* Whether each place was gone on from. It ends early where words are learned, since all has to be gone through again then. */
+static bool go_through(long words) {
+    bool complete = go_on_from(-1, 0);
+    for (long place = 0; place < places->count && words == learned->count && complete && !is_enough(); place++)
+        for (int a = 0; a < fmphost_processors * ACTS && !is_enough(); a++)
+            if ((places->place[place].enabled & 1u << a) && !go_on_from(place, a))
+                complete = false;
+    return complete && words == learned->count && !is_enough();
+}
+
+static void look_for_stuck(void) {
+    int task;
+    long place = places_stuck(&task);
+    if (place < 0 || (path.length = places_path(place, path.action, options.turns - 1)) < 0)
+        return;
+    kept->valid = 0;
+    process_run(by_path);
+    outcome->ending = ASLEEP;
+    say_words("%s waits for ever, whatever the order is from here on", context_name(task));
+    count(false);
+}
+
+int play_places(void) {
+    bool complete;
+    long words;
+    learn_words();
+    do {
+        words = learned->count;
+        ticks_from_boot = learned->timed;
+        places_anew();
+        begin_anew();
+        complete = go_through(words);
+    } while ((words != learned->count || ticks_from_boot != learned->timed) && (!found_so_far() || options.goes_on));
+    if (complete && !found_so_far())
+        look_for_stuck();
+    return tell("step", complete);
+}
+
+/* --- a file --- */
+
+int play_file(void) {
+    replay_open();
+    if (!replay_has_points())
+        learn_words();
+    kept->valid = 0;
+    process_run(by_replay);
+    replay_compare();
+    count(true);
+    if (is_finding())
+        tell_findings("order");
+    write_files();
+    bool cut = outcome->ending == CUT_SHORT;
+    if (cut)
+        fprintf(stderr, "fmphost: %s ends here, and more may happen\n", options.replay);
+    return tell_summary("order", !cut);
+}

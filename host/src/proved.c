@@ -1,0 +1,246 @@
+#define _GNU_SOURCE
+#include "proved.h"
+#include "outcome.h"
+#include "process.h"
+#include <errno.h>
+#include <fcntl.h>
+#include <spawn.h>
+#include <stdio.h>
+#include <stdlib.h>
+#include <string.h>
+#include <sys/wait.h>
+#include <unistd.h>
+
+extern char **environ;
+char *trace_text;
+long trace_length, answers;
+struct kept_answers *kept;
+
+static int to_kernel, from_kernel;
+static pid_t kernel;            /* 0 until it is needed */
+static const char *kernel_program, *kernel_configuration;
+static char unsent[1 << 15];    /* events whose answers are known from the run before, and are not asked for yet */
+static long unsent_length, unread;
+static char heard[1 << 16];
+static long heard_from, heard_to;
+
+/* --- another use of fmpsim: what it writes on these words --- */
+
+static char *read_all(FILE *pipe) {
+    char *text = NULL;
+    size_t length = 0, got;
+    do {
+        text = realloc(text, length + 4097);
+        if (text == NULL)
+            give_up("no memory");
+        got = fread(text + length, 1, 4096, pipe);
+        length += got;
+    } while (got > 0);
+    text[length] = '\0';
+    return text;
+}
+
+static char *output_of(const char *word, const char *path) {
+    char command[9000] = "";
+    add_quoted(command, sizeof command, kernel_program);
+    add_quoted(command, sizeof command, word);
+    if (path != NULL)
+        add_quoted(command, sizeof command, path);
+    FILE *pipe = popen(command, "r");
+    if (pipe == NULL)
+        give_up("no process could be started: %s", strerror(errno));
+    char *text = read_all(pipe);
+    int status = pclose(pipe);
+    if (WIFEXITED(status) && (WEXITSTATUS(status) == 127 || WEXITSTATUS(status) == 126))
+        give_up("%s is not found: name fmpsim with --fmpsim or FMPSIM", kernel_program);
+    if (status != 0)
+        give_up("fmpsim %s failed: what it told stands above", word);
+    return text;
+}
+
+/* The numbers of objects stand in the program's code, so they have to be those of the configuration that the kernel reads now. */
+void proved_check(const char *program, const char *configuration) {
+    kernel_program = program;
+    char path[5000];
+    snprintf(path, sizeof path, "%s%s", strchr(configuration, '/') ? "" : "./", configuration); /* else it would be a name that list knows */
+    char *version = output_of("--version", NULL), *listed = output_of("list", path);
+    version[strcspn(version, "\n")] = '\0';
+    if (strncmp(version, fmphost_version, strlen(fmphost_version)) != 0)
+        give_up("this is %s, and kernel_cfg.c was made with %s: make it anew", version, fmphost_version);
+    if (hash_text(listed, listed + strlen(listed)) != fmphost_listed)
+        give_up("%s is not what kernel_cfg.c was made of: make it anew", configuration);
+    free(version);
+    free(listed);
+}
+
+/* --- the pipes --- */
+
+static void start_kernel(void) {
+    int there[2], back[2];
+    char *arguments[] = {(char *)kernel_program, "calls", "--state", "--color=never", (char *)kernel_configuration, "-", NULL};
+    posix_spawn_file_actions_t actions;
+    if (pipe2(there, O_CLOEXEC) != 0 || pipe2(back, O_CLOEXEC) != 0)
+        give_up("no pipe to fmpsim");
+    posix_spawn_file_actions_init(&actions);
+    posix_spawn_file_actions_adddup2(&actions, there[0], 0);
+    posix_spawn_file_actions_adddup2(&actions, back[1], 1);
+    if (posix_spawnp(&kernel, kernel_program, &actions, NULL, arguments, environ) != 0)
+        give_up("fmpsim is not found (%s): name it with --fmpsim or FMPSIM", kernel_program);
+    posix_spawn_file_actions_destroy(&actions);
+    close(there[0]);
+    close(back[1]);
+    to_kernel = there[1];
+    from_kernel = back[0];
+}
+
+static const char *hear(void) { /* one line, ended by a zero in place of its line feed */
+    for (;;) {
+        char *end = memchr(heard + heard_from, '\n', (size_t)(heard_to - heard_from));
+        if (end != NULL) {
+            const char *line = heard + heard_from;
+            *end = '\0';
+            heard_from = end + 1 - heard;
+            return line;
+        }
+        memmove(heard, heard + heard_from, (size_t)(heard_to - heard_from));
+        heard_to -= heard_from;
+        heard_from = 0;
+        if (heard_to == sizeof heard)
+            give_up("fmpsim writes a line that is too long");
+        ssize_t got = read(from_kernel, heard + heard_to, sizeof heard - (size_t)heard_to);
+        if (got == 0 || (got < 0 && errno != EINTR))
+            give_up("fmpsim has ended before the run: what it told stands above");
+        if (got > 0)
+            heard_to += got;
+    }
+}
+
+static void send_all(void) {
+    for (long sent = 0; sent < unsent_length;) {
+        ssize_t wrote = write(to_kernel, unsent + sent, (size_t)(unsent_length - sent));
+        if (wrote < 0 && errno != EINTR)
+            give_up("fmpsim has ended before the run: what it told stands above");
+        if (wrote > 0)
+            sent += wrote;
+    }
+    unsent_length = 0;
+}
+
+/* Passes over the answers to events whose answers were known. The kernel is started when there is the first that is not. */
+static void catch_up(void) {
+    if (kernel == 0)
+        start_kernel();
+    send_all();
+    for (; unread > 0; unread--)
+        while (strcmp(hear(), "  end") != 0)
+            ;
+}
+
+/* --- answers, heard or kept --- */
+
+static void keep(const char *line) {
+    size_t length = strlen(line);
+    if (kept->used + (long)length + 1 >= ANSWER_ROOM)
+        give_up("the answers of one run are too many to keep: --turns makes runs shorter");
+    memcpy(kept->text + kept->used, line, length);
+    kept->text[kept->used + (long)length] = '\n';
+    kept->used += (long)length + 1;
+}
+
+static void note_trace(const char *line, size_t length) {
+    if (trace_length + (long)length + 1 >= ANSWER_ROOM)
+        give_up("the trace of one run is too long: --turns makes runs shorter");
+    memcpy(trace_text + trace_length, line, length);
+    trace_text[trace_length + (long)length] = '\n';
+    trace_length += (long)length + 1;
+}
+
+static void take(const char *line, struct answer *answer, bool first) {
+    if (first) {
+        note_trace(line, strlen(line));
+        read_record(line, answer);
+        state_begin();
+    } else
+        state_line(line);
+}
+
+static void take_kept(long number, struct answer *answer, bool boot) {
+    static char line[1 << 16];
+    bool first = !boot;
+    if (boot)
+        state_begin();
+    for (const char *at = kept->text + kept->at[number];;) {
+        size_t length = strcspn(at, "\n");
+        memcpy(line, at, length);
+        line[length] = '\0';
+        at += length + 1;
+        if (!strcmp(line, "  end"))
+            return;
+        take(line, answer, first);
+        first = false;
+    }
+}
+
+static void take_heard(struct answer *answer, bool boot) {
+    bool first = !boot;
+    if (boot)
+        state_begin();
+    for (;;) {
+        const char *line = hear();
+        keep(line);
+        if (!strcmp(line, "  end"))
+            return;
+        take(line, answer, first);
+        first = false;
+    }
+}
+
+/* The answer of this number, kept from the run before or heard. That at boot is number 0, and answers no event. */
+static void next_answer(struct answer *answer, uint64_t event) {
+    long number = answers;
+    answers++;
+    if (number < kept->valid) {
+        if (kept->asked[number] != event)
+            give_up("the program does not do the same again: does it use the time, a random number, or what it left in a file?");
+        take_kept(number, answer, event == 0);
+        unread++;
+        return;
+    }
+    catch_up();
+    if (number >= MOST_EVENTS)
+        give_up("too many events in one run: --turns makes runs shorter");
+    kept->used = number == 0 ? 0 : kept->used;
+    kept->at[number] = kept->used;
+    kept->asked[number] = event;
+    take_heard(answer, event == 0);
+    kept->count = kept->valid = number + 1;
+}
+
+const struct answer *proved_event(int processor, const char *event) {
+    static struct answer answer;
+    if (unsent_length > (long)sizeof unsent - 512)
+        catch_up();
+    int length = snprintf(unsent + unsent_length, sizeof unsent - (size_t)unsent_length, "P%d %s\n", processor, event);
+    uint64_t asked = hash_text(unsent + unsent_length, unsent + unsent_length + length);
+    unsent_length += length;
+    next_answer(&answer, asked);
+    return &answer;
+}
+
+void proved_start(const char *program, const char *configuration) {
+    kernel_program = program;
+    kernel_configuration = configuration;
+    if (kept->valid < kept->count)
+        kept->used = kept->at[kept->valid];
+    struct answer none;
+    next_answer(&none, 0);
+}
+
+void proved_stop(void) {
+    if (kernel == 0)
+        return;
+    close(to_kernel);
+    close(from_kernel);
+    int status;
+    waitpid(kernel, &status, 0);
+}

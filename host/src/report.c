@@ -1,0 +1,278 @@
+#define _GNU_SOURCE
+#include "report.h"
+#include "memory.h"
+#include "names.h"
+#include "options.h"
+#include "places.h"
+#include "process.h"
+#include "search.h"
+#include <errno.h>
+#include <stdatomic.h>
+#include <stdio.h>
+#include <stdlib.h>
+#include <string.h>
+#include <time.h>
+#include <unistd.h>
+
+enum { MOST_FINDINGS = 64, MOST_ENDS = 1 << 16 };
+struct finding {
+    enum ending ending;
+    uint64_t number, trace_hash;
+    long count;
+    char words[1024];
+    struct access race[2];
+    uintptr_t crash, last;
+};
+/* Shared by those that play seeds side by side. */
+static struct tally {
+    atomic_flag taken;
+    long runs, cut, findings, turns, events, end_count, kinds;
+    uint64_t ends_sum, ends[MOST_ENDS];
+    struct finding finding[MOST_FINDINGS];
+} *tally;
+static double began;
+
+static double seconds(void) {
+    struct timespec now;
+    clock_gettime(CLOCK_MONOTONIC, &now);
+    return (double)now.tv_sec + (double)now.tv_nsec / 1e9;
+}
+
+void report_make(void) {
+    tally = shared_room(sizeof *tally);
+    began = seconds();
+}
+
+/* --- counting --- */
+
+static void note_end(void) {
+    size_t i = outcome->end & (MOST_ENDS - 1);
+    while (tally->ends[i] != 0 && tally->ends[i] != outcome->end)
+        i = (i + 1) & (MOST_ENDS - 1);
+    if (tally->ends[i] == 0 && tally->end_count < MOST_ENDS / 2)
+        tally->ends[i] = outcome->end, tally->end_count++, tally->ends_sum += outcome->end;
+}
+
+static bool is_alike(const struct finding *one, const struct finding *other) {
+    if (one->ending != other->ending)
+        return false;
+    if (one->ending == RACE)
+        return one->race[0].place == other->race[0].place && one->race[1].place == other->race[1].place;
+    return strcmp(one->words, other->words) == 0;
+}
+
+static void note_finding(uint64_t number) {
+    struct finding found = {.ending = outcome->ending, .number = number, .trace_hash = outcome->trace_hash, .count = 1, .crash = outcome->crash, .last = outcome->last};
+    snprintf(found.words, sizeof found.words, "%.1000s", outcome->words);
+    memcpy(found.race, outcome->race, sizeof found.race);
+    for (long i = 0; i < tally->kinds; i++)
+        if (is_alike(&tally->finding[i], &found)) {
+            found.count += tally->finding[i].count;
+            if (number < tally->finding[i].number)
+                tally->finding[i] = found;
+            tally->finding[i].count = found.count;
+            return;
+        }
+    if (tally->kinds < MOST_FINDINGS)
+        tally->finding[tally->kinds++] = found;
+}
+
+/* The second machine of fmpsim, which shares no queue and no timer with the one that the program ran on, has to say yes. */
+static void judge(void) {
+    char path[] = "/tmp/fmphost.XXXXXX", command[9000] = "", verdict[64] = "nothing\n";
+    int file = mkstemp(path);
+    if (file < 0)
+        give_up("no file for a trace: %s", strerror(errno));
+    close(file);
+    write_trace(path);
+    add_quoted(command, sizeof command, options.fmpsim);
+    strcat(command, " check");
+    add_quoted(command, sizeof command, options.configuration);
+    add_quoted(command, sizeof command, path);
+    FILE *judge = popen(command, "r");
+    if (judge == NULL || fgets(verdict, sizeof verdict, judge) == NULL || strcmp(verdict, "yes\n") != 0) {
+        verdict[strcspn(verdict, "\n")] = '\0';
+        give_up("fmpsim check says %s of %s", verdict, path);
+    }
+    pclose(judge);
+    unlink(path);
+}
+
+void note_run(uint64_t number, bool counts_end) {
+    if (options.judged)
+        judge();
+    while (atomic_flag_test_and_set(&tally->taken))
+        usleep(10);
+    tally->runs++;
+    tally->cut += outcome->ending == LIMIT;
+    tally->turns += outcome->turns;
+    tally->events += outcome->events;
+    tally->findings += is_finding();
+    if (is_finding())
+        note_finding(number);
+    if (counts_end)
+        note_end();
+    atomic_flag_clear(&tally->taken);
+}
+
+void forget_runs(void) {
+    memset(tally, 0, sizeof *tally);
+}
+
+bool found_so_far(void) {
+    return tally->findings > 0;
+}
+
+static int earliest(uint64_t above) {
+    int best = -1;
+    for (int i = 0; i < tally->kinds; i++)
+        if (tally->finding[i].number >= above && (best < 0 || tally->finding[i].number < tally->finding[best].number))
+            best = i;
+    return best;
+}
+
+uint64_t first_finding(uint64_t *trace_hash) {
+    int first = earliest(0);
+    *trace_hash = tally->finding[first].trace_hash;
+    return tally->finding[first].number;
+}
+
+/* --- telling --- */
+
+static void tell_access(const struct access *access) {
+    fprintf(stderr, "fmphost:   %s on P%d %s it: %s\n", context_name(access->context), access->processor, access->writes ? "writes" : "reads", place_name(access->place));
+}
+
+static void tell_finding(const struct finding *found) {
+    if (found->ending == RACE) {
+        const struct access *race = found->race;
+        fprintf(stderr, "fmphost: race on %s, %u bytes at 0x%lx: nothing orders these two\n", variable_name(race->at), race->size, (unsigned long)race->at);
+        tell_access(&race[0]);
+        tell_access(&race[1]);
+        return;
+    }
+    fprintf(stderr, "fmphost: %s%s%s\n", found->words, found->crash ? ": " : "", found->crash ? place_name(found->crash) : "");
+    if (found->last && found->last != found->crash)
+        fprintf(stderr, "fmphost:   its last call or access: %s\n", place_name(found->last));
+}
+
+/* The first one; with --all one of each kind. What seeds beside the first one found is not told without it, as that is chance. */
+void tell_findings(const char *what) {
+    for (int i = earliest(0); i >= 0; i = options.goes_on ? earliest(tally->finding[i].number + 1) : -1) {
+        const struct finding *found = &tally->finding[i];
+        fprintf(stderr, "fmphost: %s %llu", what, (unsigned long long)found->number);
+        if (options.goes_on && found->count > 1)
+            fprintf(stderr, ", and %ld more", found->count - 1);
+        fputc('\n', stderr);
+        tell_finding(found);
+    }
+    if (tally->kinds == MOST_FINDINGS)
+        fprintf(stderr, "fmphost: and perhaps other kinds: there is room for %d\n", MOST_FINDINGS);
+}
+
+int tell_summary(const char *what, bool complete) {
+    double took = seconds() - began;
+    fprintf(stderr, "fmphost: %ld %s%s, %ld turns, %ld events, %.2f s", tally->runs, what, tally->runs == 1 ? "" : "s", tally->turns, tally->events, took);
+    if (options.mode == BY_PLACES)
+        fprintf(stderr, ", %ld places", places->count);
+    else if (search_pruned)
+        fprintf(stderr, ", %ld of them left off", search_pruned);
+    if (tally->cut)
+        fprintf(stderr, ", %ld cut at %ld turns", tally->cut, options.turns);
+    if (options.tells_ends)
+        fprintf(stderr, ", %ld ends %016llx", tally->end_count, (unsigned long long)tally->ends_sum);
+    if (options.goes_on && tally->findings > 1)
+        fprintf(stderr, ", %ld findings", tally->findings);
+    bool all = complete && (!tally->cut || options.mode == BY_SEEDS);
+    fputs(tally->findings ? (all ? "\n" : ", not all\n") : all ? ": nothing found\n" : ": nothing found, but not all was looked at\n", stderr);
+    if (!outcome->instrumented)
+        fputs("fmphost: the program was not compiled with -fsanitize=thread, so no race was looked for\n", stderr);
+    return tally->findings ? 5 : all ? 0 : 6;
+}
+
+/* --- files --- */
+
+static _Noreturn void unwritten(const char *path) {
+    give_up("%s: %s", path, strerror(errno));
+}
+
+void write_trace(const char *path) {
+    FILE *file = fopen(path, "w");
+    if (file == NULL || fwrite(trace_text, 1, (size_t)outcome->trace_length, file) != (size_t)outcome->trace_length || fclose(file) != 0)
+        unwritten(path);
+}
+
+/* The line of the trace with this number, from its processor on. */
+bool record_text(long record, char *into, uint64_t size) {
+    const char *at = trace_text, *end = trace_text + outcome->trace_length;
+    for (long i = 1; i < record && at < end; i++)
+        at = (const char *)memchr(at, '\n', (size_t)(end - at)) + 1;
+    if (at >= end)
+        return false;
+    const char *text = strchr(at, ' ') + 1;
+    snprintf(into, size, "%.*s", (int)strcspn(text, "\n"), text);
+    return true;
+}
+
+/* `CTRL sus_tsk(COPY) E_OK ipi=2`, or `CTRL reads busy`. */
+void turn_text(long number, char *into, uint64_t size) {
+    const struct turn *turn = &outcome->turn[number];
+    char record[2048];
+    if (turn->record > 0 && record_text(turn->record, record, sizeof record))
+        snprintf(into, size, "%s", strchr(record, ' ') + 1);
+    else if (turn->size != 0)
+        snprintf(into, size, "%s %s %s", context_name(turn->context), turn->writes ? "writes" : "reads", variable_name(turn->at));
+    else
+        snprintf(into, size, "%s", context_name(turn->context));
+}
+
+static void write_order(const char *path) {
+    static const char *const acts[] = {"go", "ipi", "tick"};
+    char text[2048];
+    FILE *file = fopen(path, "w");
+    if (file == NULL)
+        unwritten(path);
+    fprintf(file, "# fmphost order: ticks %ld, timed %d, points", options.ticks, ticks_from_boot);
+    for (long i = 0; i < learned_before; i++)
+        fprintf(file, " %lx", (unsigned long)learned->word[i]);
+    fputc('\n', file);
+    for (long i = 0; i < outcome->turns; i++) {
+        const struct turn *turn = &outcome->turn[i];
+        turn_text(i, text, sizeof text);
+        fprintf(file, "P%d %-5s%s", turn->action / ACTS + 1, acts[turn->action % ACTS], text);
+        if (turn->place != 0)
+            fprintf(file, "   [%s]", place_name(turn->place));
+        fputc('\n', file);
+    }
+    if (ferror(file) | fclose(file))
+        unwritten(path);
+}
+
+/* The page that fmpsim view makes of the trace: one command leads from a finding to its picture. */
+static void write_view(const char *path) {
+    char trace[] = "/tmp/fmphost.XXXXXX", command[17000] = "";
+    int file = mkstemp(trace);
+    if (file < 0)
+        give_up("no file for a trace: %s", strerror(errno));
+    close(file);
+    write_trace(trace);
+    add_quoted(command, sizeof command, options.fmpsim);
+    strcat(command, " view");
+    add_quoted(command, sizeof command, options.configuration);
+    add_quoted(command, sizeof command, trace);
+    strcat(command, " >");
+    add_quoted(command, sizeof command, path);
+    int status = system(command);
+    unlink(trace);
+    if (status != 0)
+        give_up("%s: fmpsim view failed: what it told stands above", path);
+}
+
+void write_files(void) {
+    if (options.trace)
+        write_trace(options.trace);
+    if (options.order)
+        write_order(options.order);
+    if (options.view)
+        write_view(options.view);
+}

@@ -1,0 +1,264 @@
+#include "run.h"
+#include "clocks.h"
+#include "memory.h"
+#include "outcome.h"
+#include "places.h"
+#include <stdarg.h>
+#include <stdio.h>
+#include <string.h>
+#include <unistd.h>
+
+bool instrumented, ticks_from_boot;
+static struct footprint unused;
+struct footprint *footprint = &unused;
+struct outcome *outcome;
+static long ticks[MOST_PROCESSORS + 1];
+static bool spins[MOST_CONTEXTS];               /* its lock was held, and is still */
+static long waits_since[MOST_CONTEXTS];
+static bool ticks_began;
+
+void give_up(const char *form, ...) {
+    char line[1024];
+    va_list values;
+    va_start(values, form);
+    vsnprintf(line, sizeof line, form, values);
+    va_end(values);
+    fprintf(stderr, "fmphost: %s\n", line);
+    if (outcome != NULL)
+        outcome->ending = BROKEN;
+    _exit(3);
+}
+
+/* --- the end of a run --- */
+
+static uint64_t end_hash(enum ending ending) {
+    uint64_t sum = memory_hash();
+    if (ending >= CLAIM) /* cut off anywhere: what the others still had to do says nothing */
+        return sum;
+    for (int p = 1; p <= fmphost_processors; p++)
+        sum = (sum ^ (uint64_t)(state.processor[p].run * 3 + state.processor[p].latch)) * 1099511628211u ^ state.processor[p].ready;
+    for (int i = 0; i < fmphost_object_count; i++)
+        sum = (sum ^ state.told[i]) * 1099511628211u;
+    return sum;
+}
+
+void say_words(const char *form, ...) {
+    va_list values;
+    va_start(values, form);
+    vsnprintf(outcome->words, sizeof outcome->words, form, values);
+    va_end(values);
+}
+
+void seal_outcome(enum ending ending) {
+    outcome->ending = ending;
+    outcome->events = answers - 1;
+    outcome->trace_length = trace_length;
+    outcome->trace_hash = hash_text(trace_text, trace_text + trace_length);
+    outcome->instrumented = instrumented;
+}
+
+void end_run(enum ending ending, const char *form, ...) {
+    va_list values;
+    va_start(values, form);
+    vsnprintf(outcome->words, sizeof outcome->words, form, values);
+    va_end(values);
+    seal_outcome(ending);
+    outcome->end = end_hash(ending) ^ (uint64_t)ending << 56;
+    for (const char *at = outcome->words; *at != '\0'; at++)
+        outcome->end = (outcome->end ^ (unsigned char)*at) * 1099511628211u;
+    running = NULL;
+    proved_stop();
+    _exit(0);
+}
+
+/* --- who runs, and what may happen --- */
+
+struct context *run_current(int processor) {
+    const struct processor *p = &state.processor[processor];
+    return p->due >= 0 ? context_of_handler(p->due, processor) : p->run >= 0 ? context_of_task(p->run) : NULL;
+}
+
+long run_ticks(int processor) {
+    return ticks[processor];
+}
+
+bool run_spins(int context) {
+    return spins[context];
+}
+
+int run_processor(const struct context *who) {
+    for (int p = 1; p <= fmphost_processors; p++)
+        if (run_current(p) == who)
+            return p;
+    return 0;
+}
+
+static bool something_counts(void) {
+    for (int i = 0; i < fmphost_object_count; i++)
+        if (state.counting[i] || (fmphost_objects[i].counts && !state.stopped[i]))
+            return true;
+    return false;
+}
+
+/* Each that runs and stands before nothing goes on until it does: what it does so far nobody can see. */
+static void settle(void) {
+    for (int p = 1; p <= fmphost_processors; p++) {
+        struct context *who = run_current(p);
+        if (who == NULL || who->next != NOTHING)
+            continue;
+        if (!who->lives) {
+            who->lives = true;
+            clocks_begin(who, p);
+        } else if (!who->answered)
+            give_up("%s runs and was not answered", context_name((int)(who - contexts)));
+        context_resume(who);
+    }
+}
+
+static uint32_t may_happen(void) {
+    uint32_t may = 0;
+    for (int p = 1; p <= fmphost_processors; p++) {
+        const struct processor *now = &state.processor[p];
+        const struct context *who = run_current(p);
+        if (who != NULL && !(who->next == CALL && spins[who - contexts] && state.held[who->named] != 0))
+            may |= 1u << ((p - 1) * ACTS + GO);
+        if (now->latch && !now->locked && !now->disabled && now->due < 0)
+            may |= 1u << ((p - 1) * ACTS + IPI);
+        if (ticks_began && ticks[p] < options.ticks && !now->locked && now->due < 0 && (fmphost_master == 0 || fmphost_master == p))
+            may |= 1u << ((p - 1) * ACTS + TICK);
+    }
+    return may;
+}
+
+/* --- one turn --- */
+
+static void answered(struct context *who, int code, int64_t value) {
+    who->code = code;
+    who->value = value;
+    who->answered = true;
+    who->waits = false;
+    who->next = NOTHING;
+}
+
+static void after_event(struct context *caller, int processor, const struct answer *answer, struct turn *turn) {
+    turn->record = answers - 1;
+    for (int i = 0; i < answer->releases; i++)
+        answered(context_of_task(answer->release[i].task), answer->release[i].code, answer->release[i].value);
+    clocks_event(caller, processor, answer);
+    places_event(caller, answer);
+    footprint_changes(footprint);
+    if (!ticks_began && something_counts())
+        ticks_began = learned->timed = true;
+}
+
+static void make_call(struct context *who, int processor, struct turn *turn) {
+    const struct answer *answer = proved_event(processor, who->request);
+    int number = (int)(who - contexts);
+    footprint_call(footprint, processor, who);
+    spins[number] = answer->said == SPIN;
+    bool ends = answer->said == GONE || (answer->said == CODE && strcmp(who->request, "ret_hdr") == 0);
+    int ended = answer->said == CODE && answer->code == 0 && strncmp(who->request, "ter_tsk", 7) == 0 ? who->named : -1;
+    if (answer->said == WAIT) {
+        who->waits = true;
+        who->next = NOTHING;
+        waits_since[number] = ticks[processor];
+    } else if (answer->said == CODE && !ends)
+        answered(who, answer->code, answer->value);
+    else if (answer->said == IDLE || answer->said == HELD)
+        give_up("fmpsim says that nobody runs who made a call: %s", who->request);
+    after_event(who, processor, answer, turn);
+    if (ends)
+        context_end(who);
+    if (ended >= 0)
+        context_end(context_of_task(ended));
+}
+
+static void make_interrupt(int processor, bool tick, struct turn *turn) {
+    ticks[processor] += tick;
+    footprint_interrupt(footprint, processor, tick);
+    after_event(NULL, processor, proved_event(processor, tick ? "tick" : "ipi"), turn);
+}
+
+static void make_turn(int action) {
+    int processor = action / ACTS + 1;
+    struct turn *turn = &outcome->turn[outcome->turns];
+    struct context *who = action % ACTS == GO ? run_current(processor) : NULL;
+    *turn = (struct turn){.action = (unsigned char)action, .context = (short)(who ? who - contexts : -1), .answers_before = answers};
+    outcome->turns++;
+    footprint_begin(footprint, processor);
+    if (who == NULL) {
+        make_interrupt(processor, action % ACTS == TICK, turn);
+        return;
+    }
+    footprint_access(footprint, who);
+    turn->place = who->place;
+    if (who->next == CALL) {
+        make_call(who, processor, turn);
+        return;
+    }
+    turn->at = who->at, turn->size = who->next == ACCESS ? who->size : 0, turn->writes = who->writes, turn->atomic = who->atomic;
+    context_resume(who);
+}
+
+/* --- those that wait for ever --- */
+
+static long most_ticks(void) {
+    long most = 0;
+    for (int p = 1; p <= fmphost_processors; p++)
+        most = ticks[p] > most ? ticks[p] : most;
+    return most;
+}
+
+/* At an end nothing goes on. Before it only patience says that one waits for too long. */
+static bool is_stuck(int i, bool ended) {
+    const struct context *who = &contexts[i];
+    bool waits = who->processor == 0 && who->waits && !state.counting[who->object] && !options.may_wait[who->object];
+    bool turns = ended && who->lives && spins[i] && who->next == CALL;
+    return (waits || turns) && (ended || (options.patience >= 0 && most_ticks() - waits_since[i] > options.patience));
+}
+
+static void end_at_sleepers(bool ended) {
+    char words[2048];
+    size_t length = 0;
+    for (int i = 0; i < context_count && length < sizeof words - 300; i++)
+        if (is_stuck(i, ended))
+            length += (size_t)snprintf(words + length, sizeof words - length, "%s%s %s for ever in %s", length ? "; " : "", context_name(i),
+                                       contexts[i].waits ? "waits" : "spins", contexts[i].request);
+    if (length > 0)
+        end_run(ASLEEP, "%s", words);
+}
+
+/* Where nothing may happen any more, or a chooser ends at a place where nothing but ticks that nobody counts may. */
+static _Noreturn void end_quiet(void) {
+    if (!something_counts() || options.ticks == 0)
+        end_at_sleepers(true);
+    end_run(QUIET, " ");
+}
+
+static bool only_ticks(uint32_t may) {
+    for (int p = 0; p < fmphost_processors; p++)
+        may &= ~(1u << (p * ACTS + TICK));
+    return may == 0;
+}
+
+void run(chooser *choose) {
+    alarm((unsigned)options.seconds);
+    proved_start(options.fmpsim, options.configuration);
+    ticks_began = ticks_from_boot || something_counts();
+    learned->timed |= ticks_began;
+    outcome->turns = 0;
+    while (outcome->turns < options.turns) {
+        alarm((unsigned)options.seconds); /* for each turn anew: code that comes to nothing in that time hangs */
+        settle();
+        uint32_t may = may_happen();
+        int action = choose(may, outcome->turns);
+        if (may == 0 || (action == ENDS_HERE && only_ticks(may)))
+            end_quiet();
+        if (action < 0)
+            end_run(action == ENDS_HERE ? QUIET : action == LEAVES_OFF ? LEFT_OFF : CUT_SHORT, " ");
+        make_turn(action);
+        if (options.patience >= 0 && action % ACTS == TICK)
+            end_at_sleepers(false);
+    }
+    end_run(LIMIT, " ");
+}

@@ -1,0 +1,21 @@
+/* One run: the processors take turns, each up to the next thing that others can see, and who goes next is a choice. */
+#ifndef RUN_H
+#define RUN_H
+#include "contexts.h"
+#include "footprint.h"
+#include "options.h"
+
+/* Who chooses: is given what may happen, and says what does, or one of these. A choice is asked for at an end, too, where nothing may happen. */
+enum { ENDS_HERE = -1, LEAVES_OFF = -2, IS_CUT_SHORT = -3 };
+typedef int chooser(uint32_t enabled, long turn);
+void run(chooser *choose);
+long run_ticks(int processor);
+bool run_spins(int context);
+int run_processor(const struct context *who); /* the processor on which it runs, or 0 */
+struct context *run_current(int processor);   /* who runs there, or NULL */
+void say_words(const char *form, ...) __attribute__((format(printf, 1, 2))); /* into the outcome */
+void seal_outcome(enum ending ending);        /* all that is known of the run so far */
+extern bool instrumented;                     /* the program was compiled with -fsanitize=thread */
+extern struct footprint *footprint;           /* where that of the turn that is made is written */
+extern bool ticks_from_boot;                  /* ticks may come from the beginning, and not only from when something counts them */
+#endif

@@ -1,0 +1,76 @@
+/* What programs use beside the kernel's calls: claims, the log, a serial port, points, and the end of all. */
+#include "contexts.h"
+#include "kernel.h"
+#include "options.h"
+#include "outcome.h"
+#include "syssvc/serial.h"
+#include "t_syslog.h"
+#include <stdarg.h>
+#include <stdio.h>
+
+static const char *runner_name(void) {
+    return running != NULL ? context_name((int)(running - contexts)) : "-";
+}
+
+void fmphost_point(void) {
+    if (running == NULL)
+        return;
+    running->next = POINT;
+    running->place = (uintptr_t)__builtin_return_address(0);
+    context_stop();
+}
+
+void fmphost_claim(bool holds, const char *text, const char *file, int line) {
+    if (!holds)
+        end_run(CLAIM, "%s:%d: %s is false%s%s", file, line, text, running ? ", in " : "", running ? runner_name() : "");
+}
+
+/* What <assert.h> of C makes of an assertion: the program's own header may be that. */
+__attribute__((visibility("default"))) _Noreturn void __assert_fail(const char *text, const char *file, unsigned line, const char *function);
+void __assert_fail(const char *text, const char *file, unsigned line, const char *function) {
+    (void)function;
+    fmphost_claim(false, text, file, (int)line);
+    __builtin_unreachable();
+}
+
+ER ext_ker(void) {
+    end_run(QUIET, "ext_ker");
+}
+
+void fmphost_log(uint_t priority, const char *form, ...) {
+    (void)priority;
+    if (!options.logs)
+        return;
+    va_list values;
+    va_start(values, form);
+    fprintf(stderr, "[%ld %s] ", answers - 1, runner_name());
+    vfprintf(stderr, form, values);
+    fputc('\n', stderr);
+    va_end(values);
+}
+
+/* --- the serial port --- */
+
+static size_t read_so_far;
+
+ER serial_opn_por(ID portid) { (void)portid; return E_OK; }
+ER serial_cls_por(ID portid) { (void)portid; return E_OK; }
+ER serial_ctl_por(ID portid, uint_t ioctl) { (void)portid, (void)ioctl; return E_OK; }
+
+ER_UINT serial_rea_dat(ID portid, char *buf, uint_t len) {
+    (void)portid;
+    for (uint_t i = 0; i < len; i++) {
+        ER ercd = options.serial[read_so_far] != '\0' ? dly_tsk(0) : slp_tsk(); /* a port from which nothing more comes */
+        if (ercd != E_OK)
+            return i > 0 ? (ER_UINT)i : ercd;
+        buf[i] = options.serial[read_so_far++];
+    }
+    return (ER_UINT)len;
+}
+
+ER_UINT serial_wri_dat(ID portid, const char *buf, uint_t len) {
+    (void)portid;
+    if (options.logs)
+        fwrite(buf, 1, len, stderr);
+    return (ER_UINT)len;
+}

@@ -1,0 +1,156 @@
+"""Programs whose findings are known: by the rules, and by the lines of C that stand in them."""
+import re
+import subprocess
+from pathlib import Path
+
+PROGRAMS = Path(__file__).resolve().parent.parent / "programs"
+
+
+def line_of(name, text, nth=1):
+    """`count.c:24`: where this stands in the program, for the nth time."""
+    for path in sorted((PROGRAMS / name).glob("*.c")):
+        found = [number for number, line in enumerate(path.read_text().splitlines(), 1) if text in line]
+        if len(found) >= nth:
+            return "%s:%d" % (path.name, found[nth - 1])
+    raise ValueError("%s is not in %s" % (text, name))
+
+
+# Program, words, status, and what has to stand in what is told: `nothing found`, a claim, who waits, or a race with its variable and both places.
+def rows():
+    total, busy = line_of("count", "total++"), "suspend.c"
+    beats = [line_of("handler", "beats++", 1), line_of("handler", "beats++", 2)]
+    deadlock = "PHIL1 waits for ever in wai_sem(2); PHIL2 waits for ever in wai_sem(1)"
+    yield "count", ["--seeds", "1..20"], 5, ["race on total, 4 bytes", "count_task " + total]
+    yield "count", ["--every-order"], 5, ["race on total, 4 bytes", "count_task " + total]
+    yield "count", ["--every-order", "--races", "none"], 5, ["total == 4 is false, in JUDGE"]
+    yield "count", ["--seeds", "1..50", "--races", "none"], 5, ["total == 4 is false, in JUDGE"]
+    yield "count:LOCKED", ["--every-order"], 0, ["nothing found"]
+    yield "count:SEMAPHORE", ["--every-order"], 0, ["nothing found"]
+    yield "count:LOCKED", ["--seeds", "1..30"], 0, ["nothing found"]
+    yield "count:VOLATILE", ["--every-order"], 5, ["total == 4 is false, in JUDGE"]
+    yield "count:VOLATILE", ["--every-order", "--volatile"], 5, ["race on total, 4 bytes"]
+    yield "handler", ["--seeds", "1..20"], 5, ["race on beats, 4 bytes", "clock_handler " + beats[0], "main_task " + beats[1]]
+    yield "handler:LOCKED", ["--every-order", "--ticks", "2"], 0, ["nothing found"]
+    yield "handler", ["--seeds", "1..20", "--races", "between"], 0, ["nothing found"]
+    yield "suspend:one", ["--every-order", "--ticks", "1"], 0, ["nothing found"]
+    yield "suspend:two", ["--seeds", "1..200"], 5, ["race on pair", "CTRL on P1", "COPY on P2", "ctrl_task " + busy, "copy_task " + busy]
+    yield "suspend:two", ["--every-order", "--ticks", "1", "--races", "none"], 5, ["first == second is false, in COPY"]
+    yield "stale_wakeup", ["--every-order", "--ticks", "2"], 5, ["race on a variable on CLIENT's stack", "SERVER on P2", "CLIENT on P1"]
+    yield "stale_wakeup", ["--every-order", "--ticks", "2", "--races", "none"], 5, ["answer == 2 * i is false, in CLIENT"]
+    yield "one_message_behind", ["--every-order"], 5, ["DISPLAY waits for ever in slp_tsk()"]
+    yield "one_message_behind", ["--seeds", "1..100"], 5, ["DISPLAY waits for ever in slp_tsk()"]
+    yield "one_message_behind", ["--every-order", "--may-wait", "DISPLAY"], 0, ["nothing found"]
+    yield "ring", ["--seeds", "1..20", "--ticks", "4"], 5, ["race on count, 4 bytes", "UART on P1", "READER on P1"]
+    yield "ring", ["--seeds", "1..60", "--ticks", "4", "--races", "none"], 0, ["nothing found"]
+    yield "philosophers:two", ["--every-order"], 5, [deadlock]
+    yield "philosophers:two", ["--all-orders"], 5, [deadlock]
+    yield "philosophers:three", ["--places"], 5, ["PHIL1 waits for ever in wai_sem(2); PHIL2 waits for ever in wai_sem(3); PHIL3 waits for ever in wai_sem(1)"]
+    yield "philosophers:five", ["--every-order"], 5, ["PHIL5 waits for ever in wai_sem(1)"]
+    yield "philosophers:two+POLITE", ["--every-order"], 0, ["nothing found"]
+    yield "philosophers:three+POLITE", ["--places"], 0, ["nothing found"]
+    yield "philosophers:two", ["--preemptions", "0"], 0, ["nothing found"]
+    yield "philosophers:two", ["--preemptions", "1"], 5, [deadlock]
+    yield "producer", ["--every-order"], 0, ["nothing found"]
+    yield "queue", ["--all-orders"], 0, ["nothing found"]
+    yield "queue", ["--places"], 0, ["nothing found"]
+    yield "signatures", ["--every-order", "--ticks", "1"], 0, ["nothing found"]
+    yield "endless:DEADLOCK", ["--places"], 5, ["COMM waits for ever, whatever the order is from here on"]
+    yield "endless", ["--places"], 0, ["nothing found"]
+    yield "endless", ["--seeds", "1..5"], 0, ["5 cut at 2000 turns: nothing found"]
+    yield "endless", ["--every-order", "--turns", "40", "--runs", "10"], 6, ["nothing found, but not all was looked at"]
+    yield "sample1", ["--seeds", "1..20", "--serial", "cas3sQ", "--ticks", "12"], 5, ["race on message", "MAIN_TASK on P1 writes it: main_task sample1.c"]
+    yield "sample1", ["--seeds", "1..20", "--serial", "caAGwWQ", "--ticks", "12", "--races", "between"], 0, ["nothing found"]
+    yield "signatures", ["--seeds", "1..40", "--stalls", "30", "--late", "20"], 0, ["nothing found"]
+    yield "one_message_behind", ["--seeds", "1..300", "--stalls", "50", "--late", "10"], 5, ["DISPLAY waits for ever in slp_tsk()"]
+
+
+# clang calls no hook for a field of a function's own structure, though its address is given away.
+GCC_ALONE = ["race on a variable on CLIENT's stack"]
+
+
+def findings(test):
+    for cc in test.compilers:
+        for program, words, status, wanted in rows():
+            if cc == "clang" and wanted[0] in GCC_ALONE:
+                continue
+            ended, told = test.run(cc, program, *words)
+            well = ended == status and all(text in told for text in wanted) and ("race on" in told) == ("race on" in wanted[0])
+            test.check(well, "%s: %s %s: status %s in place of %d" % (cc, program, " ".join(words), ended, status), told)
+
+
+def all_calls(test):
+    """Each of the calls that fmpsim lists is made in some run of calls77, and of each that has an argument some are refused."""
+    listed = subprocess.run([test.fmpsim, "list"], capture_output=True, text=True).stdout
+    calls = dict(re.findall(r"^(\w+)\((.*)\)$", listed, re.M))
+    made, refused = set(), set()
+    cc = test.compilers[0] if test.compilers else None
+    trace = test.out / "calls77.trace"
+    for mix in range(24 if cc else 0):
+        for seed in range(1, 4):
+            test.run(cc, "calls77", "--seeds", seed, "--races", "none", "--ticks", "12", "--trace", trace, env={"MIX": str(mix)})
+            text = trace.read_text()
+            made |= set(re.findall(r"^\d+ P\d \S+ (\w+)", text, re.M))
+            refused |= set(re.findall(r"^\d+ P\d \S+ (\w+)\([^)]*\) E_(?:ID|PAR|CTX|OBJ|NOEXS|ILUSE)", text, re.M))
+    if cc:
+        test.check(len(calls) == 77 and made == {*calls, "ret_hdr", "tick", "ipi"}, "calls77 makes all calls", "not made: %s" % sorted({*calls} - made))
+        # those that no context and no argument refuses
+        never = {name for name, arguments in calls.items() if not arguments}
+        test.check(not {*calls} - never - refused, "calls77 has each call refused", "never refused: %s" % sorted({*calls} - never - refused))
+
+
+JUDGED = {
+    "sample1": (60, ["--serial", "cas3sbwlumQ"]), "producer": (100, []), "count:LOCKED": (100, []), "count:SEMAPHORE": (100, []), "suspend:one": (100, []),
+    "suspend:two": (100, []), "stale_wakeup": (100, []), "ring": (100, []), "handler:LOCKED": (40, []), "philosophers:three": (100, []),
+    "one_message_behind": (60, []), "calls77": (60, []),
+}
+
+
+def judged(test):
+    """fmpsim check says yes to the trace of each run: in full more than a thousand. And one that says no is told."""
+    runs = 0
+    for cc in test.compilers:
+        for program, (most, words) in JUDGED.items():
+            seeds = most if test.full else 4
+            ended, told = test.run(cc, program, "--seeds", "1..%d" % seeds, "--races", "none", "--all", "--check", "--ticks", "12", *words)
+            test.check(ended in (0, 5) and "%d seeds" % seeds in told, "%s: fmpsim check on %s" % (cc, program), told)
+            runs += seeds
+    print("judged: the traces of %d runs" % runs)
+    liar = test.out / "liar"
+    liar.write_text("#!/bin/sh\n[ \"$1\" != check ] || { echo no; exit 1; }\nexec '%s' \"$@\"\n" % test.fmpsim)
+    liar.chmod(0o755)
+    for cc in test.compilers[:1]:
+        ended, told = test.run(cc, "queue", "--seeds", "1", "--check", fmpsim=str(liar))
+        test.check(ended == 3 and "fmpsim check says no of" in told, "a trace that is refused is told", told)
+
+
+def files(test, cc, program, words, names):
+    """What these words write: trace, order and page."""
+    paths = [test.out / name for name in names]
+    for path in paths:
+        path.unlink(missing_ok=True)
+    ended, told = test.run(cc, program, *words, *[word for pair in zip(("--trace", "--order", "--view"), paths) for word in pair])
+    return ended, told, [path.read_bytes() if path.exists() else None for path in paths]
+
+
+def summary_less(told):
+    return [line for line in told.splitlines() if " turns, " not in line]
+
+
+def again(test):
+    """The same seed writes the same bytes again, alone or beside others; an order is played again, and its picture is fmpsim view's."""
+    for cc in test.compilers:
+        for program, words in (("suspend:two", ["--seeds", "1..200"]), ("stale_wakeup", ["--seeds", "1..200", "--races", "none"]), ("queue", ["--seeds", "7"]),
+                               ("one_message_behind", ["--every-order"]), ("count", ["--every-order", "--races", "none"]), ("philosophers:three", ["--places"]),
+                               ("suspend:two", ["--every-order", "--ticks", "1", "--races", "none"]), ("endless:DEADLOCK", ["--places"])):
+            name = "%s: %s %s" % (cc, program, " ".join(words))
+            ended, told, one = files(test, cc, program, words, ["one.trace", "one.order", "one.html"])
+            beside = ["--jobs", "3"] if words[0] == "--seeds" else []
+            other = files(test, cc, program, words + beside, ["other.trace", "other.order", "other.html"])
+            test.check(None not in one and other[2] == one and ended == other[0] and summary_less(told) == summary_less(other[1]), name + " twice", told + other[1])
+            races = ["--races", "none"] if "none" in words else []
+            ended_again, told_again, replayed = files(test, cc, program, ["--replay", test.out / "one.order", *races], ["other.trace", "other.order", "other.html"])
+            whole = "whatever the order" not in told and "cut at" not in told
+            test.check(replayed == one and (not whole or ended_again == ended), name + " replayed", told_again)
+            configuration = PROGRAMS / program.split(":")[0] / ("machine.cfg" if not re.search(":[a-z]", program) else re.search(":([a-z]+)", program)[1] + ".cfg")
+            page = subprocess.run([test.fmpsim, "view", str(configuration), str(test.out / "one.trace")], capture_output=True).stdout
+            test.check(page == one[2] and page.startswith(b"<!"), name + " viewed")

@@ -1,0 +1,88 @@
+"""Small programs whose steps are letters (programs/steps): the same ends by every order as by all, and no race within one lock."""
+import random
+import re
+
+TASK = "swplutckdexyxyxyABWSZzDnrRmMUVTLfgGabqCP"
+HANDLER = "xyIJKOQ"
+WITHIN_A_LOCK, LOCKED_HANDLER = "XXXXXswpdevABWSZzDRmMUVTLfgGabqCP", "EEIJK"
+# Kinds of machines: two processors, one timer for both, three processors, and tasks that wait in one queue.
+WAYS = ["", ":global", ":three", ":queue"]
+# Programs that a fault in what a turn touches was found by, or is thought to be: machine, steps, ticks.
+DIRECTED = [
+    (":global", "Zx||y|x|y", 2), (":global", "ay||Zx||x", 2), (":global", "Dxy||Zy||", 2), (":three", "Bx|y|AxR|y|", 1), (":three", "Wx|x|Sy|y|", 0), (":three", "mxy|y|Mx|xy|", 1),
+    (":queue", "ssx||wx|wy|", 0), (":queue", "wxL||wy|sw|x", 0), (":queue", "Csy||wx|wy|", 0), (":queue", "nnx||rx|ry|", 0), (":queue", "fy||gx|gy|", 0), ("", "dAxe|y|Bx|xy|", 0),
+    ("", "cAxk|y|x|y|", 1), ("", "ax||qy||x", 2), ("", "UxV||xy|y|", 0), ("", "Txy|x|Ay|x|", 1), ("", "luxy||tuy||OQ", 1), ("", "zx||sy||I", 2), ("", "Zx||Ly||K", 2),
+]
+
+
+def steps(chance, letters, most):
+    return "".join(chance.choice(letters) for _ in range(chance.randint(0, most)))
+
+
+def ends(test, cc, way, text, words):
+    """How many orders, how many ends and their sum; whether that is all; and what was told."""
+    _, told = test.run(cc, "steps" + way, "--races", "none", "--ends", "--turns", "300", *words, env={"OPS": text}, seconds=300)
+    last = told.strip().splitlines()[-1] if told.strip() else ""
+    found = re.search(r"(\d+) (?:order|step)s?, .*?(\d+) ends ([0-9a-f]+)", last)
+    if not found:
+        return None, False, told
+    return (int(found.group(2)), found.group(3)), "not all" not in last and "cut at" not in last, told
+
+
+def same_ends(test, cc, way, text, ticks, mode, most):
+    """None where there are too many orders to be gone through."""
+    mine, whole, told = ends(test, cc, way, text, [mode, "--ticks", ticks, "--runs", "400" if mode == "--every-order" else "4000"])
+    if mine is None:
+        return False, told
+    if not whole:
+        return None, ""
+    all_of_them, whole, told_all = ends(test, cc, way, text, ["--all-orders", "--ticks", ticks, "--runs", most])
+    if all_of_them is not None and not whole:
+        return None, ""
+    return mine == all_of_them, told + told_all
+
+
+def against_all(test, cc, seed, programs, mode, most):
+    chance, compared, skipped = random.Random(seed), 0, 0
+    while compared < programs and skipped < 4 * programs:
+        few = "".join(chance.sample(TASK, 6)) + "xy"  # few kinds of steps in one program meet more often
+        text = "|".join([steps(chance, few, 4), steps(chance, few, 3), steps(chance, few, 4), steps(chance, few, 2), steps(chance, HANDLER, 2)])
+        way, ticks = chance.choice(WAYS), chance.choice("0012")
+        well, told = same_ends(test, cc, way, text, ticks, mode, most)
+        if well is None:
+            skipped += 1
+            continue
+        compared += 1
+        test.check(well, "%s: steps%s, OPS='%s' --ticks %s: %s has the ends of --all-orders" % (cc, way, text, ticks, mode), told)
+    print("%s of %d random programs has all ends; %d were too large" % (mode, compared, skipped), flush=True)
+
+
+def directed(test, cc, most):
+    for way, text, ticks in DIRECTED:
+        well, told = same_ends(test, cc, way, text, str(ticks), "--every-order", most)
+        if well is None:
+            print("too large: steps%s, OPS='%s' --ticks %d" % (way, text, ticks), flush=True)
+        else:
+            test.check(well, "%s: steps%s, OPS='%s' --ticks %d: --every-order has the ends of --all-orders" % (cc, way, text, ticks), told)
+
+
+def no_race_within_a_lock(test, cc, seed, programs):
+    chance, runs = random.Random(seed), 0
+    for _ in range(programs):
+        text = "|".join([steps(chance, WITHIN_A_LOCK, n) for n in (5, 4, 5, 3)] + [steps(chance, LOCKED_HANDLER, 2)])
+        way = chance.choice(WAYS)
+        for words in (["--every-order", "--runs", "150" if test.full else "40", "--ticks", "1"], ["--seeds", "1..20" if test.full else "1..5", "--all", "--ticks", "3"]):
+            ended, told = test.run(cc, "steps" + way, "--turns", "300", *words, env={"OPS": text}, seconds=300)
+            test.check("race on" not in told and ended in (0, 5, 6), "%s: steps%s, OPS='%s' %s has no race" % (cc, way, text, words[0]), told)
+            runs += int(re.search(r"(\d+) (?:order|seed)s?,", told).group(1)) if ended in (0, 5, 6) else 0
+    print("no race in %d runs of %d programs within a lock" % (runs, programs), flush=True)
+
+
+def all_of_it(test):
+    for cc in test.compilers:
+        first = cc == test.compilers[0]
+        if first or test.full:
+            directed(test, cc, "3000" if test.full else "700")
+        against_all(test, cc, 41 if first else 42, 200 if test.full else 5 if first else 2, "--every-order", "3000" if test.full else "700")
+        against_all(test, cc, 7 if first else 8, 50 if test.full else 2 if first else 1, "--places", "3000" if test.full else "500")
+        no_race_within_a_lock(test, cc, 5, 75 if test.full else 4)
