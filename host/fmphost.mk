@@ -22,10 +22,11 @@ LD ?= ld
 OBJCOPY ?= objcopy
 
 fmphost_clang := $(findstring clang,$(shell $(CC) --version 2>/dev/null))
-# The hooks have TOPPERS' and C's types, which are not those that gcc knows of its sanitizers.
-fmphost_c := $(CC) -std=gnu11 -Wall -Wextra $(if $(fmphost_clang),,-Wno-builtin-declaration-mismatch) -g -I'$(FMPHOST)/include' -I'$(FMPHOST_OUT)'
+fmphost_c := $(CC) -std=gnu11 -g -MMD -MP -I'$(FMPHOST)/include' -I'$(FMPHOST_OUT)'
+# The hooks have C's types, which are not those that gcc knows of its sanitizers.
+fmphost_own := -O2 -fvisibility=hidden -Wall -Wextra $(if $(fmphost_clang),,-Wno-builtin-declaration-mismatch)
 # Each access calls a hook, each line is its own (-O0), and a call's place is that of its caller.
-fmphost_seen := -O0 -fno-optimize-sibling-calls -Wno-unused-parameter -fsanitize=thread \
+fmphost_seen := -O0 -fno-optimize-sibling-calls -fsanitize=thread \
     $(if $(fmphost_clang),-mllvm -tsan-distinguish-volatile=1 -mllvm -tsan-instrument-read-before-write=1,--param tsan-distinguish-volatile=1)
 fmphost_objects := $(patsubst %.c,$(FMPHOST_OUT)/%.o,$(notdir $(FMPHOST_SOURCES)))
 fmphost_parts := $(patsubst $(FMPHOST)/src/%.c,$(fmphost_room)/%.o,$(wildcard $(FMPHOST)/src/*.c))
@@ -58,6 +59,7 @@ $(FMPHOST_LIBRARY): $(fmphost_parts)
 	$(LD) -r -o $(fmphost_room)/all.o $^
 	$(OBJCOPY) --localize-hidden --rename-section .text=fmphost_text,alloc,load,readonly,code,contents $(fmphost_real) $(fmphost_room)/all.o
 	rm -f $@ && $(AR) rc $@ $(fmphost_room)/all.o
-$(fmphost_parts): $(fmphost_room)/%.o: $(FMPHOST)/src/%.c $(wildcard $(FMPHOST)/src/*.h $(FMPHOST)/include/*.h)
+$(fmphost_parts): $(fmphost_room)/%.o: $(FMPHOST)/src/%.c
 	@mkdir -p $(fmphost_room)
-	$(fmphost_c) $(FMPHOST_SANITIZERS) -O2 -fvisibility=hidden -c -o $@ $<
+	$(fmphost_c) $(FMPHOST_SANITIZERS) $(fmphost_own) -c -o $@ $<
+-include $(wildcard $(FMPHOST_OUT)/*.d $(fmphost_room)/*.d)

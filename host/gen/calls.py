@@ -54,7 +54,8 @@ def body(result, name, parameters, wanted):
     if out:
         # what the call told is stored by the program's own thread of control, so it is an access like its others
         value = "(%s)told()" % out[0] if out[0] else "block_of(mpfid, (int)told())"
-        lines += ["ER ercd = %s;" % text, "if (ercd == E_OK) {", "    stores(PLACE, %s, sizeof *%s);" % (out[1], out[1]), "    *%s = %s;" % (out[1], value), "}", "return ercd;"]
+        stores = ["    stores(PLACE, %s, sizeof *%s);" % (out[1], out[1]), "    *%s = %s;" % (out[1], value)]
+        lines += ["ER ercd = %s;" % text, "if (ercd == E_OK) {", *stores, "}", "return ercd;"]
     elif result == "ER_UINT":
         lines += ["ER ercd = %s;" % text, "return ercd == E_OK ? (ER_UINT)told() : ercd;"]
     elif result == "bool_t":

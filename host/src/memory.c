@@ -115,8 +115,8 @@ static unsigned char bytes_in(uintptr_t number, uintptr_t at, unsigned size) {
 }
 
 static _Noreturn void end_at_race(const struct seen *seen, const struct seen *now, uintptr_t at, unsigned size) {
-    outcome->race[0] = (struct access){at, seen->place, size, seen->context, seen->writes, seen->atomic, seen->processor};
-    outcome->race[1] = (struct access){at, now->place, size, now->context, now->writes, now->atomic, now->processor};
+    outcome->race[0] = (struct access){at, seen->place, size, seen->context, seen->writes, seen->processor};
+    outcome->race[1] = (struct access){at, now->place, size, now->context, now->writes, now->processor};
     end_run(RACE, " ");
 }
 

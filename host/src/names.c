@@ -1,6 +1,7 @@
 #define _GNU_SOURCE
 #include "names.h"
 #include "contexts.h"
+#include "process.h"
 #include <link.h>
 #include <stdio.h>
 #include <stdlib.h>
@@ -21,13 +22,16 @@ static uintptr_t load_address(void) {
     return base;
 }
 
-static FILE *ask_tool(const char *form, uintptr_t address) {
+/* What a tool says of the program's own file: its words before and behind that. */
+static FILE *ask_tool(const char *words, const char *behind) {
     char path[4096], command[9000];
     ssize_t length = readlink("/proc/self/exe", path, sizeof path - 1);
     if (length < 0)
         return NULL;
     path[length] = '\0';
-    snprintf(command, sizeof command, form, path, (unsigned long)address);
+    snprintf(command, sizeof command, "%s", words);
+    add_quoted(command, sizeof command, path);
+    strcat(command, behind);
     return popen(command, "r");
 }
 
@@ -35,7 +39,9 @@ static FILE *ask_tool(const char *form, uintptr_t address) {
 static void ask_place(uintptr_t code, char *name, size_t room) {
     char function[512] = "?", place[400] = "?";
     uintptr_t address = code - load_address() - 1; /* of the call, not of what comes after it */
-    FILE *tool = ask_tool("addr2line -s -f -e '%s' 0x%lx 2>/dev/null", address);
+    char behind[64];
+    snprintf(behind, sizeof behind, " 0x%lx 2>/dev/null", (unsigned long)address);
+    FILE *tool = ask_tool("addr2line -s -f -e", behind);
     if (tool != NULL) {
         if (fgets(function, sizeof function, tool) && fgets(place, sizeof place, tool)) {
             function[strcspn(function, "\n")] = '\0';
@@ -75,7 +81,7 @@ static bool in_block(uintptr_t address, char *name, size_t room) {
 }
 
 static void ask_symbol(uintptr_t address, char *name, size_t room) {
-    FILE *tool = ask_tool("nm -nS --defined-only '%s' 2>/dev/null", 0);
+    FILE *tool = ask_tool("nm -nS --defined-only", " 2>/dev/null");
     char line[700], symbol[512];
     unsigned long at, size, wanted = address - load_address();
     char type;

@@ -37,7 +37,7 @@ static const char usage[] =
     "  --order FILE        its order, turn by turn\n"
     "  --view FILE         its picture: the page that fmpsim view makes of the trace\n"
     "  --log               what the program logs, on standard error\n"
-    "  --ends              how many ends there were that differ\n"
+    "  --ends              how many ends there were that differ, after all findings\n"
     "  --check             fmpsim check judges the trace of each run\n"
     "With what:\n"
     "  --serial TEXT       what the serial port reads\n"
@@ -175,6 +175,7 @@ static bool read_value(const char *word, const char *value) {
 
 /* Words that say nothing together are refused, and none is passed over. */
 static void look_together(void) {
+    options.goes_on |= options.tells_ends; /* or not all ends would be counted */
     if (options.ticks_any && options.mode != BY_PLACES)
         misused("--ticks any", "goes with --places alone");
     if ((options.jobs > 1 || options.stalls || options.late) && options.mode != BY_SEEDS)

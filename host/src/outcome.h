@@ -17,13 +17,13 @@ struct turn {
     long record;          /* the line of the trace that it made, from 1, or 0 */
     uintptr_t at, place;  /* the address that it touched, and the code that did */
     unsigned size;
-    bool writes, atomic;
+    bool writes;
 };
 struct access {
     uintptr_t at, place;
     unsigned size;
     short context;
-    bool writes, atomic;
+    bool writes;
     int processor;
 };
 struct outcome {

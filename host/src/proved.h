@@ -47,7 +47,6 @@ void proved_stop(void);
 const struct answer *proved_event(int processor, const char *event);
 int object_of(int kind, int number);
 int object_named(const char *name, uint64_t length);
-const char *code_name(int code);
 
 /* What the last run was told, so that a run that begins alike asks again for nothing before it parts from it. */
 enum { ANSWER_ROOM = 64 << 20 };

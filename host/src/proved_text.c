@@ -12,13 +12,6 @@ static const struct { const char *name; int code; } codes[] = {
 static const struct { const char *word; enum said said; } words[] = {
     {"wait", WAIT}, {"spin", SPIN}, {"gone", GONE}, {"idle", IDLE}, {"held", HELD}, {"taken", TAKEN}, {"none", NONE}};
 
-const char *code_name(int code) {
-    for (size_t i = 0; i < sizeof codes / sizeof *codes; i++)
-        if (codes[i].code == code)
-            return codes[i].name;
-    return "?";
-}
-
 int object_of(int kind, int number) {
     for (int i = 0; i < fmphost_object_count; i++)
         if (fmphost_objects[i].kind == kind && fmphost_objects[i].number == number)

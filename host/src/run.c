@@ -176,7 +176,10 @@ static void make_call(struct context *who, int processor, struct turn *turn) {
 static void make_interrupt(int processor, bool tick, struct turn *turn) {
     ticks[processor] += tick;
     footprint_interrupt(footprint, processor, tick);
-    after_event(NULL, processor, proved_event(processor, tick ? "tick" : "ipi"), turn);
+    const struct answer *answer = proved_event(processor, tick ? "tick" : "ipi");
+    if (answer->said != TAKEN)
+        give_up("fmpsim does not take what was thought to be possible: P%d %s", processor, tick ? "tick" : "ipi");
+    after_event(NULL, processor, answer, turn);
 }
 
 static void make_turn(int action) {
@@ -196,7 +199,7 @@ static void make_turn(int action) {
         make_call(who, processor, turn);
         return;
     }
-    turn->at = who->at, turn->size = who->next == ACCESS ? who->size : 0, turn->writes = who->writes, turn->atomic = who->atomic;
+    turn->at = who->at, turn->size = who->next == ACCESS ? who->size : 0, turn->writes = who->writes;
     context_resume(who);
 }
 

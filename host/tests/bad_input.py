@@ -9,8 +9,10 @@ HOST = Path(__file__).resolve().parent.parent
 
 # Words, status, and what is told.
 WORDS = [
-    (["--seeds", "9..1"], 2, "--seeds: the first seed is above the last"), (["--seeds"], 2, "--seeds: wanted a value"), (["--seeds", "1..x"], 2, "--seeds: wanted A..B"),
-    (["--nothing"], 2, "--nothing: no such word"), (["--ticks", "-1"], 2, "--ticks: wanted a number from 0"), (["--ticks", "any"], 2, "goes with --places alone"),
+    (["--seeds", "9..1"], 2, "--seeds: the first seed is above the last"), (["--seeds"], 2, "--seeds: wanted a value"),
+    (["--seeds", "1..x"], 2, "--seeds: wanted A..B"), (["--seeds", "99999999999999999999"], 2, "--seeds: wanted A..B"),
+    (["--nothing"], 2, "--nothing: no such word"), (["--ticks", "-1"], 2, "--ticks: wanted a number from 0"),
+    (["--ticks", "any"], 2, "goes with --places alone"),
     (["--turns", "0"], 2, "--turns: wanted a number from 1"), (["--every-order", "--places"], 2, "--places: says another way"), (["--races", "some"], 2, "--races: wanted none"),
     (["--may-wait", "NOBODY"], 2, "--may-wait: no task has that name"), (["--jobs", "2", "--every-order"], 2, "--jobs: goes with --seeds alone"),
     (["--replay", "/nowhere/it"], 3, "/nowhere/it: No such file"), (["--trace", "/nowhere/it"], 3, "/nowhere/it: No such file"),
@@ -18,10 +20,11 @@ WORDS = [
 ]
 # What the program `bad` does by HOW: status, and what is told. Where it is found, its seed is, too.
 HOW = {
-    "null": (5, "Segmentation fault in BAD, at address 0x0: bad_task bad.c:"), "divide": (5, "Floating point exception in BAD"), "deep": (5, "stack overflow in BAD: deep bad.c:"),
-    "loop": (5, "BAD comes to no service call for 1 s: bad_task bad.c:"), "exit": (5, "the program called exit(0)"), "abort": (5, "Aborted in BAD"),
-    "out": (5, "Segmentation fault in BAD, at address 0x0: bad_task bad.c:"), "jump": (5, "BAD has jumped to the stack of OTHER"), "claim": (5, "n == 2 is false, in BAD"),
-    "handler aborts": (5, "Aborted in CLOCK"), "handler waits": (0, "nothing found"), "handler ends": (0, "nothing found"), "poll": (0, "3 cut at 2000 turns: nothing found"),
+    "null": (5, "Segmentation fault in BAD, at address 0x0: bad_task bad.c:"), "divide": (5, "Floating point exception in BAD"),
+    "deep": (5, "stack overflow in BAD: deep bad.c:"), "loop": (5, "BAD comes to no service call for 1 s: bad_task bad.c:"),
+    "exit": (5, "the program called exit(0)"), "abort": (5, "Aborted in BAD"), "out": (5, "Segmentation fault in BAD, at address 0x0: bad_task bad.c:"),
+    "jump": (5, "BAD has jumped to the stack of OTHER"), "claim": (5, "n == 2 is false, in BAD"), "handler aborts": (5, "Aborted in CLOCK"),
+    "handler waits": (0, "nothing found"), "handler ends": (0, "nothing found"), "poll": (0, "3 cut at 2000 turns: nothing found"),
     "time": (3, "does not do the same again"),
 }
 
@@ -54,9 +57,12 @@ def replays_at_fault(test):
     lines = order.read_text().splitlines(keepends=True)
     swapped = [lines[0], *reversed(lines[1:])]
     cases = [
-        ("".join(lines[:4]), "one_message_behind", 6, "ends here, and more may happen"), ("".join(lines)[:-9], "one_message_behind", 3, "this line is cut short"),
-        (lines[0] + "P1 ipi  -\n", "one_message_behind", 3, "this cannot happen here: P1 ipi"), (lines[0] + "P7 go\n", "one_message_behind", 3, "no such processor"),
-        (lines[0] + "what is this\n", "one_message_behind", 3, "this is no line of an order or of a trace"), ("".join(lines[:2]), "queue", 3, "is the file of another program?"),
+        ("".join(lines[:4]), "one_message_behind", 6, "ends here, and more may happen"),
+        ("".join(lines)[:-9], "one_message_behind", 3, "this line is cut short"),
+        (lines[0] + "P1 ipi  -\n", "one_message_behind", 3, "this cannot happen here: P1 ipi"),
+        (lines[0] + "P7 go\n", "one_message_behind", 3, "no such processor"),
+        (lines[0] + "what is this\n", "one_message_behind", 3, "this is no line of an order or of a trace"),
+        ("".join(lines[:2]), "queue", 3, "is the file of another program?"),
         (trace.read_text().splitlines()[0] + "\n", "queue", 3, "is the file of another program?"), ("".join(swapped), "one_message_behind", 3, ""),
         ("".join(trace.read_text().splitlines(keepends=True)[:4]), "one_message_behind", 6, "ends here, and more may happen"),
         (trace.read_text(), "one_message_behind", 5, "DISPLAY waits for ever"),
@@ -78,7 +84,8 @@ def fmpsim_at_fault(test):
     cc = test.compilers[0]
     cases = [
         ("/nowhere/fmpsim", "/nowhere/fmpsim is not found"),
-        (stand_in(test, "old", '[ "$1" != --version ] || { echo fmpsim 0.0.9; exit; }\nexec "$real" "$@"'), "this is fmpsim 0.0.9, and kernel_cfg.c was made with fmpsim"),
+        (stand_in(test, "old", '[ "$1" != --version ] || { echo fmpsim 0.0.9; exit; }\nexec "$real" "$@"'),
+         "this is fmpsim 0.0.9, and kernel_cfg.c was made with fmpsim"),
         (stand_in(test, "ends", '[ "$1" = calls ] || exec "$real" "$@"\nsed -u 2q | "$real" "$@"'), "fmpsim has ended before the run"),
         (stand_in(test, "silent", '[ "$1" = calls ] || exec "$real" "$@"\nexec sleep 3'), "fmpsim does not answer for 1 s"),
         (stand_in(test, "strange", '[ "$1" = calls ] || exec "$real" "$@"\n"$real" "$@" | sed -u s/E_OK/E_NEW/'), "fmpsim says what this program does not know"),
@@ -97,7 +104,9 @@ def fmpsim_at_fault(test):
 def generator_at_fault(test):
     tool, text = HOST / "gen/fmphost-cfg", test.out / "wrong.cfg"
     text.write_text("PROCESSORS(2);\nCRE_TSK(A, {TA_ACT});\n")
-    for words, status, wanted in (([text, "-o", test.out], 1, "line 2: F4"), (["/nowhere/x.cfg"], 3, "x.cfg"), ([text, "--fmpsim", "/nowhere/it"], 3, "/nowhere/it: No such file"), ([], 2, "usage")):
+    cases = [([text, "-o", test.out], 1, "line 2: F4"), (["/nowhere/x.cfg"], 3, "x.cfg"), ([], 2, "usage"),
+             ([text, "--fmpsim", "/nowhere/it"], 3, "/nowhere/it: No such file"), ([HOST / "programs/queue/machine.cfg", "-o", "/nowhere"], 3, "/nowhere")]
+    for words, status, wanted in cases:
         told = subprocess.run([sys.executable, str(tool), "--fmpsim", test.fmpsim, *map(str, words)], capture_output=True, text=True)
         test.check(told.returncode == status and wanted in told.stderr, "fmphost-cfg %s: status %d" % (" ".join(map(str, words)), told.returncode), told.stderr)
 
@@ -111,7 +120,9 @@ def a_project(test):
         shutil.copy(path, folder)
     (folder / "Makefile").write_text("FMPHOST_CFG = machine.cfg\ninclude %s/fmphost.mk\n" % HOST)
     told = subprocess.run(["make", "-s", "-C", str(folder), "CC=" + test.compilers[0], "FMPSIM=" + test.fmpsim], capture_output=True, text=True)
-    run = subprocess.run([str(folder / "fmphost-out/run"), "--every-order"], capture_output=True, text=True, env=dict(os.environ, FMPSIM=test.fmpsim)) if told.returncode == 0 else told
+    run = told
+    if told.returncode == 0:
+        run = subprocess.run([str(folder / "fmphost-out/run"), "--every-order"], capture_output=True, text=True, env=dict(os.environ, FMPSIM=test.fmpsim))
     test.check(run.returncode == 0 and "nothing found" in run.stderr, "a project's Makefile", told.stderr + run.stderr)
 
 

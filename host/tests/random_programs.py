@@ -7,11 +7,15 @@ HANDLER = "xyIJKOQ"
 WITHIN_A_LOCK, LOCKED_HANDLER = "XXXXXswpdevABWSZzDRmMUVTLfgGabqCP", "EEIJK"
 # Kinds of machines: two processors, one timer for both, three processors, and tasks that wait in one queue.
 WAYS = ["", ":global", ":three", ":queue"]
-# Programs that a fault in what a turn touches was found by, or is thought to be: machine, steps, ticks.
-DIRECTED = [
-    (":global", "Zx||y|x|y", 2), (":global", "ay||Zx||x", 2), (":global", "Dxy||Zy||", 2), (":three", "Bx|y|AxR|y|", 1), (":three", "Wx|x|Sy|y|", 0), (":three", "mxy|y|Mx|xy|", 1),
-    (":queue", "ssx||wx|wy|", 0), (":queue", "wxL||wy|sw|x", 0), (":queue", "Csy||wx|wy|", 0), (":queue", "nnx||rx|ry|", 0), (":queue", "fy||gx|gy|", 0), ("", "dAxe|y|Bx|xy|", 0),
-    ("", "cAxk|y|x|y|", 1), ("", "ax||qy||x", 2), ("", "UxV||xy|y|", 0), ("", "Txy|x|Ay|x|", 1), ("", "luxy||tuy||OQ", 1), ("", "zx||sy||I", 2), ("", "Zx||Ly||K", 2),
+# Programs for what turns touch that is in no state, and for what random ones meet rarely: machine, steps, ticks. The first are few orders.
+SMALL = [
+    (":global", "Zx||y|x|y", 2), (":global", "ay||Zx||x", 2), (":global", "Dx||Zy||", 2), (":global", "Z||Zx||x", 2), (":three", "s||wx|wx|", 0),
+    (":queue", "s||wx|wx|", 0), (":queue", "sC||wx|w|", 0), (":queue", "n||rx|r|", 0), (":queue", "f||gx|gx|", 0), (":queue", "sx||w|w|", 0), ("", "cAxk|y|x|y|", 1),
+    ("", "w||zs||", 1), ("", "Cx||Zx||", 1), (":queue", "f||g|L", 0), (":queue", "s||w|L", 0),
+]
+LARGE = [
+    (":three", "Wx||Sx||", 0), (":three", "Bx||x||", 0), (":three", "m||Mx|x|", 0), (":three", "Px||x||", 0), (":queue", "w||w|ssx|", 0),
+    ("", "dA|y|xB|x|", 0), ("", "UxV||xy|y|", 0), ("", "Tx|x|Ay||", 0), ("", "luxy||tuy||OQ", 0), ("", "Zx||L||K", 2), ("", "Zx||W||", 2), ("", "z||sy||", 2),
 ]
 
 
@@ -57,12 +61,10 @@ def against_all(test, cc, seed, programs, mode, most):
     print("%s of %d random programs has all ends; %d were too large" % (mode, compared, skipped), flush=True)
 
 
-def directed(test, cc, most):
-    for way, text, ticks in DIRECTED:
-        well, told = same_ends(test, cc, way, text, str(ticks), "--every-order", most)
-        if well is None:
-            print("too large: steps%s, OPS='%s' --ticks %d" % (way, text, ticks), flush=True)
-        else:
+def directed(test):
+    for way, text, ticks in SMALL + (LARGE if test.full else []):
+        for cc in test.compilers if test.full else test.compilers[:1]:
+            well, told = same_ends(test, cc, way, text, str(ticks), "--every-order", "6000")
             test.check(well, "%s: steps%s, OPS='%s' --ticks %d: --every-order has the ends of --all-orders" % (cc, way, text, ticks), told)
 
 
@@ -71,7 +73,8 @@ def no_race_within_a_lock(test, cc, seed, programs):
     for _ in range(programs):
         text = "|".join([steps(chance, WITHIN_A_LOCK, n) for n in (5, 4, 5, 3)] + [steps(chance, LOCKED_HANDLER, 2)])
         way = chance.choice(WAYS)
-        for words in (["--every-order", "--runs", "150" if test.full else "40", "--ticks", "1"], ["--seeds", "1..20" if test.full else "1..5", "--all", "--ticks", "3"]):
+        for words in (["--every-order", "--runs", "150" if test.full else "40", "--ticks", "1"],
+                      ["--seeds", "1..20" if test.full else "1..5", "--all", "--ticks", "3"]):
             ended, told = test.run(cc, "steps" + way, "--turns", "300", *words, env={"OPS": text}, seconds=300)
             test.check("race on" not in told and ended in (0, 5, 6), "%s: steps%s, OPS='%s' %s has no race" % (cc, way, text, words[0]), told)
             runs += int(re.search(r"(\d+) (?:order|seed)s?,", told).group(1)) if ended in (0, 5, 6) else 0
@@ -81,8 +84,6 @@ def no_race_within_a_lock(test, cc, seed, programs):
 def all_of_it(test):
     for cc in test.compilers:
         first = cc == test.compilers[0]
-        if first or test.full:
-            directed(test, cc, "3000" if test.full else "700")
-        against_all(test, cc, 41 if first else 42, 200 if test.full else 5 if first else 2, "--every-order", "3000" if test.full else "700")
-        against_all(test, cc, 7 if first else 8, 50 if test.full else 2 if first else 1, "--places", "3000" if test.full else "500")
+        against_all(test, cc, 41 if first else 42, 200 if test.full else 6 if first else 2, "--every-order", "3000" if test.full else "600")
+        against_all(test, cc, 7 if first else 8, 50 if test.full else 2 if first else 1, "--places", "3000" if test.full else "600")
         no_race_within_a_lock(test, cc, 5, 75 if test.full else 4)

@@ -91,6 +91,9 @@ tools_run() {
     well=no
     "$1/fmpsim-from-trace" "$late/trace.txt" > made && "$1/fmpsim" calls "$late/machine.cfg" made | cmp - "$late/trace.txt" && well=yes
     count "$well" "# $1/fmpsim-from-trace"
+    well=no
+    "$1/fmphost-cfg" "$top/host/programs/queue/machine.cfg" -o . --fmpsim "$1/fmpsim" && grep -q '#define QUEUE 1' kernel_cfg.h && [ -s kernel_cfg.c ] && well=yes
+    count "$well" "# $1/fmphost-cfg"
     if ! command -v cpp > cpp_is_here; then
         left_out 'there is no cpp' fmpsim-from-toppers
         return
