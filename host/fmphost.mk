@@ -35,8 +35,9 @@ vpath %.c $(sort $(dir $(FMPHOST_SOURCES)))
 .PHONY: fmphost
 fmphost: $(FMPHOST_RUN)
 
+# Addresses of variables are the same in each start of the program (-no-pie), since they may be in a trace and are in an order.
 $(FMPHOST_RUN): $(fmphost_objects) $(FMPHOST_OUT)/kernel_cfg.o $(FMPHOST_LIBRARY)
-	$(CC) $(FMPHOST_SANITIZERS) -o $@ $^ -Wl,--wrap=memcpy,--wrap=memmove,--wrap=memset
+	$(CC) $(FMPHOST_SANITIZERS) -no-pie -o $@ $^ -Wl,--wrap=memcpy,--wrap=memmove,--wrap=memset
 $(fmphost_objects): $(FMPHOST_OUT)/%.o: %.c $(FMPHOST_OUT)/kernel_cfg.h
 	$(fmphost_c) $(fmphost_seen) $(FMPHOST_FLAGS) -c -o $@ $<
 $(FMPHOST_OUT)/kernel_cfg.o: $(FMPHOST_OUT)/kernel_cfg.c

@@ -202,29 +202,33 @@ static void outline(const char *text, char *into, size_t room) {
 }
 
 static const char *behind(const char *text, int words) {
-    for (; words > 0 && *text != '\0'; text++)
-        words -= *text == ' ';
+    for (; words > 0 && *text != '\0'; words--) {
+        text += strcspn(text, " ");
+        text += strspn(text, " ");
+    }
     return text;
 }
 
-static void compare_line(long number, const char *wanted, const char *was) {
+static void compare_line(const char *wanted, const char *was) {
     char one[256], other[256];
     outline(wanted, one, sizeof one);
     outline(was, other, sizeof other);
-    if (strcmp(one, other) != 0)
-        give_up("%s:%ld: here stands '%s', and the program does '%s': is the file of another program?", options.replay, number, one, other);
+    if (one[0] != '\0' && strcmp(one, other) != 0) /* a line that only says whose turn it is may be anybody's */
+        give_up("%s:%ld: here stands '%s', and the program does '%s': is the file of another program?", options.replay, line_number, one, other);
 }
 
-void replay_compare(void) {
+void replay_compare(bool found) {
     char was[2048];
     long turn = 0, record = 0;
     rewind(replayed);
     line_number = 0;
-    while (next_line() && turn < outcome->turns) {
-        if (!replays_trace) {
+    while (next_line()) {
+        bool there = replays_trace ? record_text(++record, was, sizeof was) : turn < outcome->turns;
+        if (there && !replays_trace)
             turn_text(turn++, was, sizeof was);
-            compare_line(line_number, line + 8, was);
-        } else if (record_text(++record, was, sizeof was))
-            compare_line(line_number, behind(line, 2), behind(was, 1));
+        if (there)
+            compare_line(behind(line, 2), replays_trace ? behind(was, 1) : was);
+        else if (!found)
+            give_up("%s:%ld: the program has ended before this: %s", options.replay, line_number, line);
     }
 }

@@ -12,5 +12,5 @@ chooser by_path;
 void replay_open(void);     /* the file that --replay names; what stands in its first line is asked for, too */
 chooser by_replay;
 bool replay_has_points(void);
-void replay_compare(void);  /* after the run: gives up where the file has another program's turns */
+void replay_compare(bool found); /* after the run: gives up where the file has another program's turns, or more where nothing was found */
 #endif

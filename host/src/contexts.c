@@ -39,10 +39,14 @@ static bool is_handler(int object) {
     return fmphost_objects[object].kind == FMPHOST_CYC || fmphost_objects[object].kind == FMPHOST_ALM;
 }
 
-/* Below each stack lies a page that nothing may touch, so that a stack that is too small is told and spoils nothing. */
-static unsigned char *make_stack(void) {
+/*
+ * Below each stack lies a page that nothing may touch, so that a stack that is too small is told and spoils nothing. Stacks are asked for at
+ * the same addresses each time, where nothing else is: an address of a variable on one may be in a trace.
+ */
+static unsigned char *make_stack(int number) {
     size_t page = (size_t)sysconf(_SC_PAGESIZE);
-    unsigned char *all = mmap(NULL, STACK + page, PROT_READ | PROT_WRITE, MAP_PRIVATE | MAP_ANONYMOUS | MAP_NORESERVE, -1, 0);
+    void *wanted = (void *)((uintptr_t)0x2000 << 32 | (uintptr_t)number * 2 * STACK);
+    unsigned char *all = mmap(wanted, STACK + page, PROT_READ | PROT_WRITE, MAP_PRIVATE | MAP_ANONYMOUS | MAP_NORESERVE, -1, 0);
     if (all == MAP_FAILED || mprotect(all, page, PROT_NONE) != 0)
         give_up("no memory for stacks");
     VALGRIND_STACK_REGISTER(all + page, all + page + STACK);
@@ -72,7 +76,7 @@ int owner_of_stack(uintptr_t at) {
 static void add(int object, int processor) {
     if (context_count == MOST_CONTEXTS)
         give_up("too many tasks and handlers");
-    contexts[context_count] = (struct context){.object = object, .processor = processor, .stack = make_stack()};
+    contexts[context_count] = (struct context){.object = object, .processor = processor, .stack = make_stack(context_count)};
     context_count++;
 }
 

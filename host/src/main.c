@@ -13,11 +13,11 @@
 #include <sys/personality.h>
 #include <unistd.h>
 
-/* The same addresses in each run of the program: a pointer that is sent through a data queue is in the trace. */
+/* The same addresses of malloc in each start of the program: a pointer that is sent through a data queue is in the trace. */
 static void fix_addresses(char **words) {
     int now = personality(0xffffffff);
     if (now < 0 || (now & ADDR_NO_RANDOMIZE) || personality((unsigned long)now | ADDR_NO_RANDOMIZE) < 0 || !(personality(0xffffffff) & ADDR_NO_RANDOMIZE))
-        return; /* where that is not allowed, traces with addresses differ from one start of the program to the next */
+        return; /* where that is not allowed, traces with such addresses differ from one start of the program to the next */
     execv("/proc/self/exe", words);
     give_up("the program cannot be started anew");
 }

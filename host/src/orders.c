@@ -181,7 +181,7 @@ int play_file(void) {
         learn_words();
     kept->valid = 0;
     process_run(by_replay);
-    replay_compare();
+    replay_compare(is_finding());
     count(true);
     if (is_finding())
         tell_findings("order");

@@ -12,8 +12,8 @@ WORDS = [
     (["--seeds", "9..1"], 2, "--seeds: the first seed is above the last"), (["--seeds"], 2, "--seeds: wanted a value"),
     (["--seeds", "1..x"], 2, "--seeds: wanted A..B"), (["--seeds", "99999999999999999999"], 2, "--seeds: wanted A..B"),
     (["--nothing"], 2, "--nothing: no such word"), (["--ticks", "-1"], 2, "--ticks: wanted a number from 0"),
-    (["--ticks", "any"], 2, "goes with --places alone"),
-    (["--turns", "0"], 2, "--turns: wanted a number from 1"), (["--every-order", "--places"], 2, "--places: says another way"), (["--races", "some"], 2, "--races: wanted none"),
+    (["--ticks", "any"], 2, "goes with --places alone"), (["--turns", "0"], 2, "--turns: wanted a number from 1"),
+    (["--every-order", "--places"], 2, "--places: says another way"), (["--races", "some"], 2, "--races: wanted none"),
     (["--may-wait", "NOBODY"], 2, "--may-wait: no task has that name"), (["--jobs", "2", "--every-order"], 2, "--jobs: goes with --seeds alone"),
     (["--replay", "/nowhere/it"], 3, "/nowhere/it: No such file"), (["--trace", "/nowhere/it"], 3, "/nowhere/it: No such file"),
     (["--order", "/dev/full"], 3, "/dev/full: No space left"), (["--view", "/nowhere/it"], 3, "/nowhere/it: fmpsim view failed"),
@@ -21,7 +21,7 @@ WORDS = [
 # What the program `bad` does by HOW: status, and what is told. Where it is found, its seed is, too.
 HOW = {
     "null": (5, "Segmentation fault in BAD, at address 0x0: bad_task bad.c:"), "divide": (5, "Floating point exception in BAD"),
-    "deep": (5, "stack overflow in BAD: deep bad.c:"), "loop": (5, "BAD comes to no service call for 1 s: bad_task bad.c:"),
+    "deep": (5, "stack overflow in BAD: deep bad.c:"), "loop": (5, "BAD comes to no service call for 2 s: bad_task bad.c:"),
     "exit": (5, "the program called exit(0)"), "abort": (5, "Aborted in BAD"), "out": (5, "Segmentation fault in BAD, at address 0x0: bad_task bad.c:"),
     "jump": (5, "BAD has jumped to the stack of OTHER"), "claim": (5, "n == 2 is false, in BAD"), "handler aborts": (5, "Aborted in CLOCK"),
     "handler waits": (0, "nothing found"), "handler ends": (0, "nothing found"), "poll": (0, "3 cut at 2000 turns: nothing found"),
@@ -32,7 +32,7 @@ HOW = {
 def programs_at_fault(test):
     for cc in test.compilers:
         for how, (status, wanted) in HOW.items():
-            ended, told = test.run(cc, "bad", "--seeds", "1..3", "--seconds", "1", "--ticks", "2", "--may-wait", "OTHER", env={"HOW": how})
+            ended, told = test.run(cc, "bad", "--seeds", "1..3", *(["--seconds", "2"] if how == "loop" else []), "--ticks", "2", "--may-wait", "OTHER", env={"HOW": how})
             test.check(ended == status and wanted in told and (status != 5 or "seed 1" in told), "%s: bad, HOW=%s: status %s" % (cc, how, ended), told)
         for words in (["--every-order"], ["--places"]):
             ended, told = test.run(cc, "bad", *words, "--may-wait", "OTHER", env={"HOW": "time"})
@@ -66,7 +66,10 @@ def replays_at_fault(test):
         (trace.read_text().splitlines()[0] + "\n", "queue", 3, "is the file of another program?"), ("".join(swapped), "one_message_behind", 3, ""),
         ("".join(trace.read_text().splitlines(keepends=True)[:4]), "one_message_behind", 6, "ends here, and more may happen"),
         (trace.read_text(), "one_message_behind", 5, "DISPLAY waits for ever"),
+        (lines[0] + "".join(" ".join(line.split()[:2]) + "\n" for line in lines[1:]), "one_message_behind", 5, "DISPLAY waits for ever"),
     ]
+    test.run(cc, "queue", "--seeds", 1, "--order", order)
+    cases.append((order.read_text() + "P1 go\n", "queue", 3, ":%d: the program has ended before this: P1 go" % (order.read_text().count("\n") + 1)))
     for text, program, status, wanted in cases:
         other.write_text(text)
         ended, told = test.run(cc, program, "--replay", other)
@@ -87,11 +90,11 @@ def fmpsim_at_fault(test):
         (stand_in(test, "old", '[ "$1" != --version ] || { echo fmpsim 0.0.9; exit; }\nexec "$real" "$@"'),
          "this is fmpsim 0.0.9, and kernel_cfg.c was made with fmpsim"),
         (stand_in(test, "ends", '[ "$1" = calls ] || exec "$real" "$@"\nsed -u 2q | "$real" "$@"'), "fmpsim has ended before the run"),
-        (stand_in(test, "silent", '[ "$1" = calls ] || exec "$real" "$@"\nexec sleep 3'), "fmpsim does not answer for 1 s"),
+        (stand_in(test, "silent", '[ "$1" = calls ] || exec "$real" "$@"\nexec sleep 5'), "fmpsim does not answer for 2 s"),
         (stand_in(test, "strange", '[ "$1" = calls ] || exec "$real" "$@"\n"$real" "$@" | sed -u s/E_OK/E_NEW/'), "fmpsim says what this program does not know"),
     ]
     for fmpsim, wanted in cases:
-        ended, told = test.run(cc, "one_message_behind", "--seconds", "1", fmpsim=fmpsim)
+        ended, told = test.run(cc, "one_message_behind", "--seconds", "2", fmpsim=fmpsim)
         test.check(ended == 3 and wanted in told, "fmpsim that is %s: status %s" % (Path(fmpsim).name, ended), told)
     ended, told = test.run(cc, "queue", "--config", HOST / "programs/producer/machine.cfg")
     test.check(ended == 3 and "is not what kernel_cfg.c was made of: make it anew" in told, "another configuration", told)
