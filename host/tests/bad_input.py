@@ -32,7 +32,8 @@ HOW = {
 def programs_at_fault(test):
     for cc in test.compilers:
         for how, (status, wanted) in HOW.items():
-            ended, told = test.run(cc, "bad", "--seeds", "1..3", *(["--seconds", "2"] if how == "loop" else []), "--ticks", "2", "--may-wait", "OTHER", env={"HOW": how})
+            patience = ["--seconds", "2"] if how == "loop" else []
+            ended, told = test.run(cc, "bad", "--seeds", "1..3", "--ticks", "2", "--may-wait", "OTHER", *patience, env={"HOW": how})
             test.check(ended == status and wanted in told and (status != 5 or "seed 1" in told), "%s: bad, HOW=%s: status %s" % (cc, how, ended), told)
         for words in (["--every-order"], ["--places"]):
             ended, told = test.run(cc, "bad", *words, "--may-wait", "OTHER", env={"HOW": "time"})
