@@ -1,9 +1,9 @@
 /*
  * Of two neighbouring turns that touch nothing in common it does not matter which comes first, so of all orders that differ only so one is
- * enough (Mazurkiewicz traces). Two well-known means find one of each:
- *   - backtracking (source sets of Abdulla, Aronis, Jonsson, Sagonas 2014): where two turns of a run depend on each other and could have come
- *     the other way round, the place before the first is gone back to once with the second before it;
- *   - sleep sets (Godefroid 1996): what was gone through from a place need not be done first after something it does not depend on.
+ * enough. Two well-known means find one of each:
+ *   - source sets: where two turns of a run depend on each other and could have come the other way round, the place before the first is gone
+ *     back to once with the second before it;
+ *   - sleep sets: what was gone through from a place need not be done first after something it does not depend on.
  * Turns of one processor, its interrupts and its ticks are actors of their own that exclude each other by who runs there.
  * With --all-orders nothing is left out, and with --preemptions N only orders with at most N places where a processor was left that could go on.
  */

@@ -23,7 +23,8 @@ HOW = {
     "null": (5, "Segmentation fault in BAD, at address 0x0: bad_task bad.c:"), "divide": (5, "Floating point exception in BAD"),
     "deep": (5, "stack overflow in BAD: deep bad.c:"), "loop": (5, "BAD comes to no service call for 2 s: bad_task bad.c:"),
     "exit": (5, "the program called exit(0)"), "abort": (5, "Aborted in BAD"), "out": (5, "Segmentation fault in BAD, at address 0x0: bad_task bad.c:"),
-    "jump": (5, "BAD has jumped to the stack of OTHER"), "claim": (5, "n == 2 is false, in BAD"), "handler aborts": (5, "Aborted in CLOCK"),
+    "jump": (5, "BAD has jumped to the stack of OTHER"), "claim": (5, "n == 2 is false, in BAD"), "claim of C": (5, "claims.c:6: n == 3 is false, in BAD"),
+    "handler aborts": (5, "Aborted in CLOCK"),
     "handler waits": (0, "nothing found"), "handler ends": (0, "nothing found"), "poll": (0, "3 cut at 2000 turns: nothing found"),
     "time": (3, "does not do the same again"),
 }
@@ -115,19 +116,16 @@ def generator_at_fault(test):
         test.check(told.returncode == status and wanted in told.stderr, "fmphost-cfg %s: status %d" % (" ".join(map(str, words)), told.returncode), told.stderr)
 
 
-def a_project(test):
+def project(test, name, program, line, words, wanted):
     """Two lines in a project's Makefile, in a folder whose path has a blank."""
-    folder = test.out / "a project"
+    folder = test.out / name
     shutil.rmtree(folder, ignore_errors=True)
-    folder.mkdir(parents=True)
-    for path in (HOST / "programs/queue").iterdir():
-        shutil.copy(path, folder)
-    (folder / "Makefile").write_text("FMPHOST_CFG = machine.cfg\ninclude %s/fmphost.mk\n" % HOST)
-    told = subprocess.run(["make", "-s", "-C", str(folder), "CC=" + test.compilers[0], "FMPSIM=" + test.fmpsim], capture_output=True, text=True)
-    run = told
+    shutil.copytree(HOST / "programs" / program, folder)
+    (folder / "Makefile").write_text("%s\ninclude %s/fmphost.mk\n" % (line, HOST))
+    run = told = subprocess.run(["make", "-s", "-C", str(folder), "CC=" + test.compilers[0], "FMPSIM=" + test.fmpsim], capture_output=True, text=True)
     if told.returncode == 0:
-        run = subprocess.run([str(folder / "fmphost-out/run"), "--every-order"], capture_output=True, text=True, env=dict(os.environ, FMPSIM=test.fmpsim))
-    test.check(run.returncode == 0 and "nothing found" in run.stderr, "a project's Makefile", told.stderr + run.stderr)
+        run = subprocess.run([str(folder / "fmphost-out/run"), *words], capture_output=True, text=True, env=dict(os.environ, FMPSIM=test.fmpsim))
+    test.check(run.returncode == 0 and wanted in run.stderr, "the Makefile of " + name, told.stderr + run.stderr)
 
 
 def all_of_it(test):
@@ -138,4 +136,5 @@ def all_of_it(test):
     replays_at_fault(test)
     fmpsim_at_fault(test)
     generator_at_fault(test)
-    a_project(test)
+    project(test, "a project", "queue", "FMPHOST_CFG = machine.cfg", ["--every-order"], "nothing found")
+    project(test, "a project of TOPPERS", "sample1", "FMPHOST_TOPPERS = sample1.cfg -I target", ["--seeds", "1..3", "--serial", "caQ", "--races", "none"], "3 seeds")

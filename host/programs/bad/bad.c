@@ -6,6 +6,7 @@
 #include <string.h>
 #include <time.h>
 
+extern void c_claim(int n);
 static jmp_buf kept;
 
 static long now(void)
@@ -72,6 +73,8 @@ void bad_task(intptr_t exinf)
         longjmp(kept, 1);
     if (!strcmp(how, "claim"))
         assert(n == 2);
+    if (!strcmp(how, "claim of C"))
+        c_claim(n);
 }
 
 #ifdef BEFORE
