@@ -150,7 +150,7 @@ module _ (c : Setup) (scripts : List Steps) (rs : Rules) (valid : IsValid c) whe
   on_start = ([], leads_origin c scripts rs [] valid)
 
   -- no event is refused
-  passed : (n : ℕ) (text : List ℕ) → allows [] n false text ≡ true
+  pub passed : (n : ℕ) (text : List ℕ) → allows [] n false text ≡ true
   unfolding allows
   passed n text = refl
 

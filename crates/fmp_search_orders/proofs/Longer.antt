@@ -13,7 +13,6 @@ use Rattle.fmp_codes.specs.declared.numbers.Task.{Task}
 use Rattle.fmp_codes.specs.declared.records.Answer.{Answer}
 use Rattle.fmp_codes.specs.declared.records.Event.{Event}
 use Rattle.fmp_codes.specs.declared.records.Event.TheVariants as event
-use Rattle.fmp_codes.specs.declared.records.Runner.TheVariants as runner
 use Rattle.fmp_codes.specs.declared.records.Record.{Record}
 use Rattle.fmp_text_scripts.specs.Scripts.{Steps}
 use Rattle.fmp_setup.specs.Setup.{Setup}
@@ -196,7 +195,7 @@ module _ (c : Setup) (scripts : List Steps) (rs : Rules) (question : List Step) 
       subst (λ (x : Rules). TakenAre rs (moved_taken x w.taken did.1.event did.1.answer) (h ++ did.1 ∷ [])) (sym leads.rules_are)
       (taken_moved rs w.taken h did.1 leads.taken_are leads.sized.2)
 
-  same_sight : (m : Bool) → sight_at (went w m did) did.1 ≡ last_sight c rs (h ++ did.1 ∷ []) did.1
+  pub same_sight : (m : Bool) → sight_at (went w m did) did.1 ≡ last_sight c rs (h ++ did.1 ∷ []) did.1
   same_sight m =
       let v = went w m did in
       ap (λ (x : Setup). sight listed x w.rules (count_at v) did.0 did.1) leads.config_is

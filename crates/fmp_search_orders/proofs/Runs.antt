@@ -240,11 +240,11 @@ module _ (c : Setup) (scripts : List Steps) (rs : Rules) (question : List Step) 
 -- ---- runs
 
 module _ (c : Setup) (scripts : List Steps) (rs : Rules) (question : List Step) (valid : IsValid c) where
-  abbrev Leads : Place → List Record → List Bool → Type 0
+  abbrev pub Leads : Place → List Record → List Bool → Type 0
   Leads w h marks = LeadsTo c scripts rs question w h marks
 
   -- a history of so many records, which is this one, leads to a place
-  abbrev Led : Place → List Record → ℕ → Type 0
+  abbrev pub Led : Place → List Record → ℕ → Type 0
   Led w is n = (h : List Record) × (marks : List Bool) × (length h ≡ n) × (h ≡ is) × Leads w h marks
 
   abbrev Behind : List ℕ → Place → Type 0
@@ -282,7 +282,7 @@ module _ (c : Setup) (scripts : List Steps) (rs : Rules) (question : List Step) 
           (rest.0, rest.1, grind (arith, common_steps, long), rest.3 ∙ append_assoc h (did.1 ∷ []) (records (went w mark did) steps), rest.4)
 
   -- a run over places from one to which a history leads
-  run_leads : (steps : List ℕ) (w w' : Place) (h : List Record) (marks : List Bool) → Leads w h marks → run after w steps ≡ Some w' →
+  pub run_leads : (steps : List ℕ) (w w' : Place) (h : List Record) (marks : List Bool) → Leads w h marks → run after w steps ≡ Some w' →
       Led w' (h ++ records w steps) (length h + length steps)
   unfolding after told
   run_leads [] w w' h marks leads on =

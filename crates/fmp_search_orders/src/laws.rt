@@ -1,5 +1,5 @@
 //! Laws of all orders.
-ghost use Rattle.std.specs.Prelude.{List};
+ghost use Rattle.std.specs.Prelude.{ℕ, Bool, List};
 ghost use Rattle.fmp_codes.specs.declared.records.Record.{Record};
 ghost use Rattle.fmp_search_orders.specs.declared.rules.Rules.{Rules};
 ghost use Rattle.fmp_text_scripts.specs.Scripts.{Steps};
@@ -8,6 +8,9 @@ ghost use Rattle.fmp_setup.specs.Valid.{IsValid};
 ghost use Rattle.fmp_search_question.specs.declared.question.Step.{Step};
 ghost use Rattle.fmp_search_orders.specs.Begun.{BegunAnswer};
 ghost use Rattle.fmp_search_orders.specs.Joined.{RootsAnswer};
+ghost use Rattle.fmp_search_orders.specs.Lasting.{LastingAnswer};
+ghost use Rattle.fmp_search_orders.specs.Watched.{WatchedAnswer};
+ghost use Rattle.fmp_search_question.specs.Lasting.{Lasting};
 ghost use Rattle.fmp_search_orders.specs.Laws.{RunsAreOrders, PlacesAnswer};
 ghost use Rattle.fmp_search_orders.specs.Orders.{IsOrder};
 
@@ -37,4 +40,17 @@ pub fn begun_answer()
 #[tactic(auto, using(crate::proofs::Behind::roots_answer))]
 pub fn roots_answer()
     ensures { (c : Setup) (scripts : List Steps) (rules : Rules) (question : List Step) → IsValid c → RootsAnswer c scripts rules question }
+{}
+
+/// Where no run over places ends with a step from which on a test is passed for ever, no order ends with what stays so; and what is told along a run that
+/// does is an order that does.
+#[tactic(auto, using(crate::proofs::Staying::lasting_answer))]
+pub fn lasting_answer()
+    ensures { (c : Setup) (scripts : List Steps) (rules : Rules) (test : List ℕ → Bool) → IsValid c → LastingAnswer c scripts rules test }
+{}
+
+/// The same of places with what is asked of every event from one on: what is known of the runs over them is known of all orders.
+#[tactic(auto, using(crate::proofs::Watching::watched_answer))]
+pub fn watched_answer()
+    ensures { (c : Setup) (scripts : List Steps) (rules : Rules) (lasting : List Lasting) → IsValid c → WatchedAnswer c scripts rules lasting }
 {}

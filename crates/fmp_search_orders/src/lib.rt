@@ -5,5 +5,7 @@
 mod laws;
 mod rules;
 
-pub use laws::{begun_answer, places_answer, roots_answer, runs_are_orders};
+pub use laws::{
+    begun_answer, lasting_answer, places_answer, roots_answer, runs_are_orders, watched_answer,
+};
 pub use rules::Rules;
