@@ -9,11 +9,17 @@ use Rattle.fmp_text_scripts.specs.Ways.{most_steps}
 use Rattle.fmp_search_orders.specs.declared.rules.Rules.{Rules}
 use Rattle.fmp_search_orders.specs.Orders.{is_left}
 use Rattle.fmp_search_orders.specs.Places.{Place, origin}
+use Rattle.fmp_search_orders.specs.Watched.{Watched}
 
 pub record Walked : Type 0 where
   pub place : Place  -- where it stands
   pub left : ℕ  -- for how many steps more there is room
   pub made : Record  -- what the last event was told to have done
+
+-- one who watches, and for how many steps more there is room
+pub record Watching : Type 0 where
+  pub place : Watched
+  pub left : ℕ
 
 -- how many ticks the processor of a number has taken
 abbrev pub count_in : List ℕ → ℕ → ℕ

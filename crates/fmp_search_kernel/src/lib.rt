@@ -6,8 +6,10 @@ mod sights;
 mod space;
 mod ticks;
 mod walker;
+mod watcher;
 
 pub use begun::choice_of;
 pub use sights::{has_to_look, is_over, look, put_sight};
 pub use ticks::advance_taken;
 pub use walker::Walker;
+pub use watcher::Watcher;

@@ -1,8 +1,10 @@
 //! The lines of an event, in which a question looks for its moments.
-ghost use Rattle.std.specs.Prelude.{◌≡◌, ◌≤◌, ◌++◌, ℕ, List, [], false, not, drop, length, IfOk, OnOk, if◌then◌else◌, codes};
+ghost use Rattle.std.specs.Prelude.{◌≡◌, ◌≤◌, ◌<◌, ◌+◌, ◌*◌, ◌^◌, ◌++◌, ℕ, List, [], false, not, drop, length, map, IfOk, OnOk, if◌then◌else◌, codes};
 ghost use Rattle.fmp_kernel_order.specs.Queues.{listed};
 ghost use Rattle.fmp_search_orders.specs.Orders.{each};
 ghost use Rattle.fmp_search_orders.specs.Sights as sights;
+ghost use Rattle.fmp_search_orders.specs.Watched.{bits_of};
+ghost use Rattle.fmp_search_question.specs.Lasting.{is_so};
 ghost use Rattle.fmp_search_question.specs.Questions as spec;
 ghost use Rattle.fmp_show_state.specs.States.{state_lines};
 ghost use Rattle.fmp_trace.specs.Lines.{line_text};
@@ -14,7 +16,7 @@ use fmp_kernel::Kernel;
 use fmp_names::Names;
 use fmp_rules::Config;
 use fmp_search_orders::Rules;
-use fmp_search_question::{Question, allows};
+use fmp_search_question::{Lasting, Question, allows};
 use fmp_show_state::put_lines;
 use fmp_trace::trace_line;
 use std::alloc::AllocError;
@@ -89,4 +91,36 @@ pub fn look(
     ensures { IfOk result (λ r. r ≡ spec.allows question.now seen marked (drop 2 text.now)) }
 {
     allows(line, &text[2..], question, seen, marked)
+}
+
+/// Which of these are so of an event with these lines, as bits: the first is the lowest.
+fn bits_at(line: &mut Vec<u8>, lines: &[u8], lasting: &[Lasting]) -> Result<u64, AllocError>
+    requires { length lasting.now ≤ 64 }
+    ensures { IfOk result (λ n. n ≡ bits_of (map (λ l. is_so l lines.now) lasting.now)) }
+{
+    let mut bits: u64 = 0;
+    let mut at = lasting.len();
+    while 0 < at {
+        at -= 1;
+        let so = lasting[at].is_so(line, lines)?;
+        bits = with_bit(bits, so);
+    }
+    Ok(bits)
+}
+
+/// The same, where a number of one digit and a blank stand before the lines.
+pub fn bits_in(line: &mut Vec<u8>, text: &[u8], lasting: &[Lasting]) -> Result<u64, AllocError>
+    requires long { 2 ≤ length text.now }
+    requires few { length lasting.now ≤ 64 }
+    ensures { IfOk result (λ n. n ≡ bits_of (map (λ l. is_so l (drop 2 text.now)) lasting.now)) }
+{
+    bits_at(line, &text[2..], lasting)
+}
+
+/// A number with one bit more, which is the lowest.
+fn with_bit(bits: u64, so: bool) -> u64
+    requires { bits < 2 ^ 63 }
+    ensures { result ≡ (if so then 1 else 0) + 2 * bits }
+{
+    if so { 1 + 2 * bits } else { 2 * bits }
 }

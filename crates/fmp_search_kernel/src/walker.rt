@@ -1,19 +1,23 @@
 //! One who stands at a place of all orders, and makes steps.
-ghost use Rattle.std.specs.Prelude.{◌≡◌, ◌≤◌, ◌<◌, ◌+◌, ◌^◌, [], ◌∷◌, true, false, Some, is_some, IfOk, IfSome, IfNone, IsTrue, if◌then◌else◌};
+ghost use Rattle.std.specs.Prelude.{◌≡◌, ◌≤◌, ◌<◌, ◌+◌, ◌^◌, [], ◌∷◌, true, false, Some, is_some, length, map, IfOk, IfSome, IfNone, IsTrue, if◌then◌else◌};
 ghost use Rattle.fmp_codes.specs.Records.{processor_of};
 ghost use Rattle.fmp_rules.specs.Step as machine;
 ghost use Rattle.fmp_kernel_order.specs.Queues.{listed};
 ghost use Rattle.fmp_search_orders.specs.Places as places;
+ghost use Rattle.fmp_search.specs.Runs.{Watches};
+ghost use Rattle.fmp_search_orders.specs.Lasting.{step_test};
+ghost use Rattle.fmp_search_orders.specs.Watched.{bits_of};
+ghost use Rattle.fmp_search_question.specs.Lasting.{is_so};
 ghost use Rattle.fmp_search_question.specs.Questions.{allows};
 ghost use Rattle.fmp_search_kernel.specs.Walked.{origin_of};
 
-use crate::sights::{has_to_look, is_over, look, put_sight};
+use crate::sights::{bits_in, has_to_look, is_over, look, put_sight};
 use crate::ticks::{advance_taken, may_tick};
 use fmp_codes::{Answer, Event, Proc, Record, Runner};
 use fmp_kernel::Kernel;
 use fmp_rules::Config;
 use fmp_search_orders::Rules;
-use fmp_search_question::Question;
+use fmp_search_question::{Lasting, Question};
 use fmp_smp_histories::{advance_handler, advance_task, asked_at};
 use fmp_text_scripts::Scripts;
 use std::alloc::AllocError;
@@ -249,6 +253,47 @@ impl<'a> Walker<'a> {
         ensures { result.now ≡ self.now.made }
     {
         &self.made
+    }
+
+    /// Makes the step of a number where no question is asked, and tells which of these are so of its event: bit k for the one of index k. None where it
+    /// cannot be made. The error is want of memory for the lines of the event.
+    pub(crate) fn watch_for(
+        &mut self,
+        step: u8,
+        lasting: &[Lasting],
+    ) -> Result<Option<u64>, AllocError>
+        requires room { 0 < self.old.left }
+        requires none { self.old.place.question ≡ [] }
+        requires few { length lasting.now ≤ 64 }
+        ensures goes { IfOk result (λ told. Watches (places.after self.old.place step) (bits_of (map (λ l. step_test (is_so l) self.old.place step) lasting.now)) told self.new.place) }
+        ensures origin { origin_of self.new.place ≡ origin_of self.old.place }
+        ensures question { self.new.place.question ≡ self.old.place.question }
+    {
+        if is_marked(step) {
+            return Ok(None);
+        }
+        let Some(_event) = self.follow(step) else {
+            return Ok(None);
+        };
+        let bits = self.bits(lasting)?;
+        Ok(Some(bits))
+    }
+
+    /// Which of these are so of the last event, likewise. The place stays as it is.
+    fn bits(&mut self, lasting: &[Lasting]) -> Result<u64, AllocError>
+        requires { length lasting.now ≤ 64 }
+        ensures bits { IfOk result (λ n. n ≡ bits_of (map (λ l. is_so l (places.sight_at self.old.place self.old.made)) lasting.now)) }
+        ensures same { self.new ≡ self.old }
+    {
+        let over = is_over(self.config, self.rules, &self.taken, &self.kernel);
+        put_sight(
+            &mut self.text,
+            self.config.names(),
+            &self.kernel,
+            &self.made,
+            over,
+        )?;
+        bits_in(&mut self.line, &self.text, lasting)
     }
 
     /// Whether the last event may be marked so, for a question of which so many steps were seen before it. The place stays as it is, and the

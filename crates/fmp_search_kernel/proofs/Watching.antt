@@ -1,0 +1,115 @@
+-- What one knows who watches for what stays for ever.
+use Rattle.std.proofs.Common.{◌≡◌, ◌∙◌, ℕ, Bool, true, false, cond, List, [], map, Option, Some, None, refl, ap, sym, subst}
+use Rattle.std.specs.Prelude.{is_some, option_map}
+use Rattle.fmp_codes.specs.declared.records.Event.{Event}
+use Rattle.fmp_codes.specs.declared.records.Record.{Record}
+use Rattle.fmp_rules.specs.Step.{step}
+use Rattle.fmp_kernel_order.specs.Queues.{listed}
+use Rattle.fmp_search.specs.Runs.{Goes, Watches}
+use Rattle.fmp_search_question.specs.Questions.{allows}
+use Rattle.fmp_search_question.specs.Lasting.{Lasting, is_so}
+use Rattle.fmp_search_orders.specs.Lasting.{step_test, test_there}
+use Rattle.fmp_search_orders.specs.Places.{Place, origin, event_of, is_marked, went, sight_at, allowed, next_place, after}
+use Rattle.fmp_search_orders.specs.Watched.{Watched, watched, watched_after, origin_at, bits_of}
+use Rattle.fmp_search_kernel.specs.Walked.{origin_of}
+
+-- ---- steps where no question is asked
+
+refused : (n : ℕ) (text : List ℕ) → allows [] n true text ≡ false
+unfolding allows
+refused n text = refl
+
+passed : (n : ℕ) (text : List ℕ) → allows [] n false text ≡ true
+unfolding allows
+passed n text = refl
+
+module _ (w : Place) (none : w.question ≡ []) (s : ℕ) where
+  -- one with a mark cannot be made
+  pub marked_none : is_marked s ≡ true → after w s ≡ None
+  unfolding after
+  marked_none mark = go (event_of w s)
+    where
+      go : (o : Option Event) → next_place w (is_marked s) o ≡ None
+      go None = refl
+      go (Some e) =
+          let did = step listed w.machine e in
+          let text = sight_at (went w true did) did.1 in
+          let never : allows w.question w.seen true text ≡ false = ap (λ q. allows q w.seen true text) none ∙ refused w.seen text in
+          ap (λ b. allowed w b did) mark ∙ ap (λ b. cond b (Some (went w true did)) None) never
+
+  pub eventless : event_of w s ≡ None → after w s ≡ None
+  unfolding after
+  eventless is = ap (next_place w (is_marked s)) is
+
+  -- and one without goes where its event leads
+  pub unmarked : (e : Event) → is_marked s ≡ false → event_of w s ≡ Some e → after w s ≡ Some (went w false (step listed w.machine e))
+  unfolding after
+  unmarked e mark is =
+      let did = step listed w.machine e in
+      let text = sight_at (went w false did) did.1 in
+      let free : allows w.question w.seen false text ≡ true = ap (λ q. allows q w.seen false text) none ∙ passed w.seen text in
+      ap (next_place w (is_marked s)) is ∙ ap (λ b. allowed w b did) mark ∙ ap (λ b. cond b (Some (went w false did)) None) free
+
+  -- what was told of the event is so of the step
+  pub watches_so : (w' : Place) (e : Event) (lasting : List Lasting) (n : ℕ) (r : Record) → is_marked s ≡ false → event_of w s ≡ Some e →
+      w' ≡ went w false (step listed w.machine e) → r ≡ (step listed w.machine e).1 → n ≡ bits_of (map (λ l. is_so l (sight_at w' r)) lasting) →
+      Watches (after w s) (bits_of (map (λ l. step_test (is_so l) w s) lasting)) (Some n) w'
+  watches_so w' e lasting n r mark is there told bits =
+      let did = step listed w.machine e in
+      let same : n ≡ bits_of (map (λ l. step_test (is_so l) w s) lasting) =
+      bits
+      ∙ ap (λ (x : Place). bits_of (map (λ l. is_so l (sight_at x r)) lasting)) there
+      ∙ ap (λ (x : Record). bits_of (map (λ l. is_so l (sight_at (went w false did) x)) lasting)) told
+      ∙ sym (ap (λ o. bits_of (map (λ l. test_there (is_so l) w o) lasting)) is) in
+      subst (λ o. Watches o (bits_of (map (λ l. step_test (is_so l) w s) lasting)) (Some n) w') (sym (unmarked e mark is)) (ap Some same, there)
+
+  pub watches_none : (w' : Place) (p : ℕ) → after w s ≡ None → Watches (after w s) p None w'
+  watches_none w' p is = subst (λ o. Watches o p None w') (sym is) refl
+
+-- ---- with what is asked
+
+module _ (lasting : List Lasting) where
+  pub goes_watched : (w w' : Place) (s : ℕ) (made : Bool) → Goes (after w s) made w' → Goes (watched_after (watched lasting w) s) made (watched lasting w')
+  goes_watched w w' s made = go (after w s)
+    where
+      go : (o : Option Place) → Goes o made w' → Goes (option_map (watched lasting) o) made (watched lasting w')
+      go None is = is
+      go (Some x) is = (is.0, ap (watched lasting) is.1)
+
+  pub watches_watched : (w w' : Place) (s p : ℕ) (told : Option ℕ) → Watches (after w s) p told w' → Watches (watched_after (watched lasting w) s) p told (watched lasting w')
+  watches_watched w w' s p told = go (after w s)
+    where
+      go : (o : Option Place) → Watches o p told w' → Watches (option_map (watched lasting) o) p told (watched lasting w')
+      go None is = is
+      go (Some x) is = (is.0, ap (watched lasting) is.1)
+
+  pub can_watched : (w : Place) (s : ℕ) → is_some (watched_after (watched lasting w) s) ≡ true → is_some (after w s) ≡ true
+  can_watched w s = go (after w s)
+    where
+      go : (o : Option Place) → is_some (option_map (watched lasting) o) ≡ true → is_some o ≡ true
+      go None is = is
+      go (Some x) is = refl
+
+  pub none_watched : (w : Place) (s : ℕ) → after w s ≡ None → watched_after (watched lasting w) s ≡ None
+  none_watched w s is = ap (option_map (watched lasting)) is
+
+  pub some_watched : (w w' : Place) (s : ℕ) → after w s ≡ Some w' → watched_after (watched lasting w) s ≡ Some (watched lasting w')
+  some_watched w w' s is = ap (option_map (watched lasting)) is
+
+  pub origin_watched : (w : Place) → w.question ≡ [] → watched lasting (origin_of w) ≡ origin_at (watched lasting w)
+  origin_watched w none = ap (λ q. watched lasting (origin w.config w.scripts w.rules q)) none
+
+pub same_origin : (l m : List Lasting) (w v : Place) → w.question ≡ [] → v.question ≡ [] → origin_at (watched l w) ≡ origin_at (watched m v) → origin_of w ≡ origin_of v
+same_origin l m w v none no_other is =
+    ap (λ q. origin w.config w.scripts w.rules q) none ∙ ap (λ (x : Watched). x.place) is ∙ sym (ap (λ q. origin v.config v.scripts v.rules q) no_other)
+
+pub same_lasting : (l m : List Lasting) (w v : Place) → origin_at (watched l w) ≡ origin_at (watched m v) → l ≡ m
+same_lasting l m w v is = ap (λ (x : Watched). x.lasting) is
+
+-- a place of which the runs begin where those of another do asks no question either
+pub still_none : (w v : Place) → origin_of v ≡ origin_of w → w.question ≡ [] → v.question ≡ []
+still_none w v same none = ap (λ (x : Place). x.question) same ∙ none
+
+-- the runs of one who watches begin where they did, where those of the places do
+pub origin_kept : (lasting : List Lasting) (w v : Place) → origin_of v ≡ origin_of w → origin_at (watched lasting v) ≡ origin_at (watched lasting w)
+origin_kept lasting w v is = ap (λ (x : Place). watched lasting (origin x.config x.scripts x.rules [])) is
