@@ -1,5 +1,5 @@
 -- What is told of the word at fault, beside what is wanted in its place.
-use Rattle.std.specs.Prelude.{ℕ, Bool, true, false, ◌&&◌, List, [], ◌∷◌, ◌++◌, Option, Some, None, is_none, is_ok, codes, decimal, if◌then◌else◌}
+use Rattle.std.specs.Prelude.{ℕ, Bool, true, false, ◌&&◌, List, [], ◌∷◌, ◌++◌, Option, Some, None, is_none, is_ok, map, codes, decimal, if◌then◌else◌}
 use Rattle.std.specs.Option.{option_map_or}
 use Rattle.fmp_bytes.specs.declared.classes.Class.TheVariants.{Argument, Word}
 use Rattle.fmp_bytes.specs.Bytes.{prefix}
@@ -9,11 +9,14 @@ use Rattle.fmp_calls.specs.declared.kinds.ArgumentKind.TheVariants as arguments
 use Rattle.fmp_calls.specs.declared.kinds.NameKind.TheVariants.{Object}
 use Rattle.fmp_calls.specs.declared.kinds.ObjectKind.TheVariants.{Task}
 use Rattle.fmp_calls.specs.Table.{named}
+use Rattle.fmp_cli_hints.specs.declared.rows.TheConstants.{CALL_ROWS}
 use Rattle.fmp_cli_hints.specs.declared.wanted.Wanted.{Wanted}
 use Rattle.fmp_cli_hints.specs.declared.wanted.Wanted.TheVariants as wants
+use Rattle.fmp_cli_hints.specs.Rows.{foreign_words, told_of}
+use Rattle.fmp_cli_hints.specs.Ways.{is_code}
 use Rattle.fmp_cli_help.specs.LeftOut.{is_left_out}
 use Rattle.fmp_cli_help.specs.Listing.{left_out_line}
-use Rattle.fmp_cli_help.specs.Near.{near_call, nearest}
+use Rattle.fmp_cli_help.specs.Near.{near_answer, near_call, nearest}
 use Rattle.fmp_names.specs.Names.{NameLists, is_name, is_object, names_of, number_defined}
 use Rattle.fmp_text.specs.Argument.{value_at}
 
@@ -24,11 +27,11 @@ near_line (Some name) = codes "  near: " ++ name ++ codes "\n"
 
 -- ---- where a call has to stand
 
--- a call that is left out, or the nearest one to a word that is none
+-- a call that is left out, or what is told of a word that is none, and the nearest one to it
 unfoldable pub call_hint : List ℕ → List ℕ
 call_hint word =
     if is_left_out word then codes "  " ++ left_out_line word
-    else (if is_name word && is_none (named word) then near_line (near_call word) else [])
+    else (if is_name word && is_none (named word) then told_of (map (λ row. (row.0.now, row.1.now)) CALL_ROWS) word ++ near_line (near_call word) else [])
 
 -- ---- where an argument has to stand
 
@@ -84,6 +87,16 @@ object_words = codes " is an object. A script is named by the function that stan
 unfoldable pub function_hint : NameLists → List ℕ → List ℕ
 function_hint names word = if is_object names word then codes "  " ++ word ++ object_words else []
 
+-- ---- where an answer has to stand
+
+abbrev pub code_line : Option (List ℕ) → List ℕ
+code_line None = []
+code_line (Some name) = if is_code name then near_line (Some name) else []
+
+-- the code that may be meant, if the nearest of calls and codes is one
+unfoldable pub code_hint : List ℕ → List ℕ
+code_hint word = code_line (near_answer word)
+
 -- ----
 
 -- what is told of the word that begins the text at a place
@@ -92,4 +105,7 @@ hint names wants.Happening text = call_hint (prefix Word text)
 hint names wants.Step text = call_hint (prefix Word text)
 hint names (wants.Argument call kind) text = argument_hint names kind (prefix Argument text)
 hint names wants.Function text = function_hint names (prefix Word text)
+hint names wants.Answered text = code_hint (prefix Word text)
+hint names wants.LineByte text = foreign_words text
+hint names wants.PrintedByte text = foreign_words text
 hint names wanted text = []

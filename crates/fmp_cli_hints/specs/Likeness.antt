@@ -7,7 +7,7 @@ use Rattle.fmp_bytes.specs.Bytes.{prefix, after, behind}
 use Rattle.fmp_bytes.specs.Numerals.{are_digits}
 use Rattle.fmp_names.specs.Names.{is_processor_word}
 use Rattle.fmp_cli_hints.specs.declared.likeness.Likeness.{Likeness}
-use Rattle.fmp_cli_hints.specs.declared.likeness.Likeness.TheVariants.{Marked, Configuration, Events, Scripts, Trace}
+use Rattle.fmp_cli_hints.specs.declared.likeness.Likeness.TheVariants.{Marked, Configuration, Events, Scripts, Trace, States}
 use Rattle.fmp_cli_hints.specs.declared.text.TextForm.{TextForm}
 use Rattle.fmp_cli_hints.specs.declared.text.TextForm.TheVariants as forms
 use Rattle.fmp_config_statements.specs.declared.fault.ConfigKind.{ConfigKind}
@@ -31,13 +31,14 @@ behind_mark line = option_and_then (λ rest. option_and_then (behind 191) (behin
 abbrev pub without_mark : List ℕ → List ℕ
 without_mark line = unwrap_or (behind_mark line) line
 
--- by its first word. A line of a trace begins with a number and a processor
+-- by its first words. A line of a trace begins with a number and a processor, and a state with a processor and what runs there
 abbrev pub likeness_by : List ℕ → List ℕ → Option Likeness
 likeness_by first second =
-    if is_processor_word first then Some Events
+    if is_processor_word first && bytes_eq second (codes "run") then Some States
+    else (if is_processor_word first then Some Events
     else (if are_digits 10 first && is_processor_word second then Some Trace
     else (if bytes_eq first (codes "script") then Some Scripts
-    else (if is_some (statement_of first) then Some Configuration else None)))
+    else (if is_some (statement_of first) then Some Configuration else None))))
 
 -- a line that begins with a byte order mark, or by its first words
 unfoldable pub looks_like : List ℕ → Option Likeness
@@ -50,6 +51,7 @@ told Configuration = codes "  This looks like a configuration, which is the firs
 told Events = codes "  This looks like events, which `fmpsim calls` and `fmpsim shrink` read as the second of the two texts.\n"
 told Scripts = codes "  This looks like scripts, which `fmpsim smp` and `fmpsim explore` read as the second of the two texts.\n"
 told Trace = codes "  This looks like a trace, which `fmpsim check` reads as the second of the two texts. `tools/from-trace` makes events of one.\n"
+told States = codes "  This looks like a trace with states, as `fmpsim calls --state` writes it. `tools/from-trace` makes events of one.\n"
 
 -- such lines are among those of a text of this form
 abbrev pub is_own : TextForm → Likeness → Bool

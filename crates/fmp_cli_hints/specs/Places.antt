@@ -100,11 +100,17 @@ on_processor names text =
     if is_err (processor_in names (prefix Word text)) then stuck text wants.Processor
     else happening names (after Blank (after Word text))
 
--- what is wanted in place of a byte that may not stand in a line, which begins this text: no `;`, no comment, or another byte
+-- the bytes of what would have to be computed: `<`, `>`, `|`, `+` and `~`
+abbrev pub is_operator : ℕ → Bool
+is_operator b = b == 60 || b == 62 || b == 124 || b == 43 || b == 126
+
+-- what is wanted in place of a byte that may not stand in a line, which begins this text: no `;`, no comment, no `&`, nothing to be computed, or
+-- another byte
 abbrev pub byte_wanted : List ℕ → Wanted
 byte_wanted [] = wants.LineByte
 byte_wanted (b ∷ bytes) =
-    if b == semicolon then wants.NoStop else (if b == number_sign || b == slash then wants.NoComment else wants.LineByte)
+    if b == semicolon then wants.NoStop else (if b == number_sign || b == slash then wants.NoComment
+    else (if b == 38 then wants.NoAddress else (if is_operator b then wants.NoSum else wants.LineByte)))
 
 -- from a byte on that may not stand in a line
 unfoldable pub barred : List ℕ → Walk

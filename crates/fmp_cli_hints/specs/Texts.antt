@@ -1,11 +1,13 @@
 -- What stands beside a fault line of events, scripts or a trace.
-use Rattle.std.specs.Prelude.{ℕ, ◌+◌, ◌-◌, not, ◌&&◌, List, [], ◌++◌, Option, Some, None, option_and_then, ◌==◌, if◌then◌else◌, codes}
+use Rattle.std.specs.Prelude.{ℕ, true, false, ◌+◌, ◌-◌, not, ◌&&◌, List, [], ◌++◌, Option, Some, None, option_and_then, ◌==◌, if◌then◌else◌, codes}
 use Rattle.std.specs.List.{list_all}
 use Rattle.std.specs.Option.{option_map_or}
 use Rattle.std.specs.Str.{bytes_eq}
-use Rattle.fmp_bytes.specs.declared.classes.Class.TheVariants.{Blank, Word}
+use Rattle.fmp_bytes.specs.declared.classes.Class.TheVariants.{Argument, Blank, Word}
 use Rattle.fmp_bytes.specs.declared.classes.Class.TheVariants as bytes
 use Rattle.fmp_bytes.specs.Bytes.{is_of, is_identifier, prefix, after}
+use Rattle.fmp_calls.specs.declared.kinds.ArgumentKind.TheVariants as arguments
+use Rattle.fmp_calls.specs.declared.kinds.ObjectKind.TheVariants.{Task}
 use Rattle.fmp_calls.specs.Table.{named}
 use Rattle.fmp_cli_hints.specs.declared.text.TextForm.{TextForm}
 use Rattle.fmp_cli_hints.specs.declared.text.TextForm.TheVariants as forms
@@ -13,8 +15,10 @@ use Rattle.fmp_cli_hints.specs.declared.wanted.Wanted.{Wanted}
 use Rattle.fmp_cli_hints.specs.declared.wanted.Wanted.TheVariants as wants
 use Rattle.fmp_cli_hints.specs.Contexts.{column_of, context_at, line_behind}
 use Rattle.fmp_cli_hints.specs.Excerpts.{excerpt}
+use Rattle.fmp_cli_hints.specs.Labels.{label_hint}
 use Rattle.fmp_cli_hints.specs.Likeness.{text_likeness, without_mark}
 use Rattle.fmp_cli_hints.specs.Places.{Walk, barred, behind_name, ending, event_place, going, stuck}
+use Rattle.fmp_cli_hints.specs.Ways.{barred_place, line_place, word_place}
 use Rattle.fmp_cli_hints.specs.Traces.{partial_place, trace_place}
 use Rattle.fmp_cli_diagnostics.specs.declared.diagnostic.Spot.{Spot}
 use Rattle.fmp_cli_diagnostics.specs.declared.diagnostic.Spot.TheVariants.{Nowhere, Line, Column}
@@ -25,26 +29,13 @@ use Rattle.fmp_text.specs.declared.fault.TextKind.{TextKind}
 use Rattle.fmp_text.specs.declared.fault.TextKind.TheVariants as kinds
 use Rattle.fmp_text.specs.Lines.{without_return}
 
--- a function's name, or what stands behind it
-unfoldable pub function_place : List ℕ → Walk
-function_place text =
-    if is_identifier (prefix Word text) && not (list_all (is_of Blank) (after Word text)) then stuck (after Blank (after Word text)) wants.LineEnd
-    else stuck text wants.Function
-
--- a line of a script by its first word: behind `script` and `end`, in the arguments of a call, or at a word that is no call
-unfoldable pub step_place : NameLists → List ℕ → Walk
-step_place names text =
-    if bytes_eq (prefix Word text) (codes "script") then function_place (after Blank (after Word text))
-    else (if bytes_eq (prefix Word text) (codes "end") then ending wants.LineEnd (going (after Word text))
-    else option_map_or (λ call. behind_name names call (after Word text)) (named (prefix Word text)) (stuck text wants.Step))
-
 -- a line of a script that has such a fault. A bad word is the first one
 abbrev pub script_kind_place : NameLists → List ℕ → TextKind → Walk
-script_kind_place names line kinds.BadByte = barred (after bytes.Line line)
-script_kind_place names line kinds.UnknownName = step_place names (after Blank line)
-script_kind_place names line kinds.WrongArguments = step_place names (after Blank line)
-script_kind_place names line kinds.NumberOutOfRange = step_place names (after Blank line)
-script_kind_place names line kinds.BadWord = stuck (after Blank line) wants.Step
+script_kind_place names line kinds.BadByte = barred_place line
+script_kind_place names line kinds.UnknownName = line_place names false (after Blank line)
+script_kind_place names line kinds.WrongArguments = line_place names false (after Blank line)
+script_kind_place names line kinds.NumberOutOfRange = line_place names true (after Blank line)
+script_kind_place names line kinds.BadWord = word_place (after Blank line)
 script_kind_place names line kind = going (after Blank line)
 
 -- a line of events. One event more than there may be is at fault from its beginning on
@@ -72,11 +63,12 @@ advised line walk kind = excerpt line (column_of line walk) ++ advice_line (text
 unfoldable pub told : NameLists → List ℕ → Walk → TextKind → List ℕ
 told names line walk kind = option_map_or (λ text. text) (context_at names line walk) (advised line walk kind)
 
--- the line of a fault, and what it looks like where that is no line of the text. A byte order mark before it is told, and not shown
-unfoldable pub told_line : NameLists → TextForm → TextFault → List ℕ → Option (List ℕ) → List ℕ
-told_line names form fault line rest =
-    told names (without_mark (without_return line)) (place names form fault.line (without_return line) rest fault.kind) fault.kind
-    ++ text_likeness form fault.kind line
+-- the line of a fault, which jump of its script has no label where one has none, and what it looks like where that is no line of the text. A byte order
+-- mark before it is told, and not shown
+unfoldable pub told_line : NameLists → TextForm → List ℕ → TextFault → List ℕ → Option (List ℕ) → List ℕ
+told_line names form text fault line rest =
+    let walk = place names form fault.line (without_return line) rest fault.kind in
+    told names (without_mark (without_return line)) walk fault.kind ++ label_hint fault.line text walk.wanted ++ text_likeness form fault.kind line
 
 -- what stands beside a fault without a line, or in a line that is not there
 abbrev pub advice : TextKind → List ℕ
@@ -86,7 +78,7 @@ advice kind = advice_line (text_advice kind)
 unfoldable pub text_context : NameLists → TextForm → List ℕ → TextFault → List ℕ
 text_context names form text fault =
     if fault.line == 0 then advice fault.kind
-    else option_map_or (λ l. told_line names form fault l.0 l.1) (line_behind (fault.line - 1) text) (advice fault.kind)
+    else option_map_or (λ l. told_line names form text fault l.0 l.1) (line_behind (fault.line - 1) text) (advice fault.kind)
 
 -- the column of the caret in the line of a fault, from 1
 unfoldable pub line_spot : NameLists → TextForm → TextFault → List ℕ → Option (List ℕ) → Spot
@@ -111,3 +103,17 @@ unfoldable pub function_at : NameLists → List ℕ → TextFault → Option (Li
 function_at names text fault =
     if fault.line == 0 then None
     else option_and_then (λ l. word_for_function (place names forms.Scripts fault.line (without_return l.0) l.1 fault.kind)) (line_behind (fault.line - 1) text)
+
+-- the word that stands where a task is wanted
+abbrev pub task_word : Option Wanted → List ℕ → Option (List ℕ)
+task_word (Some (wants.Argument call (arguments.Object Task))) text = Some (prefix Argument text)
+task_word wanted text = None
+
+abbrev pub word_for_task : Walk → Option (List ℕ)
+word_for_task walk = task_word walk.wanted walk.rest
+
+-- where a fault of a text is there
+unfoldable pub task_at : NameLists → TextForm → List ℕ → TextFault → Option (List ℕ)
+task_at names form text fault =
+    if fault.line == 0 then None
+    else option_and_then (λ l. word_for_task (place names form fault.line (without_return l.0) l.1 fault.kind)) (line_behind (fault.line - 1) text)

@@ -10,15 +10,33 @@ use Rattle.fmp_trace.specs.Values.{call_text}
 unfoldable pub label : List ℕ
 label = codes "  wanted: "
 
+-- what is wanted in a script where no call is
+abbrev pub script_words : Wanted → List ℕ
+script_words wants.Step =
+    codes "`script` and a function, or in a script `end`, a label, as `again:`, `on <answer> goto <label>`, `goto <label>`, or a call that `fmpsim list` has, but not `ret_hdr`\n"
+script_words wants.Jumps =
+    codes "labels and `goto`, which are all that a script has of the kind: `again:` before a call, and `on E_TMOUT goto again` or `goto again` after one\n"
+script_words wants.JumpPlace = codes "a call right before it, or another `on` of that call: `on` and `goto` say where a script goes on after a call\n"
+script_words wants.Answered = codes "an answer: a code, as `E_TMOUT`, a code and its value, as `E_OK:3`, or `refused`, which is each code but `E_OK`\n"
+script_words wants.AnsweredValue = codes "a number of 64 bits with a sign, without a leading zero\n"
+script_words wants.Goal = codes "`goto` and the name of a label\n"
+script_words wants.LabelName =
+    codes "the name of a label: a letter or `_`, then letters, digits and `_`, but not `script`, `end`, `on`, `goto` or `ret_hdr`\n"
+script_words wants.Labels = codes "before it a label for each `goto` of the script\n"
+script_words wants.NewLabel = codes "a label that the script does not have yet\n"
+script_words wants.Function = codes "a function of the configuration that has no script yet\n"
+script_words wants.ScriptEnd = codes "`end` before this line, which begins another script\n"
+script_words wanted = []
+
 -- what is wanted where no call and no processor is
 abbrev pub words : Wanted → List ℕ
 words wants.LineByte = codes "a letter, a digit, `_`, `-`, `(`, `)`, `,` or a blank\n"
 words wants.Happening = codes "`tick`, `ipi`, or a call that `fmpsim list` has\n"
 words wants.LineEnd = codes "the end of the line\n"
-words wants.Step = codes "`script` and a function, or in a script `end` or a call that `fmpsim list` has, but not `ret_hdr`\n"
-words wants.Function = codes "a function of the configuration that has no script yet\n"
 words wants.NoStop = codes "the end of the line, without a `;`\n"
 words wants.NoComment = codes "the end of the line: a comment has a line of its own, which begins with `#`\n"
+words wants.NoSum = codes "a number or a name: nothing is computed, so that `1 << 2` is written 4 and `1|2` is written 3\n"
+words wants.NoAddress = codes "a number or a name without a `&`: what a call gives back stands in its answer\n"
 words wants.Runner = codes "who runs there: the name of a task or a handler, or `-`\n"
 words wants.Answer =
     codes "a blank and the answer: a code, as `E_OK`, and a value behind `:` where it has one; or `wait`, `spin`, `gone`, `idle`, `held`, `taken` or `none`\n"
@@ -28,7 +46,7 @@ words wants.PrintedByte = codes "printed ASCII, from the blank to `~`\n"
 words wants.NoReturn = codes "a line feed without a carriage return before it\n"
 words wants.PartialLine =
     codes "`[<n> ]P<p> [<runner> ]<event> <answer>` and fields behind it, each as a trace has it, and the line's own number\n"
-words _ = []
+words wanted = script_words wanted
 
 -- the machine's processors
 unfoldable pub processors : ℕ → List ℕ

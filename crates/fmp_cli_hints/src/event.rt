@@ -46,6 +46,8 @@ fn byte_wanted(text: &[u8]) -> Wanted
     match text {
         [b';', ..] => Wanted::NoStop,
         [b'#' | b'/', ..] => Wanted::NoComment,
+        [b'&', ..] => Wanted::NoAddress,
+        [b'<' | b'>' | b'|' | b'+' | b'~', ..] => Wanted::NoSum,
         _ => Wanted::LineByte,
     }
 }

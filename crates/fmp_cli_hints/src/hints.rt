@@ -6,10 +6,12 @@ ghost use Rattle.fmp_cli_hints.specs.Hints as spec;
 ghost use Rattle.fmp_cli_help.specs.Near.{nearest};
 ghost use Rattle.fmp_names.specs.Names.{names_of};
 
+use crate::rows::{CALL_ROWS, foreign_words, told_of};
 use crate::wanted::Wanted;
+use crate::way::is_code;
 use fmp_bytes::{Class, spelled_number, split_prefix};
 use fmp_calls::{ArgumentKind, NameKind, ObjectKind, find_call};
-use fmp_cli_help::{is_left_out, near_call, nearer, put_left_out};
+use fmp_cli_help::{is_left_out, near_answer, near_call, nearer, put_left_out};
 use fmp_text::{Names, is_name, value_at};
 use itoa::Buffer;
 use std::alloc::{AllocError, Global};
@@ -36,22 +38,24 @@ fn put_call_hint(alloc: Global, out: &mut Vec<u8>, word: &[u8]) -> Result<(), Al
         return put_left_out(out, word);
     }
     if is_name(word) && find_call(word).is_none() {
+        out.extend_from_slice(told_of(&CALL_ROWS, word))?;
         return put_near(out, near_call(alloc, word)?);
     }
     Ok(())
 }
 
-/// The nearest object of a kind.
-fn near_object<'a>(
+/// The nearest of the objects of a kind, and of the best name before them.
+pub(crate) fn near_object<'a>(
     alloc: Global,
     names: &'a Names,
     kind: ObjectKind,
     word: &[u8],
+    before: Option<&'a [u8]>,
 ) -> Result<Option<&'a [u8]>, AllocError>
-    ensures { IfOk result (λ found. option_copied found ≡ nearest word.now None (names_of names.now (Object kind))) }
+    ensures { IfOk result (λ found. option_copied found ≡ nearest word.now (option_copied before.entry) (names_of names.now (Object kind))) }
 {
     names.validity();
-    let mut best = None;
+    let mut best = before;
     let mut index = 0;
     while let Some(name) = names.name(NameKind::Object(kind), index + 1) {
         best = nearer(alloc, word, best, name)?;
@@ -70,7 +74,7 @@ fn near_named<'a>(
     ensures { IfOk result (λ found. option_copied found ≡ nearest word.now None (spec.objects_of names.now kind)) }
 {
     match kind {
-        ArgumentKind::Object(kind) => near_object(alloc, names, kind, word),
+        ArgumentKind::Object(kind) => near_object(alloc, names, kind, word, None),
         _ => Ok(None),
     }
 }
@@ -230,6 +234,17 @@ fn put_function_hint(out: &mut Vec<u8>, names: &Names, word: &[u8]) -> Result<()
     out.extend_from_slice(object_words())
 }
 
+/// Adds the code that may be meant by a word, if one is near.
+#[tactic(auto, unfolding(crate::specs::Hints::code_hint))]
+fn put_code_hint(alloc: Global, out: &mut Vec<u8>, word: &[u8]) -> Result<(), AllocError>
+    ensures { OnOk result (out.new.items ≡ out.old.items ++ spec.code_hint word.now) }
+{
+    match near_answer(alloc, word)? {
+        Some(name) if is_code(name) => put_near(out, Some(name)),
+        _ => Ok(()),
+    }
+}
+
 /// Adds what is told of the word that begins the text at a place, where this is wanted.
 #[tactic(auto, unfolding(crate::specs::Hints::hint))]
 pub(crate) fn put_hint(
@@ -249,6 +264,8 @@ pub(crate) fn put_hint(
             put_argument_hint(alloc, out, names, kind, word)
         }
         Wanted::Function => put_function_hint(out, names, word),
+        Wanted::Answered => put_code_hint(alloc, out, word),
+        Wanted::LineByte | Wanted::PrintedByte => out.extend_from_slice(foreign_words(text)),
         _ => Ok(()),
     }
 }

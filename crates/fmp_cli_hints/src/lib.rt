@@ -2,25 +2,29 @@
 //!
 //! A [`Walk`] goes over a line as its reader does, and stops where the reader refuses. Each contract is one equation with a
 //! definition: of a line of events (`specs/Places`), of scripts (`specs/Texts`), of a trace (`specs/Traces`), of what is told of the word
-//! at fault (`specs/Hints`), and of a line that looks like one of another text (`specs/Likeness`). The law
+//! at fault (`specs/Hints`), of a jump without a label (`specs/Labels`), and of a line that looks like one of another text (`specs/Likeness`). The law
 //! `places_are_in_their_lines` says that the place of a line of events is in that line.
 //!
 //! [`text_spot`] is the place of the caret as numbers.
 //!
-//! That the caret is where the reader refuses is only tested. Begin at [`text_context`] and [`question_context`]. What stands beside a fault of a configuration is `fmp_cli_hints_config`.
+//! That the caret is where the reader refuses is only tested. Begin at [`text_context`]. What stands beside a fault of a configuration is `fmp_cli_hints_config`, and
+//! of a question `fmp_cli_hints_question`.
 #![tactic(auto)]
 
 mod event;
 mod excerpt;
 mod hints;
+mod labels;
 mod laws;
 mod likeness;
 mod line;
-mod question;
+mod rows;
 mod text;
+mod things;
 mod trace;
 mod walk;
 mod wanted;
+mod way;
 
 pub use event::event_place;
 pub use excerpt::{put_excerpt, put_line};
@@ -28,7 +32,8 @@ pub use hints::put_near;
 pub use laws::places_are_in_their_lines;
 pub use likeness::{Likeness, put_config_likeness, without_mark};
 pub use line::line_behind;
-pub use question::{question_context, question_kind};
-pub use text::{TextForm, function_at, text_advice, text_context, text_spot};
+pub use rows::{foreign_words, told_of};
+pub use text::{TextForm, function_at, task_at, text_advice, text_context, text_spot};
+pub use things::near_thing;
 pub use walk::Walk;
-pub use wanted::{Wanted, label, put_mark};
+pub use wanted::{Wanted, label, put_mark, put_processors};

@@ -19,6 +19,8 @@ pub enum Likeness {
     Events,
     Scripts,
     Trace,
+    /// A line of a state, as `calls --state` writes it.
+    States,
 }
 
 /// What follows a byte order mark in UTF-8, where the line begins with one.
@@ -40,7 +42,9 @@ pub fn without_mark(line: &[u8]) -> &[u8]
 fn likeness_by(first: &[u8], second: &[u8]) -> Option<Likeness>
     ensures { result ≡ spec.likeness_by first.now second.now }
 {
-    if is_processor_word(first) {
+    if is_processor_word(first) && second == b"run".as_slice() {
+        Some(Likeness::States)
+    } else if is_processor_word(first) {
         Some(Likeness::Events)
     } else if are_digits(10, first) && is_processor_word(second) {
         Some(Likeness::Trace)
@@ -85,6 +89,9 @@ fn told(likeness: Likeness) -> &'static [u8]
         }
         Likeness::Trace => {
             b"  This looks like a trace, which `fmpsim check` reads as the second of the two texts. `tools/from-trace` makes events of one.\n"
+        }
+        Likeness::States => {
+            b"  This looks like a trace with states, as `fmpsim calls --state` writes it. `tools/from-trace` makes events of one.\n"
         }
     }
 }

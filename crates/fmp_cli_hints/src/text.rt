@@ -1,17 +1,20 @@
 //! What stands beside a fault line of events, scripts or a trace.
 ghost use Rattle.std.specs.Prelude.{◌≡◌, IfOk};
 ghost use Rattle.std.specs.Option.{option_copied};
+ghost use Rattle.fmp_cli_hints.specs.Steps as steps;
 ghost use Rattle.fmp_cli_hints.specs.Texts as spec;
 
-use crate::event::{barred, context_at, event_place};
+use crate::event::{context_at, event_place};
 use crate::excerpt::put_excerpt;
+use crate::labels::put_label_hint;
 use crate::likeness::{put_text_likeness, without_mark};
 use crate::line::line_behind;
 use crate::trace::{partial_place, trace_place};
 use crate::walk::{Walk, behind_name, ending};
 use crate::wanted::Wanted;
+use crate::way::{barred_place, line_place, word_place};
 use fmp_bytes::{Class, all_of, is_identifier, skip, split_prefix};
-use fmp_calls::find_call;
+use fmp_calls::{ArgumentKind, ObjectKind, find_call};
 use fmp_cli_diagnostics::Spot;
 use fmp_cli_help::put_text_advice;
 use fmp_text::{Names, TextFault, TextKind, without_return};
@@ -28,9 +31,9 @@ pub enum TextForm {
 }
 
 /// A function's name, or what stands behind it.
-#[tactic(auto, unfolding(crate::specs::Texts::function_place))]
+#[tactic(auto, unfolding(crate::specs::Steps::function_place))]
 fn function_place<'a>(text: &'a [u8]) -> Walk<'a>
-    ensures { result ≡ spec.function_place text.now }
+    ensures { result ≡ steps.function_place text.now }
 {
     let (name, rest) = split_prefix(Class::Word, text);
     if is_identifier(name) && !all_of(Class::Blank, rest) {
@@ -41,9 +44,9 @@ fn function_place<'a>(text: &'a [u8]) -> Walk<'a>
 }
 
 /// How far a line of a script fits, by its first word.
-#[tactic(auto, unfolding(crate::specs::Texts::step_place))]
-fn step_place<'a>(names: &Names, text: &'a [u8]) -> Walk<'a>
-    ensures { result ≡ spec.step_place names.now text.now }
+#[tactic(auto, unfolding(crate::specs::Steps::step_place))]
+pub(crate) fn step_place<'a>(names: &Names, text: &'a [u8]) -> Walk<'a>
+    ensures { result ≡ steps.step_place names.now text.now }
 {
     let (word, rest) = split_prefix(Class::Word, text);
     if word == b"script".as_slice() {
@@ -63,11 +66,12 @@ fn script_place<'a>(names: &Names, line: &'a [u8], kind: TextKind) -> Walk<'a>
     ensures { result ≡ spec.script_kind_place names.now line.now kind }
 {
     match kind {
-        TextKind::BadByte => barred(skip(Class::Line, line)),
-        TextKind::UnknownName | TextKind::WrongArguments | TextKind::NumberOutOfRange => {
-            step_place(names, skip(Class::Blank, line))
+        TextKind::BadByte => barred_place(line),
+        TextKind::UnknownName | TextKind::WrongArguments => {
+            line_place(names, false, skip(Class::Blank, line))
         }
-        TextKind::BadWord => Walk::stuck(skip(Class::Blank, line), Wanted::Step),
+        TextKind::NumberOutOfRange => line_place(names, true, skip(Class::Blank, line)),
+        TextKind::BadWord => word_place(skip(Class::Blank, line)),
         TextKind::CutShort | TextKind::TooMany | TextKind::Memory => {
             Walk::going(skip(Class::Blank, line))
         }
@@ -143,21 +147,23 @@ fn told(
     }
 }
 
-/// What is told of a line with this fault, with what follows its line feed, if it has one.
+/// What is told of a line of a text with this fault, with what follows its line feed, if it has one.
 #[tactic(auto, unfolding(crate::specs::Texts::told_line))]
 fn told_line(
     alloc: Global,
     names: &Names,
     form: TextForm,
+    text: &[u8],
     fault: TextFault,
     line: &[u8],
     after: Option<&[u8]>,
 ) -> Result<Vec<u8>, AllocError>
-    ensures { IfOk result (λ out. out.items ≡ spec.told_line names.now form fault line.now (option_copied after.entry)) }
+    ensures { IfOk result (λ out. out.items ≡ spec.told_line names.now form text.now fault line.now (option_copied after.entry)) }
 {
     let whole = without_return(line);
     let walk = place(alloc, names, form, whole, after, fault)?;
     let mut out = told(alloc, names, without_mark(whole), &walk, fault.kind)?;
+    put_label_hint(alloc, &mut out, fault.line, text, walk.wanted())?;
     put_text_likeness(&mut out, form, fault.kind, line)?;
     Ok(out)
 }
@@ -188,7 +194,7 @@ pub fn text_context(
         return text_advice(alloc, fault.kind);
     }
     match line_behind(fault.line - 1, text) {
-        Some((line, after)) => told_line(alloc, names, form, fault, line, after),
+        Some((line, after)) => told_line(alloc, names, form, text, fault, line, after),
         None => text_advice(alloc, fault.kind),
     }
 }
@@ -243,6 +249,40 @@ fn word_for_function<'a>(walk: Walk<'a>) -> Option<&'a [u8]>
         }
         _ => None,
     }
+}
+
+/// The word that stands where a task is wanted.
+fn word_for_task<'a>(walk: Walk<'a>) -> Option<&'a [u8]>
+    ensures { option_copied result ≡ spec.word_for_task walk.entry }
+{
+    match walk.wanted() {
+        Some(Wanted::Argument(_, ArgumentKind::Object(ObjectKind::Task))) => {
+            let (word, _rest) = split_prefix(Class::Argument, walk.rest());
+            Some(word)
+        }
+        _ => None,
+    }
+}
+
+/// The word that stands where a task is wanted, where this fault of a text is there.
+#[tactic(auto, unfolding(crate::specs::Texts::task_at))]
+pub fn task_at<'a>(
+    alloc: Global,
+    names: &Names,
+    form: TextForm,
+    text: &'a [u8],
+    fault: TextFault,
+) -> Result<Option<&'a [u8]>, AllocError>
+    ensures { IfOk result (λ word. option_copied word ≡ spec.task_at names.now form text.now fault) }
+{
+    if fault.line == 0 {
+        return Ok(None);
+    }
+    let Some((line, after)) = line_behind(fault.line - 1, text) else {
+        return Ok(None);
+    };
+    let walk = place(alloc, names, form, without_return(line), after, fault)?;
+    Ok(word_for_task(walk))
 }
 
 /// The word that stands where a function is wanted, where this fault of scripts is there.

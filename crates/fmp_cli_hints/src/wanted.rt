@@ -29,12 +29,34 @@ pub enum Wanted {
     CallEnd(Call),
     /// What may stand in a line of a script text.
     Step,
+    /// Labels and `goto`, which are all by which a script chooses and repeats.
+    Jumps,
+    /// A call before a jump.
+    JumpPlace,
+    /// The answers of an `on`.
+    Answered,
+    /// The value of such an answer.
+    AnsweredValue,
+    /// `goto` and a label.
+    Goal,
+    /// The name of a label.
+    LabelName,
+    /// A label that the script does not have.
+    NewLabel,
+    /// A label for each jump of a script.
+    Labels,
     /// A function that has no script.
     Function,
     /// The end of the line in place of a `;`.
     NoStop,
     /// A line of its own for a comment.
     NoComment,
+    /// A number in place of what would have to be computed.
+    NoSum,
+    /// A number or a name without a `&`.
+    NoAddress,
+    /// The end of the script before a line that begins another one.
+    ScriptEnd,
     /// This number of a trace's line.
     LineNumber(u32),
     /// Who runs.
@@ -61,6 +83,36 @@ pub fn label() -> &'static [u8]
     b"  wanted: "
 }
 
+/// What is wanted in a script where no call is.
+fn script_words(wanted: Wanted) -> &'static [u8]
+    ensures { result.now ≡ spec.script_words wanted }
+{
+    match wanted {
+        Wanted::Step => {
+            b"`script` and a function, or in a script `end`, a label, as `again:`, `on <answer> goto <label>`, `goto <label>`, or a call that `fmpsim list` has, but not `ret_hdr`\n"
+        }
+        Wanted::Jumps => {
+            b"labels and `goto`, which are all that a script has of the kind: `again:` before a call, and `on E_TMOUT goto again` or `goto again` after one\n"
+        }
+        Wanted::JumpPlace => {
+            b"a call right before it, or another `on` of that call: `on` and `goto` say where a script goes on after a call\n"
+        }
+        Wanted::Answered => {
+            b"an answer: a code, as `E_TMOUT`, a code and its value, as `E_OK:3`, or `refused`, which is each code but `E_OK`\n"
+        }
+        Wanted::AnsweredValue => b"a number of 64 bits with a sign, without a leading zero\n",
+        Wanted::Goal => b"`goto` and the name of a label\n",
+        Wanted::LabelName => {
+            b"the name of a label: a letter or `_`, then letters, digits and `_`, but not `script`, `end`, `on`, `goto` or `ret_hdr`\n"
+        }
+        Wanted::Labels => b"before it a label for each `goto` of the script\n",
+        Wanted::NewLabel => b"a label that the script does not have yet\n",
+        Wanted::Function => b"a function of the configuration that has no script yet\n",
+        Wanted::ScriptEnd => b"`end` before this line, which begins another script\n",
+        _ => b"",
+    }
+}
+
 /// What is wanted where no call and no processor is.
 fn words(wanted: Wanted) -> &'static [u8]
     ensures { result.now ≡ spec.words wanted }
@@ -69,13 +121,13 @@ fn words(wanted: Wanted) -> &'static [u8]
         Wanted::LineByte => b"a letter, a digit, `_`, `-`, `(`, `)`, `,` or a blank\n",
         Wanted::Happening => b"`tick`, `ipi`, or a call that `fmpsim list` has\n",
         Wanted::LineEnd => b"the end of the line\n",
-        Wanted::Step => {
-            b"`script` and a function, or in a script `end` or a call that `fmpsim list` has, but not `ret_hdr`\n"
-        }
-        Wanted::Function => b"a function of the configuration that has no script yet\n",
         Wanted::NoStop => b"the end of the line, without a `;`\n",
         Wanted::NoComment =>
             b"the end of the line: a comment has a line of its own, which begins with `#`\n",
+        Wanted::NoSum =>
+            b"a number or a name: nothing is computed, so that `1 << 2` is written 4 and `1|2` is written 3\n",
+        Wanted::NoAddress =>
+            b"a number or a name without a `&`: what a call gives back stands in its answer\n",
         Wanted::Runner => b"who runs there: the name of a task or a handler, or `-`\n",
         Wanted::Answer => {
             b"a blank and the answer: a code, as `E_OK`, and a value behind `:` where it has one; or `wait`, `spin`, `gone`, `idle`, `held`, `taken` or `none`\n"
@@ -88,18 +140,13 @@ fn words(wanted: Wanted) -> &'static [u8]
         Wanted::PartialLine => {
             b"`[<n> ]P<p> [<runner> ]<event> <answer>` and fields behind it, each as a trace has it, and the line's own number\n"
         }
-        Wanted::Processor
-        | Wanted::Mark(..)
-        | Wanted::Argument(..)
-        | Wanted::CallEnd(_)
-        | Wanted::LineNumber(_)
-        | Wanted::Printed(_) => b"",
+        _ => script_words(wanted),
     }
 }
 
 /// Adds that a processor of the machine is wanted.
 #[tactic(auto, unfolding(crate::specs::Wanted::processors))]
-fn put_processors(out: &mut Vec<u8>, processors: u8) -> Result<(), AllocError>
+pub fn put_processors(out: &mut Vec<u8>, processors: u8) -> Result<(), AllocError>
     ensures { OnOk result (out.new.items ≡ out.old.items ++ spec.processors processors) }
 {
     let mut buffer = Buffer::new();

@@ -1,0 +1,212 @@
+//! Where a line of a script text is at fault that says where its script goes on.
+ghost use Rattle.std.specs.Prelude.{◌≡◌};
+ghost use Rattle.fmp_cli_hints.specs.Ways as spec;
+
+use crate::event::barred;
+use crate::text::step_place;
+use crate::walk::{Walk, ending};
+use crate::wanted::Wanted;
+use fmp_bytes::{Class, all_of, behind, is_identifier, skip, spelled_number, split_prefix};
+use fmp_codes::Code;
+use fmp_text::Names;
+
+/// Whether a word is one of those by which C programs choose and repeat.
+fn is_of_c(word: &[u8]) -> bool
+    ensures { result ≡ spec.is_of_c word.now }
+{
+    word == b"if".as_slice()
+        || word == b"else".as_slice()
+        || word == b"while".as_slice()
+        || word == b"for".as_slice()
+        || word == b"do".as_slice()
+        || word == b"switch".as_slice()
+        || word == b"break".as_slice()
+        || word == b"continue".as_slice()
+        || word == b"return".as_slice()
+}
+
+/// Whether a word begins a line of a script, so that no label has it.
+fn is_taken(word: &[u8]) -> bool
+    ensures { result ≡ spec.is_taken word.now }
+{
+    word == b"script".as_slice()
+        || word == b"end".as_slice()
+        || word == b"ret_hdr".as_slice()
+        || word == b"on".as_slice()
+        || word == b"goto".as_slice()
+}
+
+/// Whether a word is the name of a code.
+pub(crate) fn is_code(word: &[u8]) -> bool
+    ensures { result ≡ spec.is_code word.now }
+{
+    Code::ALL.iter().any(|code| code.name().as_bytes() == word)
+}
+
+/// From a byte on that stands in no line of a script text: one of those with which C programs set variables and put statements together, or another.
+#[tactic(auto, unfolding(crate::specs::Ways::byte_place))]
+fn byte_place<'a>(text: &'a [u8]) -> Walk<'a>
+    ensures { result ≡ spec.byte_place text.now }
+{
+    match text {
+        [b'{' | b'}' | b'=', ..] => Walk::stuck(text, Wanted::Jumps),
+        _ => barred(text),
+    }
+}
+
+/// Whether a byte may stand in a line of a script text.
+fn may_stand(byte: u8) -> bool
+    ensures { result ≡ spec.may_stand byte }
+{
+    Class::Line.has(byte) || byte == b':'
+}
+
+/// From the first byte on that stands in no line of a script text.
+fn behind_line(line: &[u8]) -> &[u8]
+    ensures { result.now ≡ spec.behind_line line.now }
+{
+    for (index, byte) in line.iter().enumerate() {
+        if !may_stand(*byte) {
+            return &line[index..];
+        }
+    }
+    &[]
+}
+
+/// A line with a byte that may not stand there. A colon may, but in no call.
+#[tactic(auto, unfolding(crate::specs::Ways::barred_place))]
+pub(crate) fn barred_place<'a>(line: &'a [u8]) -> Walk<'a>
+    ensures { result ≡ spec.barred_place line.now }
+{
+    let (word, _rest) = split_prefix(Class::Word, skip(Class::Blank, line));
+    let rest = behind_line(line);
+    if is_of_c(word) {
+        return Walk::stuck(skip(Class::Blank, line), Wanted::Jumps);
+    }
+    if rest.is_empty() {
+        barred(skip(Class::Line, line))
+    } else {
+        byte_place(rest)
+    }
+}
+
+/// A line whose first word may not stand there: a word of C, a jump that stands behind no call, one that begins another script, or another.
+#[tactic(auto, unfolding(crate::specs::Ways::word_place))]
+pub(crate) fn word_place<'a>(text: &'a [u8]) -> Walk<'a>
+    ensures { result ≡ spec.word_place text.now }
+{
+    let (word, _rest) = split_prefix(Class::Word, text);
+    if is_of_c(word) {
+        return Walk::stuck(text, Wanted::Jumps);
+    }
+    if word == b"on".as_slice() || word == b"goto".as_slice() {
+        return Walk::stuck(text, Wanted::JumpPlace);
+    }
+    if word == b"script".as_slice() {
+        return Walk::stuck(text, Wanted::ScriptEnd);
+    }
+    Walk::stuck(text, Wanted::Step)
+}
+
+/// The name of a label, and the end of the line.
+#[tactic(auto, unfolding(crate::specs::Ways::name_place))]
+fn name_place<'a>(text: &'a [u8]) -> Walk<'a>
+    ensures { result ≡ spec.name_place text.now }
+{
+    let (name, rest) = split_prefix(Class::Word, text);
+    if is_identifier(name) && !is_taken(name) {
+        ending(Wanted::LineEnd, Walk::going(rest))
+    } else {
+        Walk::stuck(text, Wanted::LabelName)
+    }
+}
+
+/// `goto` and the name of a label.
+#[tactic(auto, unfolding(crate::specs::Ways::goal_place))]
+fn goal_place<'a>(text: &'a [u8]) -> Walk<'a>
+    ensures { result ≡ spec.goal_place text.now }
+{
+    let (word, rest) = split_prefix(Class::Word, text);
+    if word == b"goto".as_slice() {
+        name_place(skip(Class::Blank, rest))
+    } else {
+        Walk::stuck(text, Wanted::Goal)
+    }
+}
+
+/// The value of an answer, where it is out of its range or not, and what follows it.
+#[tactic(auto, unfolding(crate::specs::Ways::value_place))]
+fn value_place<'a>(ranged: bool, text: &'a [u8]) -> Walk<'a>
+    ensures { result ≡ spec.value_place ranged text.now }
+{
+    let (number, rest) = split_prefix(Class::Argument, text);
+    if ranged || spelled_number(number).is_none() {
+        Walk::stuck(text, Wanted::AnsweredValue)
+    } else {
+        goal_place(skip(Class::Blank, rest))
+    }
+}
+
+/// What follows `on`: an answer, and what follows it.
+#[tactic(auto, unfolding(crate::specs::Ways::turn_place))]
+fn turn_place<'a>(ranged: bool, text: &'a [u8]) -> Walk<'a>
+    ensures { result ≡ spec.turn_place ranged text.now }
+{
+    let (word, rest) = split_prefix(Class::Word, text);
+    match behind(b':', rest) {
+        Some(number) => {
+            if is_code(word) {
+                value_place(ranged, number)
+            } else {
+                Walk::stuck(text, Wanted::Answered)
+            }
+        }
+        None => {
+            if word == b"refused".as_slice() || is_code(word) {
+                goal_place(skip(Class::Blank, rest))
+            } else {
+                Walk::stuck(text, Wanted::Answered)
+            }
+        }
+    }
+}
+
+/// A label, with what follows its colon.
+#[tactic(auto, unfolding(crate::specs::Ways::label_place))]
+fn label_place<'a>(text: &'a [u8], after: &'a [u8]) -> Walk<'a>
+    ensures { result ≡ spec.label_place text.now after.now }
+{
+    let (name, _rest) = split_prefix(Class::Word, text);
+    if !is_identifier(name) {
+        return Walk::stuck(text, Wanted::LabelName);
+    }
+    if all_of(Class::Blank, after) {
+        Walk::stuck(text, Wanted::NewLabel)
+    } else {
+        Walk::stuck(skip(Class::Blank, after), Wanted::LineEnd)
+    }
+}
+
+/// A line that says where its script goes on, or a step: whether a number in it is out of its range is known.
+#[tactic(auto, unfolding(crate::specs::Ways::line_place))]
+pub(crate) fn line_place<'a>(names: &Names, ranged: bool, text: &'a [u8]) -> Walk<'a>
+    ensures { result ≡ spec.line_place names.now ranged text.now }
+{
+    let (word, rest) = split_prefix(Class::Word, text);
+    if word == b"on".as_slice() {
+        return turn_place(ranged, skip(Class::Blank, rest));
+    }
+    if word == b"goto".as_slice() {
+        return name_place(skip(Class::Blank, rest));
+    }
+    if word == b"end".as_slice() && all_of(Class::Blank, rest) {
+        return Walk::stuck(text, Wanted::Labels);
+    }
+    if is_taken(word) {
+        return step_place(names, text);
+    }
+    match behind(b':', skip(Class::Blank, rest)) {
+        Some(after) => label_place(text, after),
+        None => step_place(names, text),
+    }
+}
