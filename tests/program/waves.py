@@ -336,19 +336,30 @@ def reader_reads_the_standard():
 OF_PROCESSOR = (("string", 1, "r", "running"), ("string", 1, "c", "call"), ("wire", 1, "l", "locked"), ("wire", 1, "d", "disabled"),
                 ("wire", 1, "i", "latch"), ("string", 1, "h", "due"), ("event", 1, "t", "tick"))
 # The objects that have a number: their statement, the letter and the last word of their signal, and which field is the number at boot.
-OF_OBJECTS = (("CRE_SEM", "S", "count", 1), ("CRE_FLG", "F", "pattern", 1), ("CRE_DTQ", "D", "values", None), ("CRE_MPF", "M", "free", 1))
+OF_OBJECTS = (("CRE_SEM", "S", "count", 1), ("CRE_FLG", "F", "pattern", 1), ("CRE_DTQ", "D", "values", None), ("CRE_MPF", "M", "free", 1),
+              ("CRE_SPN", "X", "holder", None))
+# What is told of a task: the kind, the width, the letter and the word.
+OF_TASK = (("string", 1, "s", "state"), ("string", 1, "w", "wait"), ("integer", 32, "p", "priority"), ("integer", 32, "a", "activations"),
+           ("integer", 32, "u", "wakeups"))
 COMMENT_OR_STRING = re.compile(r'/\*.*?\*/|//[^\n]*|"(?:\\.|[^"\\])*"', re.S)
 
 
+def defined_in(text):
+    return dict(re.findall(r"^[ \t]*#[ \t]*define[ \t]+(\w+)[ \t]+(\w+)[ \t]*$", text, re.M))
+
+
 def tasks_of(machine):
-    """The tasks of a configuration, in their order."""
-    return re.findall(r"\bCRE_TSK\s*\(\s*(\w+)", COMMENT_OR_STRING.sub(" ", machine))
+    """The tasks of a configuration with their priorities at boot, in their order."""
+    text = COMMENT_OR_STRING.sub(" ", machine)
+    tasks = re.findall(r"\bCRE_TSK\s*\(\s*(\w+)\s*,\s*\{([^}]*)\}", text)
+    words = {name: fields.split(",")[3].strip() for name, fields in tasks}
+    return {name: int(defined_in(text).get(word, word), 0) for name, word in words.items()}
 
 
 def numbers_of(machine):
     """The objects of a configuration that have a number, with what that is called and what it is at boot, in the order of their kinds."""
     text = COMMENT_OR_STRING.sub(" ", machine)
-    defined = dict(re.findall(r"^[ \t]*#[ \t]*define[ \t]+(\w+)[ \t]+(\w+)[ \t]*$", text, re.M))
+    defined = defined_in(text)
     for statement, letter, word, place in OF_OBJECTS:
         for n, (name, fields) in enumerate(re.findall(statement + r"\s*\(\s*(\w+)\s*,\s*\{([^}]*)\}", text), 1):
             number = "0" if place is None else fields.split(",")[place].strip()
@@ -360,7 +371,7 @@ def declared(processors, machine):
     for p in range(1, processors + 1):
         yield from (Variable(f"P{p}", kind, width, f"{letter}{p}", f"P{p}_{word}") for kind, width, letter, word in OF_PROCESSOR)
     for n, task in enumerate(tasks_of(machine), 1):
-        yield from (Variable("tasks", "string", 1, f"{word[0]}{n}", f"{task}_{word}") for word in ("state", "wait"))
+        yield from (Variable("tasks", kind, width, f"{letter}{n}", f"{task}_{word}") for kind, width, letter, word in OF_TASK)
     yield from (Variable("objects", "integer", 32, f"{letter}{n}", f"{name}_{word}") for letter, n, name, word, _ in numbers_of(machine))
 
 
@@ -380,6 +391,7 @@ def values_of(state, machine):
     """What each variable but the calls has to say in a state, by its name."""
     tasks, numbers = tasks_of(machine), {(name, word): number for _, _, name, word, number in numbers_of(machine)}
     values = {f"{task}_state": "dormant" for task in tasks} | {f"{task}_wait": "-" for task in tasks}
+    told_of = {}
     for words in state:
         parts = dict(part.split("=", 1) for part in words[1:] if "=" in part)
         if "run" in parts:
@@ -392,8 +404,11 @@ def values_of(state, machine):
                 values[f"{task}_state"] = "ready"
             values[f"{running}_state"] = "running"
         for word, part in parts.items():
+            word, part = ("holder", part[1:]) if word == "held" else (word, part)
             if (words[0], word) in numbers:
                 numbers[words[0], word] = len(part.split(",")) if word == "values" else int(part)
+        if words[0] in tasks:
+            told_of[words[0]] = parts
     for task, *words in state:
         if words[0] in ("suspended", "waits"):
             told = ["waiting"] * ("waits" in words[:2]) + ["suspended"] * (words[0] == "suspended")
@@ -401,6 +416,10 @@ def values_of(state, machine):
         if task in tasks and "waits" in words[:2]:
             kind, *name = words[words.index("waits") + 1:][:2]
             values[f"{task}_wait"] = kind if kind in ("slp", "dly") else f"{kind}:{name[0]}"
+    # a dormant task has no numbers, and of another those are told that are not as at its start
+    for task, priority in tasks.items():
+        for word, part, usual in (("priority", "pri", priority), ("activations", "act", 0), ("wakeups", "wup", 0)):
+            numbers[task, word] = 0 if values[f"{task}_state"] == "dormant" else int(told_of.get(task, {}).get(part, usual))
     return values | {f"{name}_{word}": f"{number:b}" for (name, word), number in numbers.items()}
 
 
@@ -452,7 +471,7 @@ def replay(machine, trace, told, wave):
 
 
 # How GTKWave shows a value: bits and strings as they are, a number in decimal, a pattern in hexadecimal.
-FORMATS = {"count": "@24", "pattern": "@22", "values": "@24", "free": "@24"}
+FORMATS = {word: "@24" for word in ("priority", "activations", "wakeups", "count", "values", "free", "holder")} | {"pattern": "@22"}
 
 
 def saves(save, wave):

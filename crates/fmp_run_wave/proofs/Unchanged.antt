@@ -13,12 +13,14 @@ use Rattle.fmp_trace.specs.Lines.{runner_text, running_text}
 use Rattle.fmp_run_wave.specs.declared.resource.Resource.{Resource}
 use Rattle.fmp_run_wave.specs.declared.resource.Resource.TheVariants as resources
 use Rattle.fmp_run_wave.specs.declared.signal.Signal.{Signal}
+use Rattle.fmp_run_wave.specs.declared.signal.Signal.TheVariants as signals
 use Rattle.fmp_run_wave.specs.declared.snapshot.ShownProcessor.{ShownProcessor}
+use Rattle.fmp_run_wave.specs.declared.snapshot.TaskNumbers.{TaskNumbers}
 use Rattle.fmp_rules.specs.declared.states.TaskState.{TaskState}
 use Rattle.fmp_rules.specs.declared.states.TaskState.TheVariants.{Dormant}
-use Rattle.fmp_run_wave.specs.Changes.{bit_change, changes_text, flag_changes, if_other, number_changed, numbers_changes, objects_changes, processor_changed, processor_changes, state_change, task_changed, wait_change}
+use Rattle.fmp_run_wave.specs.Changes.{bit_change, changes_text, counts_change, flag_changes, if_other, number_change, number_changed, numbers_changes, objects_changes, processor_changed, processor_changes, state_change, task_changed, wait_change}
 use Rattle.fmp_run_wave.specs.Listing.{each}
-use Rattle.fmp_run_wave.specs.Shown.{Shown, number_at, numbers_of, on_processor, shown_of, state_of, wait_of}
+use Rattle.fmp_run_wave.specs.Shown.{Shown, counts_of, no_numbers, number_at, numbers_of, on_processor, shown_of, state_of, wait_of}
 use Rattle.fmp_run_wave.specs.Values.{due_value, running_value, state_value, state_word, wait_text, wait_value}
 use Rattle.fmp_run_wave.specs.Waves.{Picture, shown_behind}
 
@@ -68,14 +70,27 @@ same_wait lists t x y same = none_of_same (wait_text lists x) (wait_text lists y
 pub no_wait_line : (lists : NameLists) (t : Task) (x y : Option Wait) (out : List ℕ) → x ≡ y → out ≡ out ++ wait_change lists t x y
 no_wait_line lists t x y out same = nothing_more out _ (same_wait lists t x y same)
 
-module _ (lists : NameLists) (before after : Shown) (states : before.tasks ≡ after.tasks) (waits : before.waits ≡ after.waits) where
+no_change : (signal : Signal) (n number : ℕ) → number_change signal n number number ≡ []
+no_change signal n number = let same = eq-eqb number number refl in rw same refl
+
+same_counts : (t : Task) (x y : TaskNumbers) → x ≡ y → counts_change t x y ≡ []
+unfolding counts_change
+same_counts t x y same =
+    rw same
+    (both_nothing _ _ (both_nothing _ _ (no_change signals.Priority t.number y.priority) (no_change signals.Activations t.number y.activations))
+    (no_change signals.Wakeups t.number y.wakeups))
+
+module _ (lists : NameLists) (before after : Shown) (states : before.tasks ≡ after.tasks) (waits : before.waits ≡ after.waits)
+    (counts : before.counts ≡ after.counts) where
   same_task : (n : ℕ) → task_changed lists before after n ≡ []
   unfolding task_changed
   same_task n =
       let t : Task = as_task n in
       both_nothing _ _
+      (both_nothing _ _
       (same_state t (state_of before t) (state_of after t) (ap (λ (xs : List TaskState). item Dormant xs t.number) states))
-      (same_wait lists t (wait_of before t) (wait_of after t) (ap (λ (xs : List (Option Wait)). item None xs t.number) waits))
+      (same_wait lists t (wait_of before t) (wait_of after t) (ap (λ (xs : List (Option Wait)). item None xs t.number) waits)))
+      (same_counts t (counts_of before t) (counts_of after t) (ap (λ (xs : List TaskNumbers). item no_numbers xs t.number) counts))
 
   pub no_tasks_lines : (n : ℕ) (out : List ℕ) → out ≡ out ++ each (task_changed lists before after) n
   no_tasks_lines n out = nothing_more out _ (none_of_each (task_changed lists before after) n same_task)
@@ -92,15 +107,17 @@ module _ (s : Shown) where
   unfolding objects_changes
   same_objects =
       both_nothing _ _
+      (both_nothing _ _
       (both_nothing _ _ (both_nothing _ _ (same_numbers resources.Semaphore) (same_numbers resources.Eventflag)) (same_numbers resources.DataQueue))
-      (same_numbers resources.Pool)
+      (same_numbers resources.Pool))
+      (same_numbers resources.SpinLock)
 
   same_all : (lists : NameLists) → changes_text lists s s ≡ []
   unfolding changes_text
   same_all lists =
       both_nothing _ _
       (both_nothing _ _ (none_of_each (processor_changed lists s s) (length s.processors) (same_processors lists s))
-      (none_of_each (task_changed lists s s) (length s.tasks) (same_task lists s s refl refl)))
+      (none_of_each (task_changed lists s s) (length s.tasks) (same_task lists s s refl refl refl)))
       same_objects
 
 -- a picture in which all is shown as before

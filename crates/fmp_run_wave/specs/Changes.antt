@@ -13,10 +13,11 @@ use Rattle.fmp_run_wave.specs.declared.resource.Resource.TheVariants as resource
 use Rattle.fmp_run_wave.specs.declared.signal.Signal.{Signal}
 use Rattle.fmp_run_wave.specs.declared.signal.Signal.TheVariants as signals
 use Rattle.fmp_run_wave.specs.declared.snapshot.ShownProcessor.{ShownProcessor}
+use Rattle.fmp_run_wave.specs.declared.snapshot.TaskNumbers.{TaskNumbers}
 use Rattle.fmp_rules.specs.declared.states.TaskState.{TaskState}
 use Rattle.fmp_run_wave.specs.Listing.{each}
 use Rattle.fmp_run_wave.specs.Resources.{signal_of}
-use Rattle.fmp_run_wave.specs.Shown.{Shown, number_at, numbers_of, on_processor, state_of, wait_of}
+use Rattle.fmp_run_wave.specs.Shown.{Shown, counts_of, number_at, numbers_of, on_processor, state_of, wait_of}
 use Rattle.fmp_run_wave.specs.Values.{bit_value, due_value, number_value, running_value, state_value, state_word, wait_text, wait_value}
 
 -- a line, if the text of its value is not the old one
@@ -54,9 +55,16 @@ state_change t old new = if_other (state_word old) (state_word new) (state_value
 abbrev pub wait_change : NameLists → Task → Option Wait → Option Wait → List ℕ
 wait_change lists t old new = if_other (wait_text lists old) (wait_text lists new) (wait_value lists t new)
 
--- the number of an object
+-- a number
 abbrev pub number_change : Signal → ℕ → ℕ → ℕ → List ℕ
 number_change signal n old new = if old == new then [] else number_value signal n new
+
+-- the numbers of a task
+unfoldable pub counts_change : Task → TaskNumbers → TaskNumbers → List ℕ
+counts_change t old new =
+    number_change signals.Priority t.number old.priority new.priority
+    ++ number_change signals.Activations t.number old.activations new.activations
+    ++ number_change signals.Wakeups t.number old.wakeups new.wakeups
 
 module _ (lists : NameLists) (old new : Shown) where
   -- of the processor, and of the task, of this number
@@ -67,6 +75,7 @@ module _ (lists : NameLists) (old new : Shown) where
   task_changed n =
       state_change (as_task n) (state_of old (as_task n)) (state_of new (as_task n))
       ++ wait_change lists (as_task n) (wait_of old (as_task n)) (wait_of new (as_task n))
+      ++ counts_change (as_task n) (counts_of old (as_task n)) (counts_of new (as_task n))
 
 module _ (old new : Shown) where
   -- of the object of a kind with this number
@@ -83,6 +92,7 @@ module _ (old new : Shown) where
       ++ numbers_changes resources.Eventflag
       ++ numbers_changes resources.DataQueue
       ++ numbers_changes resources.Pool
+      ++ numbers_changes resources.SpinLock
 
 -- of all signals but the calls, which are told of each event
 unfoldable pub changes_text : NameLists → Shown → Shown → List ℕ

@@ -33,6 +33,10 @@ format signals.Count = codes "@24\n"
 format signals.Pattern = codes "@22\n"
 format signals.Values = codes "@24\n"
 format signals.Free = codes "@24\n"
+format signals.Holder = codes "@24\n"
+format signals.Priority = codes "@24\n"
+format signals.Activations = codes "@24\n"
+format signals.Wakeups = codes "@24\n"
 format _ = codes "@28\n"
 
 -- its declaration in a waveform
@@ -77,7 +81,12 @@ module _ (form : Form) (lists : NameLists) where
   processor_scope n = scope_begin form (scopes.Processor n) ++ processor_signals n ++ scope_end form
 
   unfoldable pub task_signals : ℕ → List ℕ
-  task_signals n = line form lists signals.State n ++ line form lists signals.Wait n
+  task_signals n =
+      line form lists signals.State n
+      ++ line form lists signals.Wait n
+      ++ line form lists signals.Priority n
+      ++ line form lists signals.Activations n
+      ++ line form lists signals.Wakeups n
 
   -- the scope of the first n tasks
   unfoldable pub tasks_scope : ℕ → List ℕ
@@ -96,6 +105,7 @@ module _ (form : Form) (c : Setup) where
       ++ resource_signals resources.Eventflag
       ++ resource_signals resources.DataQueue
       ++ resource_signals resources.Pool
+      ++ resource_signals resources.SpinLock
       ++ scope_end form
 
   -- of all signals

@@ -7,7 +7,7 @@ use Rattle.fmp_trace.specs.Values.{named}
 use Rattle.fmp_run_wave.specs.declared.signal.Scope.{Scope}
 use Rattle.fmp_run_wave.specs.declared.signal.Scope.TheVariants as scopes
 use Rattle.fmp_run_wave.specs.declared.signal.Signal.{Signal}
-use Rattle.fmp_run_wave.specs.declared.signal.Signal.TheVariants.{Running, Call, Locked, Disabled, Latch, Due, Tick, State, Wait, Count, Pattern, Values, Free}
+use Rattle.fmp_run_wave.specs.declared.signal.Signal.TheVariants.{Running, Call, Locked, Disabled, Latch, Due, Tick, State, Wait, Priority, Activations, Wakeups, Count, Pattern, Values, Free, Holder}
 
 abbrev pub letter : Signal → List ℕ
 letter Running = codes "r"
@@ -19,10 +19,14 @@ letter Due = codes "h"
 letter Tick = codes "t"
 letter State = codes "s"
 letter Wait = codes "w"
+letter Priority = codes "p"
+letter Activations = codes "a"
+letter Wakeups = codes "u"
 letter Count = codes "S"
 letter Pattern = codes "F"
 letter Values = codes "D"
 letter Free = codes "M"
+letter Holder = codes "X"
 
 -- the last word of its names. No two have the same, and none has a `_`, so a name tells its signal
 abbrev pub word : Signal → List ℕ
@@ -35,29 +39,41 @@ word Due = codes "due"
 word Tick = codes "tick"
 word State = codes "state"
 word Wait = codes "wait"
+word Priority = codes "priority"
+word Activations = codes "activations"
+word Wakeups = codes "wakeups"
 word Count = codes "count"
 word Pattern = codes "pattern"
 word Values = codes "values"
 word Free = codes "free"
+word Holder = codes "holder"
 
 -- the kind of objects that have it, or none where processors have it
 abbrev pub owner : Signal → Option ObjectKind
 owner State = Some objects.Task
 owner Wait = Some objects.Task
+owner Priority = Some objects.Task
+owner Activations = Some objects.Task
+owner Wakeups = Some objects.Task
 owner Count = Some objects.Semaphore
 owner Pattern = Some objects.Eventflag
 owner Values = Some objects.DataQueue
 owner Free = Some objects.Pool
+owner Holder = Some objects.SpinLock
 owner _ = None
 
 -- where that of the processor, task or object with this number stands
 abbrev pub scope_of : Signal → ℕ → Scope
 scope_of State n = scopes.Tasks
 scope_of Wait n = scopes.Tasks
+scope_of Priority n = scopes.Tasks
+scope_of Activations n = scopes.Tasks
+scope_of Wakeups n = scopes.Tasks
 scope_of Count n = scopes.Objects
 scope_of Pattern n = scopes.Objects
 scope_of Values n = scopes.Objects
 scope_of Free n = scopes.Objects
+scope_of Holder n = scopes.Objects
 scope_of _ n = scopes.Processor n
 
 -- the signal of the processor, task or object with this number

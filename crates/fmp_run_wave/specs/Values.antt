@@ -17,11 +17,12 @@ use Rattle.fmp_run_wave.specs.declared.resource.Resource.TheVariants as resource
 use Rattle.fmp_run_wave.specs.declared.signal.Signal.{Signal}
 use Rattle.fmp_run_wave.specs.declared.signal.Signal.TheVariants as signals
 use Rattle.fmp_run_wave.specs.declared.snapshot.ShownProcessor.{ShownProcessor}
+use Rattle.fmp_run_wave.specs.declared.snapshot.TaskNumbers.{TaskNumbers}
 use Rattle.fmp_rules.specs.declared.states.TaskState.{TaskState}
 use Rattle.fmp_rules.specs.declared.states.TaskState.TheVariants as states
 use Rattle.fmp_run_wave.specs.Listing.{each}
 use Rattle.fmp_run_wave.specs.Resources.{signal_of}
-use Rattle.fmp_run_wave.specs.Shown.{Shown, number_at, numbers_of, on_processor, state_of, wait_of}
+use Rattle.fmp_run_wave.specs.Shown.{Shown, counts_of, number_at, numbers_of, on_processor, state_of, wait_of}
 use Rattle.fmp_run_wave.specs.Signals.{identifier}
 
 -- what stands behind a value of more than a bit
@@ -93,13 +94,23 @@ wait_text lists (Some (waits.Pool m)) = object_wait lists (codes "mpf") objects.
 abbrev pub wait_value : NameLists → Task → Option Wait → List ℕ
 wait_value lists t wait = text_value signals.Wait t.number (wait_text lists wait)
 
+-- the numbers of a task
+unfoldable pub counts_values : Task → TaskNumbers → List ℕ
+counts_values t x =
+    number_value signals.Priority t.number x.priority
+    ++ number_value signals.Activations t.number x.activations
+    ++ number_value signals.Wakeups t.number x.wakeups
+
 module _ (lists : NameLists) (s : Shown) where
   -- of the processor, and of the task, of this number
   unfoldable pub processor_lines : ℕ → List ℕ
   processor_lines n = processor_values lists (as_proc n) (on_processor s (as_proc n))
 
   unfoldable pub task_lines : ℕ → List ℕ
-  task_lines n = state_value (as_task n) (state_of s (as_task n)) ++ wait_value lists (as_task n) (wait_of s (as_task n))
+  task_lines n =
+      state_value (as_task n) (state_of s (as_task n))
+      ++ wait_value lists (as_task n) (wait_of s (as_task n))
+      ++ counts_values (as_task n) (counts_of s (as_task n))
 
 -- of the object of a kind with this number
 unfoldable pub number_line : Shown → Resource → ℕ → List ℕ
@@ -115,6 +126,7 @@ objects_values s =
     ++ numbers_values s resources.Eventflag
     ++ numbers_values s resources.DataQueue
     ++ numbers_values s resources.Pool
+    ++ numbers_values s resources.SpinLock
 
 unfoldable pub values_text : NameLists → Shown → List ℕ
 values_text lists s = each (processor_lines lists s) (length s.processors) ++ each (task_lines lists s) (length s.tasks) ++ objects_values s

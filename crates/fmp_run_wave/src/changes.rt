@@ -10,7 +10,7 @@ ghost use Rattle.fmp_run_wave.specs.Waves as waves;
 
 use crate::resource::{Resource, signal_of};
 use crate::signal::Signal;
-use crate::snapshot::{ShownProcessor, Snapshot};
+use crate::snapshot::{ShownProcessor, Snapshot, TaskNumbers};
 use crate::values::{
     put_bit_value, put_due_value, put_number_value, put_running_value, put_state_value,
     put_value_end, put_wait, put_wait_value, state_word,
@@ -321,6 +321,57 @@ fn put_wait_change(
     Ok(())
 }
 
+/// Adds the line of a number, if it changed.
+#[inline(always)]
+fn put_number_change(
+    out: &mut Vec<u8>,
+    signal: Signal,
+    number: u8,
+    old: u64,
+    new: u64,
+) -> Result<(), AllocError>
+    ensures { OnOk result (out.new.items ≡ out.old.items ++ spec.number_change signal number old new) }
+{
+    if old != new {
+        put_number_value(out, signal, number, new)?;
+    }
+    Ok(())
+}
+
+/// Adds the lines of those of a task's numbers that changed.
+#[inline(always)]
+#[tactic(auto, unfolding(crate::specs::Changes::counts_change))]
+fn put_counts_change(
+    out: &mut Vec<u8>,
+    t: Task,
+    old: TaskNumbers,
+    new: TaskNumbers,
+) -> Result<(), AllocError>
+    ensures { OnOk result (out.new.items ≡ out.old.items ++ spec.counts_change t old new) }
+{
+    put_number_change(
+        out,
+        Signal::Priority,
+        t.number,
+        u64::from(old.priority),
+        u64::from(new.priority),
+    )?;
+    put_number_change(
+        out,
+        Signal::Activations,
+        t.number,
+        u64::from(old.activations),
+        u64::from(new.activations),
+    )?;
+    put_number_change(
+        out,
+        Signal::Wakeups,
+        t.number,
+        u64::from(old.wakeups),
+        u64::from(new.wakeups),
+    )
+}
+
 /// Adds the lines of those signals of the task at a place that changed.
 #[inline(always)]
 #[tactic(auto, unfolding(crate::specs::Changes::task_changed))]
@@ -337,7 +388,8 @@ fn put_task_change(
 {
     let t = Task::from_index(index);
     put_found_change(out, t, old, new)?;
-    put_wait_change(out, texts, names, t, old.wait(t), new.wait(t))
+    put_wait_change(out, texts, names, t, old.wait(t), new.wait(t))?;
+    put_counts_change(out, t, old.counts(t), new.counts(t))
 }
 
 /// Adds the lines of those signals of tasks that changed, one task after the other.
@@ -370,23 +422,6 @@ fn put_tasks_changes(
         return Ok(());
     }
     put_each_change(out, texts, names, old, new)
-}
-
-/// Adds the line of a number, if it changed.
-#[inline(always)]
-fn put_number_change(
-    out: &mut Vec<u8>,
-    signal: Signal,
-    number: u8,
-    old: u64,
-    new: u64,
-) -> Result<(), AllocError>
-    ensures { OnOk result (out.new.items ≡ out.old.items ++ spec.number_change signal number old new) }
-{
-    if old != new {
-        put_number_value(out, signal, number, new)?;
-    }
-    Ok(())
 }
 
 /// Adds the line of the object of a kind at a place, if its number changed.
@@ -435,7 +470,8 @@ fn put_objects_changes(out: &mut Vec<u8>, old: &Snapshot, new: &Snapshot) -> Res
     put_numbers_changes(out, old, new, Resource::Semaphore)?;
     put_numbers_changes(out, old, new, Resource::Eventflag)?;
     put_numbers_changes(out, old, new, Resource::DataQueue)?;
-    put_numbers_changes(out, old, new, Resource::Pool)
+    put_numbers_changes(out, old, new, Resource::Pool)?;
+    put_numbers_changes(out, old, new, Resource::SpinLock)
 }
 
 /// Adds the lines of the signals that changed, in the order of their declarations.

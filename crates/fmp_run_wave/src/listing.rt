@@ -26,7 +26,14 @@ fn kind(signal: Signal) -> &'static [u8]
         Signal::Running | Signal::Call | Signal::Due | Signal::State | Signal::Wait => b"string 1",
         Signal::Locked | Signal::Disabled | Signal::Latch => b"wire 1",
         Signal::Tick => b"event 1",
-        Signal::Count | Signal::Pattern | Signal::Values | Signal::Free => b"integer 32",
+        Signal::Priority
+        | Signal::Activations
+        | Signal::Wakeups
+        | Signal::Count
+        | Signal::Pattern
+        | Signal::Values
+        | Signal::Free
+        | Signal::Holder => b"integer 32",
     }
 }
 
@@ -35,7 +42,13 @@ fn format(signal: Signal) -> &'static [u8]
     ensures { result.now ≡ spec.format signal }
 {
     match signal {
-        Signal::Count | Signal::Values | Signal::Free => b"@24\n",
+        Signal::Priority
+        | Signal::Activations
+        | Signal::Wakeups
+        | Signal::Count
+        | Signal::Values
+        | Signal::Free
+        | Signal::Holder => b"@24\n",
         Signal::Pattern => b"@22\n",
         _ => b"@28\n",
     }
@@ -183,7 +196,10 @@ fn put_task_signals(
     ensures { OnOk result (out.new.items ≡ out.old.items ++ spec.task_signals form names.now number) }
 {
     put_line(out, form, names, Signal::State, number)?;
-    put_line(out, form, names, Signal::Wait, number)
+    put_line(out, form, names, Signal::Wait, number)?;
+    put_line(out, form, names, Signal::Priority, number)?;
+    put_line(out, form, names, Signal::Activations, number)?;
+    put_line(out, form, names, Signal::Wakeups, number)
 }
 
 /// Adds the signals of the first so many tasks.
@@ -263,6 +279,7 @@ fn put_objects_scope(out: &mut Vec<u8>, form: Form, config: &Config) -> Result<(
     put_resource_signals(out, form, config, Resource::Eventflag)?;
     put_resource_signals(out, form, config, Resource::DataQueue)?;
     put_resource_signals(out, form, config, Resource::Pool)?;
+    put_resource_signals(out, form, config, Resource::SpinLock)?;
     put_scope_end(out, form)
 }
 

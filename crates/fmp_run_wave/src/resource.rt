@@ -3,7 +3,7 @@ ghost use Rattle.std.specs.Prelude.{◌≡◌, ◌≤◌};
 ghost use Rattle.fmp_run_wave.specs.Resources as spec;
 
 use crate::signal::Signal;
-use fmp_codes::Object;
+use fmp_codes::{Object, Proc};
 use fmp_plain_machine::PlainMachine;
 use fmp_rules::Config;
 use fmp_step_words::Objects;
@@ -19,6 +19,8 @@ pub enum Resource {
     DataQueue,
     /// Whose number is how many blocks are free.
     Pool,
+    /// Whose number is that of the processor that holds it, or 0.
+    SpinLock,
 }
 
 /// The signal that shows the number.
@@ -31,6 +33,7 @@ pub(crate) fn signal_of(resource: Resource) -> Signal
         Resource::Eventflag => Signal::Pattern,
         Resource::DataQueue => Signal::Values,
         Resource::Pool => Signal::Free,
+        Resource::SpinLock => Signal::Holder,
     }
 }
 
@@ -44,6 +47,7 @@ pub(crate) fn count(config: &Config, resource: Resource) -> usize
         Resource::Eventflag => config.eventflags().len(),
         Resource::DataQueue => config.data_queues().len(),
         Resource::Pool => config.pools().len(),
+        Resource::SpinLock => usize::from(config.spin_locks()),
     }
 }
 
@@ -58,6 +62,18 @@ pub(crate) fn count_in(machine: &PlainMachine, resource: Resource) -> usize
         Resource::Eventflag => machine.eventflag_count(),
         Resource::DataQueue => machine.data_queue_count(),
         Resource::Pool => machine.pool_count(),
+        Resource::SpinLock => machine.spin_lock_count(),
+    }
+}
+
+/// The number of the processor that holds a spin lock, or 0.
+#[inline(always)]
+fn holder_number(holder: Option<Proc>) -> u64
+    ensures { result ≡ spec.holder_number holder }
+{
+    match holder {
+        None => 0,
+        Some(p) => u64::from(p.number),
     }
 }
 
@@ -71,5 +87,6 @@ pub(crate) fn number_in(machine: &PlainMachine, resource: Resource, o: Object) -
         Resource::Eventflag => u64::from(machine.eventflag(o).pattern),
         Resource::DataQueue => machine.value_count(o) as u64,
         Resource::Pool => machine.pool(o).free_blocks(),
+        Resource::SpinLock => holder_number(machine.holder(o)),
     }
 }

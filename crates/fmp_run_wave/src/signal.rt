@@ -28,6 +28,12 @@ pub enum Signal {
     State,
     /// What a task waits for.
     Wait,
+    /// The priority of a task.
+    Priority,
+    /// How many activations of a task are queued.
+    Activations,
+    /// How many wakeups of a task are queued.
+    Wakeups,
     /// The count of a semaphore.
     Count,
     /// The pattern of an eventflag.
@@ -36,6 +42,8 @@ pub enum Signal {
     Values,
     /// The number of free blocks of a pool.
     Free,
+    /// The processor that holds a spin lock.
+    Holder,
 }
 
 /// What signals stand in: one for each processor, and one each for all tasks and for all objects.
@@ -61,10 +69,14 @@ fn letter(signal: Signal) -> &'static [u8]
         Signal::Tick => b"t",
         Signal::State => b"s",
         Signal::Wait => b"w",
+        Signal::Priority => b"p",
+        Signal::Activations => b"a",
+        Signal::Wakeups => b"u",
         Signal::Count => b"S",
         Signal::Pattern => b"F",
         Signal::Values => b"D",
         Signal::Free => b"M",
+        Signal::Holder => b"X",
     }
 }
 
@@ -82,10 +94,14 @@ fn word(signal: Signal) -> &'static [u8]
         Signal::Tick => b"tick",
         Signal::State => b"state",
         Signal::Wait => b"wait",
+        Signal::Priority => b"priority",
+        Signal::Activations => b"activations",
+        Signal::Wakeups => b"wakeups",
         Signal::Count => b"count",
         Signal::Pattern => b"pattern",
         Signal::Values => b"values",
         Signal::Free => b"free",
+        Signal::Holder => b"holder",
     }
 }
 
@@ -94,11 +110,13 @@ fn owner(signal: Signal) -> Option<ObjectKind>
     ensures { result ≡ spec.owner signal }
 {
     match signal {
-        Signal::State | Signal::Wait => Some(ObjectKind::Task),
+        Signal::State | Signal::Wait | Signal::Priority | Signal::Activations | Signal::Wakeups =>
+            Some(ObjectKind::Task),
         Signal::Count => Some(ObjectKind::Semaphore),
         Signal::Pattern => Some(ObjectKind::Eventflag),
         Signal::Values => Some(ObjectKind::DataQueue),
         Signal::Free => Some(ObjectKind::Pool),
+        Signal::Holder => Some(ObjectKind::SpinLock),
         _ => None,
     }
 }
@@ -108,8 +126,11 @@ fn scope_of(signal: Signal, number: u8) -> Scope
     ensures { result ≡ spec.scope_of signal number }
 {
     match signal {
-        Signal::State | Signal::Wait => Scope::Tasks,
-        Signal::Count | Signal::Pattern | Signal::Values | Signal::Free => Scope::Objects,
+        Signal::State | Signal::Wait | Signal::Priority | Signal::Activations | Signal::Wakeups =>
+            Scope::Tasks,
+        Signal::Count | Signal::Pattern | Signal::Values | Signal::Free | Signal::Holder => {
+            Scope::Objects
+        }
         _ => Scope::Processor(number),
     }
 }

@@ -9,7 +9,7 @@ use arrayvec::ArrayVec;
 use fmp_codes::{Object, Proc, Runner, Task};
 use fmp_kernel_same::{Same, are_equal};
 use fmp_plain_machine::PlainMachine;
-use fmp_rules::{TaskState, Wait};
+use fmp_rules::{TaskRecord, TaskState, Wait};
 use fmp_step_words::Words;
 use fmp_trace_check::is_same;
 use std::marker::Model;
@@ -44,6 +44,32 @@ impl Default for ShownProcessor {
     }
 }
 
+/// The numbers of a task.
+#[derive(Clone, Copy)]
+pub struct TaskNumbers {
+    pub priority: u8,
+    /// How many activations are queued.
+    pub activations: u8,
+    /// How many wakeups are queued.
+    pub wakeups: u16,
+}
+
+impl Default for TaskNumbers {
+    ghost use Rattle.std.specs.Prelude.{◌≡◌};
+    ghost use Rattle.fmp_run_wave.specs.Shown.{no_numbers};
+
+    /// What stands where there is no task, or a dormant one.
+    fn default() -> Self
+        ensures { result ≡ no_numbers }
+    {
+        TaskNumbers {
+            priority: 0,
+            activations: 0,
+            wakeups: 0,
+        }
+    }
+}
+
 /// What is shown of a state. It is compared with what was shown before, and only what changed is written. The states of the tasks
 /// are found where they are asked for: behind most events no task stands in another way.
 #[derive(Drop)]
@@ -55,11 +81,14 @@ pub(crate) struct Snapshot {
     places: ArrayVec<u8, 64>,
     /// What each waits for.
     waits: ArrayVec<Option<Wait>, 64>,
+    /// The numbers of each.
+    counts: ArrayVec<TaskNumbers, 64>,
     /// The numbers of the objects of each kind.
     semaphores: ArrayVec<u64, 32>,
     eventflags: ArrayVec<u64, 32>,
     data_queues: ArrayVec<u64, 32>,
     pools: ArrayVec<u64, 32>,
+    holders: ArrayVec<u64, 32>,
 }
 
 impl Model for Snapshot {
@@ -72,10 +101,12 @@ impl Model for Snapshot {
       processors = a.processors.items;
       tasks = states_at a.processors.items a.kinds.items a.places.items;
       waits = a.waits.items;
+      counts = a.counts.items;
       semaphores = a.semaphores.items;
       eventflags = a.eventflags.items;
       data_queues = a.data_queues.items;
       pools = a.pools.items;
+      holders = a.holders.items;
     } };
 }
 
@@ -163,6 +194,32 @@ fn shown_waits(machine: &PlainMachine) -> ArrayVec<Option<Wait>, 64>
     let mut shown = ArrayVec::new();
     for index in 0..machine.task_count() {
         shown.push(machine.task(Task::from_index(index)).wait);
+    }
+    shown
+}
+
+/// The numbers of a task.
+#[inline(always)]
+fn task_numbers(x: TaskRecord) -> TaskNumbers
+    ensures { result ≡ spec.task_numbers x }
+{
+    if !x.active {
+        return TaskNumbers::default();
+    }
+    TaskNumbers {
+        priority: x.priority.number,
+        activations: x.activations,
+        wakeups: x.wakeups,
+    }
+}
+
+/// The numbers of all tasks.
+fn shown_counts(machine: &PlainMachine) -> ArrayVec<TaskNumbers, 64>
+    ensures { result.items ≡ spec.shown_counts machine.now }
+{
+    let mut shown = ArrayVec::new();
+    for index in 0..machine.task_count() {
+        shown.push(task_numbers(machine.task(Task::from_index(index))));
     }
     shown
 }
@@ -270,6 +327,48 @@ fn show_waits(waits: &[Option<Wait>], machine: &PlainMachine) -> bool
     waits.len() == machine.task_count()
 }
 
+/// Whether two tasks have the same numbers.
+#[inline(always)]
+#[tactic(auto, using(crate::proofs::Equal::same_task_numbers))]
+fn is_same_numbers(a: TaskNumbers, b: TaskNumbers) -> bool
+    ensures { IsTrue result → a ≡ b }
+{
+    a.priority == b.priority && a.activations == b.activations && a.wakeups == b.wakeups
+}
+
+/// Whether these are the numbers of a machine's tasks.
+#[inline(always)]
+fn show_counts(counts: &[TaskNumbers], machine: &PlainMachine) -> bool
+    requires { length counts.now ≤ 64 }
+    ensures { IsTrue result → counts.now ≡ spec.shown_counts machine.now }
+{
+    for (index, numbers) in counts.iter().enumerate() {
+        if !is_same_numbers(
+            *numbers,
+            task_numbers(machine.task(Task::from_index(index))),
+        ) {
+            return false;
+        }
+    }
+    counts.len() == machine.task_count()
+}
+
+/// Whether tasks have the same numbers as others, each as the one in its place.
+fn count_the_same(counts: &[TaskNumbers], others: &[TaskNumbers]) -> bool
+    ensures { IsTrue result → counts.now ≡ others.now }
+{
+    let mut a = counts;
+    let mut b = others;
+    while let ([one, after @ ..], [other, rest @ ..]) = (a, b) {
+        if !is_same_numbers(*one, *other) {
+            return false;
+        }
+        a = after;
+        b = rest;
+    }
+    a.is_empty() && b.is_empty()
+}
+
 /// Whether these are the numbers of a machine's objects of a kind.
 #[inline(always)]
 fn show_numbers(numbers: &[u64], machine: &PlainMachine, resource: Resource) -> bool
@@ -294,10 +393,12 @@ impl Snapshot {
             kinds: copied(machine.kinds()),
             places: copied(machine.places()),
             waits: shown_waits(machine),
+            counts: shown_counts(machine),
             semaphores: shown_numbers(machine, Resource::Semaphore),
             eventflags: shown_numbers(machine, Resource::Eventflag),
             data_queues: shown_numbers(machine, Resource::DataQueue),
             pools: shown_numbers(machine, Resource::Pool),
+            holders: shown_numbers(machine, Resource::SpinLock),
         }
     }
 
@@ -350,6 +451,18 @@ impl Snapshot {
             .unwrap_or(None)
     }
 
+    /// The numbers of a task: none where there is no task, or a dormant one.
+    #[inline(always)]
+    pub(crate) fn counts(&self, t: Task) -> TaskNumbers
+        ensures { result ≡ spec.counts_of self.now t }
+    {
+        self.counts
+            .as_slice()
+            .get(t.index())
+            .copied()
+            .unwrap_or(TaskNumbers::default())
+    }
+
     /// The numbers of the objects of a kind.
     #[inline(always)]
     fn numbers(&self, resource: Resource) -> &[u64]
@@ -361,6 +474,7 @@ impl Snapshot {
             Resource::Eventflag => self.eventflags.as_slice(),
             Resource::DataQueue => self.data_queues.as_slice(),
             Resource::Pool => self.pools.as_slice(),
+            Resource::SpinLock => self.holders.as_slice(),
         }
     }
 
@@ -406,12 +520,16 @@ impl Snapshot {
             && run_the_same(self.processors.as_slice(), other.processors.as_slice())
     }
 
-    /// Whether all tasks are shown as in another snapshot: they stand the same, and wait for the same.
+    /// Whether all tasks are shown as in another snapshot: they stand the same, wait for the same and have the same numbers.
     pub(crate) fn has_same_tasks(&self, other: &Snapshot) -> bool
         ensures states { IsTrue result → self.now.tasks ≡ other.now.tasks }
         ensures waits { IsTrue result → self.now.waits ≡ other.now.waits }
+        ensures counts { IsTrue result → self.now.counts ≡ other.now.counts }
     {
         if !self.has_same_states(other) {
+            return false;
+        }
+        if !count_the_same(self.counts.as_slice(), other.counts.as_slice()) {
             return false;
         }
         are_equal(self.waits.as_slice(), other.waits.as_slice())
@@ -444,9 +562,11 @@ impl Snapshot {
     {
         self.shows_tasks(machine)
             && show_waits(self.waits.as_slice(), machine)
+            && show_counts(self.counts.as_slice(), machine)
             && self.shows_numbers(machine, Resource::Semaphore)
             && self.shows_numbers(machine, Resource::Eventflag)
             && self.shows_numbers(machine, Resource::DataQueue)
             && self.shows_numbers(machine, Resource::Pool)
+            && self.shows_numbers(machine, Resource::SpinLock)
     }
 }

@@ -5,7 +5,7 @@ ghost use Rattle.fmp_run_wave.specs.Values as spec;
 
 use crate::resource::{Resource, signal_of};
 use crate::signal::{Signal, put_identifier};
-use crate::snapshot::{ShownProcessor, Snapshot};
+use crate::snapshot::{ShownProcessor, Snapshot, TaskNumbers};
 use fmp_calls::ObjectKind;
 use fmp_codes::{Object, Proc, Runner, Task};
 use fmp_names::Names;
@@ -256,6 +256,21 @@ pub(crate) fn put_wait_value(
     put_value_end(out, Signal::Wait, t.number)
 }
 
+/// Adds the lines of a task's numbers.
+#[tactic(auto, unfolding(crate::specs::Values::counts_values))]
+fn put_counts_values(out: &mut Vec<u8>, t: Task, numbers: TaskNumbers) -> Result<(), AllocError>
+    ensures { OnOk result (out.new.items ≡ out.old.items ++ spec.counts_values t numbers) }
+{
+    put_number_value(out, Signal::Priority, t.number, u64::from(numbers.priority))?;
+    put_number_value(
+        out,
+        Signal::Activations,
+        t.number,
+        u64::from(numbers.activations),
+    )?;
+    put_number_value(out, Signal::Wakeups, t.number, u64::from(numbers.wakeups))
+}
+
 /// Adds the lines of the task at a place.
 #[tactic(auto, unfolding(crate::specs::Values::task_lines))]
 fn put_task(
@@ -269,7 +284,8 @@ fn put_task(
 {
     let t = Task::from_index(index);
     put_state_value(out, t, shown.task(t))?;
-    put_wait_value(out, names, t, shown.wait(t))
+    put_wait_value(out, names, t, shown.wait(t))?;
+    put_counts_values(out, t, shown.counts(t))
 }
 
 /// Adds the lines of all tasks.
@@ -320,7 +336,8 @@ fn put_objects(out: &mut Vec<u8>, shown: &Snapshot) -> Result<(), AllocError>
     put_numbers(out, shown, Resource::Semaphore)?;
     put_numbers(out, shown, Resource::Eventflag)?;
     put_numbers(out, shown, Resource::DataQueue)?;
-    put_numbers(out, shown, Resource::Pool)
+    put_numbers(out, shown, Resource::Pool)?;
+    put_numbers(out, shown, Resource::SpinLock)
 }
 
 /// Adds the values of all signals.
