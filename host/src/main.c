@@ -18,7 +18,12 @@ static void fix_addresses(char **words) {
     int now = personality(0xffffffff);
     if (now < 0 || (now & ADDR_NO_RANDOMIZE) || personality((unsigned long)now | ADDR_NO_RANDOMIZE) < 0 || !(personality(0xffffffff) & ADDR_NO_RANDOMIZE))
         return; /* where that is not allowed, traces with such addresses differ from one start of the program to the next */
-    execv("/proc/self/exe", words);
+    char path[4096];
+    ssize_t length = readlink("/proc/self/exe", path, sizeof path - 1);
+    if (length > 0) {
+        path[length] = '\0';
+        execv(path, words);
+    }
     give_up("the program cannot be started anew");
 }
 

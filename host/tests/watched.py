@@ -1,5 +1,6 @@
 """In full: the host as AddressSanitizer, UndefinedBehaviorSanitizer and valgrind see it."""
 import os
+import re
 import shutil
 import subprocess
 
@@ -15,16 +16,18 @@ def sanitized(test, cc):
     for program, run in RUNS:
         told = test.make(cc, words, "P=" + program, out=out)
         ended, said = test.run(cc, program, *run, out=out, seconds=600, env={"ASAN_OPTIONS": "detect_leaks=0"})
-        clean = told.returncode == 0 and ended in (0, 5) and "Sanitizer: " not in said.replace("WARNING: ASan doesn't fully support", "") and "runtime error" not in said
+        # each run warns once that swapcontext may lead to false alarms
+        said = "\n".join(line for line in said.splitlines() if "ASan doesn't fully support makecontext" not in line)
+        clean = told.returncode == 0 and ended in (0, 5, 6) and "Sanitizer" not in said and "runtime error" not in said and not re.search(r"^==\d+==", said, re.M)
         test.check(clean, "%s: %s with AddressSanitizer and UndefinedBehaviorSanitizer: status %s" % (cc, program, ended), told.stderr + said)
 
 
 def with_valgrind(test, cc):
     for program, run in (RUNS[2], ("queue", ["--seeds", "1..3"])):
         path = str(test.room(cc) / program.replace(":", "-") / "run")
-        command = ["valgrind", "-q", "--trace-children=no", "--error-exitcode=99", path, *run]
+        command = ["valgrind", "-q", "--trace-children=yes", "--trace-children-skip=%s,*/sh" % test.fmpsim, "--error-exitcode=99", path, *run]
         told = subprocess.run(command, capture_output=True, text=True, env=dict(os.environ, FMPSIM=test.fmpsim), timeout=1200)
-        test.check(told.returncode in (0, 5) and "==" not in told.stderr, "%s: %s with valgrind: status %d" % (cc, program, told.returncode), told.stderr)
+        test.check(told.returncode in (0, 5) and not re.search(r"^==\d+==", told.stderr, re.M), "%s: %s with valgrind: status %d" % (cc, program, told.returncode), told.stderr)
 
 
 def all_of_it(test):
