@@ -1,0 +1,1 @@
+pub mod Found  -- What is found of what stays, and told.

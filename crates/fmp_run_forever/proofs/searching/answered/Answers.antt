@@ -1,0 +1,17 @@
+use Rattle.std.proofs.Common.{◌∙◌, IfOk, length, ap, subst, sym}
+use Rattle.fmp_search.specs.Forever.{SaysForEver}
+use Rattle.fmp_search_orders.specs.Watched.{Watched, origin_at, watched_after, watched_passes}
+use Rattle.fmp_run_forever.proofs.searching.answered.Goals as goal
+
+-- all four begin where all runs do
+pub stayed-requires-clause-origins : goal.stayed-requires-clause-origins
+stayed-requires-clause-origins g c = (
+  ap origin_at (c.in_ok-walkers.ensures.second ∙ sym c.in_ok-walkers.ensures.first),
+  ap origin_at (c.in_ok-others.ensures.first ∙ sym c.in_ok-walkers.ensures.first),
+  ap origin_at (c.in_ok-others.ensures.second ∙ sym c.in_ok-walkers.ensures.first),
+)
+
+pub returns : goal.returns
+returns g c =
+    subst (λ (w : Watched). IfOk c.stayed.result (λ s. SaysForEver watched_after watched_passes w (length c.args.lasting.now) c.args.turns s)) (ap origin_at c.in_ok-walkers.ensures.first)
+    c.stayed.ensures

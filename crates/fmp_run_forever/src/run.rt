@@ -1,0 +1,78 @@
+//! The run through all orders for what stays, from bytes to bytes.
+ghost use Rattle.std.specs.Prelude.{◌≡◌, ◌≢◌, ◌+◌, ◌-◌, ◌≤◌, ◌<◌, ◌^◌, [], Err, OnOk, IfOk, IfErr, false, if◌then◌else◌};
+ghost use Rattle.fmp_run_devices.specs.Devices.{IsKnown, bytes_of};
+ghost use Rattle.fmp_run_explore.specs.Faults as faults;
+ghost use Rattle.fmp_run_forever.specs.Asked as asked;
+ghost use Rattle.fmp_run_forever.specs.Stayed.{IsBegun, IsExplored};
+ghost use Rattle.fmp_run_texts.specs.Faults.{failed_write, is_thread_fault};
+ghost use Rattle.fmp_run_texts.specs.Texts.{CountsReads};
+
+use crate::asking::asked_from;
+use crate::staying::Stayed;
+use crate::writing::{WriteFault, found_written};
+use fmp_run_devices::{Sink, Source};
+use fmp_run_explore::ExploreFault;
+use fmp_run_texts::RunFault;
+use fmp_search::Progress;
+use fmp_search_orders::Rules;
+use std::alloc::Global;
+
+/// Reads a configuration and scripts, goes through every order of what may happen by these rules, and writes whether one of them ends so that
+/// something that the question asks stays for ever.
+///
+/// It looks at orders of at most so many lines, one more for the last, and has room for so many places. It tells how far it has come.
+pub fn run_forever<R: Source, S: Source, W: Sink, P: Progress>(
+    alloc: Global,
+    config: &mut R,
+    scripts: &mut S,
+    output: &mut W,
+    question: &[u8],
+    rules: Rules,
+    progress: &mut P,
+    turns: u32,
+    places: u32,
+) -> Result<Stayed, ExploreFault>
+    requires config_calls { R.failures config.old < 2 ^ 64 - 1 }
+    requires script_calls { S.failures scripts.old < 2 ^ 64 - 1 }
+    requires output_calls { W.failures output.old < 2 ^ 64 - 1 }
+    requires turns { turns ≤ 1000000 }
+    requires places { 1 ≤ places }
+
+    // Both texts were read to their ends, and what is written says what is known of all orders. None of it is held back.
+    ensures explored { IsKnown (R.left config.old) → IsKnown (S.left scripts.old) → IsKnown (W.written output.old)
+        → IfOk result (λ s. IsExplored (bytes_of (R.left config.old)) (bytes_of (S.left scripts.old)) question.now rules turns (bytes_of (W.written output.old)) (bytes_of (W.written output.new)) s.lasting.items s.staying) }
+    ensures known { IsKnown (W.written output.old) → IsKnown (W.written output.new) }
+    ensures passed { OnOk result (W.buffered output.new ≡ []) }
+    ensures config_read { IsKnown (R.left config.old) → OnOk result (bytes_of (R.left config.new) ≡ []) }
+    ensures scripts_read { IsKnown (S.left scripts.old) → OnOk result (bytes_of (S.left scripts.new) ≡ []) }
+
+    // A fault of a text or of the question is its first one.
+    ensures config_fault { IsKnown (R.left config.old) → IfErr result (faults.IsConfigFault (bytes_of (R.left config.old))) }
+    ensures text_fault { IsKnown (R.left config.old) → IsKnown (S.left scripts.old) → IfErr result (faults.IsScriptFault (bytes_of (R.left config.old)) (bytes_of (S.left scripts.old))) }
+    ensures question_fault { IsKnown (R.left config.old) → IfErr result (asked.IsQuestionFault (bytes_of (R.left config.old)) question.now) }
+
+    // After a failed write or flush a beginning of what tells it is out, and after any other fault nothing is.
+    ensures write { IsKnown (R.left config.old) → IsKnown (S.left scripts.old) → IsKnown (W.written output.old) → (result ≡ Err (ExploreFault.Run RunFault.Write))
+        → IsBegun (bytes_of (R.left config.old)) (bytes_of (S.left scripts.old)) question.now rules turns (bytes_of (W.written output.old)) (bytes_of (W.written output.new)) }
+    ensures unwritten { IsKnown (W.written output.old) → IfErr result (λ fault. fault ≢ ExploreFault.Run RunFault.Write → bytes_of (W.written output.new) ≡ bytes_of (W.written output.old)) }
+
+    // No thread was started.
+    ensures no_thread_fault { IfErr (faults.as_run result) (λ fault. is_thread_fault fault ≡ false) }
+
+    // Which calls of the devices failed.
+    ensures reads { CountsReads (faults.as_run result) (R.failures config.old) (R.failures config.new) (S.failures scripts.old) (S.failures scripts.new) }
+    ensures writes { W.failures output.new ≡ W.failures output.old + (if failed_write (faults.as_run result) then 1 else 0) }
+{
+    let asked = match asked_from(alloc, config, scripts, question) {
+        Ok(asked) => asked,
+        Err(fault) => return Err(fault),
+    };
+    match found_written(alloc, &asked, rules, output, progress, turns, places - 1) {
+        Ok(staying) => Ok(Stayed {
+            staying,
+            lasting: asked.lasting,
+        }),
+        Err(WriteFault::Memory) => Err(ExploreFault::Run(RunFault::Memory)),
+        Err(WriteFault::Write) => Err(ExploreFault::Run(RunFault::Write)),
+    }
+}

@@ -1,0 +1,40 @@
+//! What is known of what stays for ever.
+ghost use Rattle.std.specs.Prelude.{◌≡◌};
+ghost use Rattle.fmp_run_forever.specs.Stayed as spec;
+
+use fmp_run_texts::Status;
+use fmp_search_question::Lasting;
+
+/// What is known of all orders, by a search through them.
+#[derive(Clone, Copy)]
+pub enum Staying {
+    /// What is asked under this number, from 0, stays from the last line on of the trace that was written, which has so many lines. No shorter trace ends
+    /// so, whatever is asked.
+    Shortest(u8, u32),
+    /// Likewise, but there may be a shorter one.
+    Found(u8, u32),
+    /// Nothing that is asked stays, in no order.
+    Never,
+    /// That is not known. Orders of so many lines were gone through.
+    NotWithin(u32),
+}
+
+impl Staying {
+    /// How the program ends after it.
+    pub const fn status(self) -> Status
+        ensures { result ≡ spec.status_of self }
+    {
+        match self {
+            Staying::Shortest(..) | Staying::Found(..) => Status::Different,
+            Staying::Never => Status::Done,
+            Staying::NotWithin(_) => Status::Limit,
+        }
+    }
+}
+
+/// What was found, and what was asked.
+#[derive(Drop)]
+pub struct Stayed {
+    pub staying: Staying,
+    pub lasting: Vec<Lasting>,
+}

@@ -1,0 +1,65 @@
+//! The search for what was read, and what is written of it.
+ghost use Rattle.std.specs.Prelude.{◌≡◌, ◌+◌, ◌-◌, ◌≤◌, ◌<◌, ◌^◌, [], Err, OnOk, IfOk, if◌then◌else◌, length};
+ghost use Rattle.fmp_run_devices.specs.Devices.{IsKnown, bytes_of};
+ghost use Rattle.fmp_run_forever.specs.Stayed.{IsPartWritten, IsWritten, is_unwritten};
+ghost use Rattle.fmp_text_scripts.specs.Scripts.{AreInBits};
+
+use crate::asking::Asked;
+use crate::searching::found;
+use crate::staying::Staying;
+use fmp_run_devices::{Sink, write_out};
+use fmp_search::Progress;
+use fmp_search_orders::Rules;
+use std::alloc::Global;
+
+/// Why what was found was not written, or nothing was found.
+#[derive(Clone, Copy)]
+pub(crate) enum WriteFault {
+    /// Memory ran out, and nothing is out.
+    Memory,
+    /// A write or a flush failed.
+    Write,
+}
+
+/// Goes through every order of what was read, and writes what is known of them. There is room for so many places besides the first.
+pub(crate) fn found_written<W: Sink, P: Progress>(
+    alloc: Global,
+    asked: &Asked,
+    rules: Rules,
+    output: &mut W,
+    progress: &mut P,
+    turns: u32,
+    more: u32,
+) -> Result<Staying, WriteFault>
+    requires output_calls { W.failures output.old < 2 ^ 64 - 1 }
+    requires turns { turns ≤ 1000000 }
+    requires few { length asked.now.lasting.items ≤ 64 }
+    requires in_bits { AreInBits asked.now.scripts }
+    ensures written { IsKnown (W.written output.old)
+        → IfOk result (λ s. IsWritten asked.now.config asked.now.scripts rules asked.now.lasting.items turns (bytes_of (W.written output.old)) (bytes_of (W.written output.new)) s) }
+    ensures known { IsKnown (W.written output.old) → IsKnown (W.written output.new) }
+    ensures passed { OnOk result (W.buffered output.new ≡ []) }
+    ensures part { IsKnown (W.written output.old) → (result ≡ Err WriteFault.Write)
+        → IsPartWritten asked.now.config asked.now.scripts rules asked.now.lasting.items turns (bytes_of (W.written output.old)) (bytes_of (W.written output.new)) }
+    ensures unwritten { IsKnown (W.written output.old) → (result ≡ Err WriteFault.Memory) → bytes_of (W.written output.new) ≡ bytes_of (W.written output.old) }
+    ensures writes { W.failures output.new ≡ W.failures output.old + (if is_unwritten result then 1 else 0) }
+{
+    let report = match found(
+        alloc,
+        &asked.config,
+        &asked.scripts,
+        rules,
+        &asked.lasting,
+        progress,
+        turns,
+        more,
+    ) {
+        Ok(report) => report,
+        Err(_) => return Err(WriteFault::Memory),
+    };
+    progress.end();
+    match write_out(output, report.text.as_slice()) {
+        Ok(()) => Ok(report.staying),
+        Err(_) => Err(WriteFault::Write),
+    }
+}
