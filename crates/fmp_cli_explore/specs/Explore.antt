@@ -1,17 +1,18 @@
 -- The command line of a search through all orders, and what it gives.
-use Rattle.std.specs.Prelude.{◌≡◌, ◌≤◌, ℕ, List, [], ◌∷◌, Option, Some, None, codes, option_map}
+use Rattle.std.specs.Prelude.{◌≡◌, ◌≤◌, ℕ, Bool, ◌&&◌, ◌||◌, is_some, List, [], ◌∷◌, Option, Some, None, codes, option_map}
 use Rattle.std.specs.Option.{SomeIff}
 use Rattle.std.specs.Str.Parse.{IsNumeral, without_leading_plus}
 use Rattle.clap.specs.Words.{App, Row, Text, first_of, matches_of, one_of}
 use Rattle.fmp_cli_table.specs.Found.{IsFlag, text_of}
 use Rattle.fmp_cli_table.specs.Numbers.{number_of}
 use Rattle.fmp_cli_table.specs.Parts.{flag_rule, line_of, path_rule, value_rule, wanted_rule}
+use Rattle.fmp_search_question.specs.Lasting.{is_lasting}
 use Rattle.fmp_cli_explore.specs.declared.ExploreRequest.{ExploreRequest}
 
 -- the whole command line, as a parse reads it
 abbrev pub explore_line : App
 explore_line = line_of (codes "explore") (
-    path_rule (codes "CFG") ∷ path_rule (codes "SCRIPTS") ∷ wanted_rule (codes "ticks") ∷ wanted_rule (codes "turns") ∷ wanted_rule (codes "find")
+    path_rule (codes "CFG") ∷ path_rule (codes "SCRIPTS") ∷ wanted_rule (codes "ticks") ∷ wanted_rule (codes "turns") ∷ value_rule (codes "find")
     ∷ flag_rule (codes "prompt") ∷ value_rule (codes "drift") ∷ value_rule (codes "places") ∷ value_rule (codes "from") ∷ value_rule (codes "layer")
     ∷ flag_rule (codes "progress") ∷ flag_rule (codes "context") ∷ [])
 
@@ -39,11 +40,16 @@ abbrev pub IsPlaces : Option Text → ℕ → Type 0
 IsPlaces None n = n ≡ 1000000
 IsPlaces (Some t) n = IsNumberWithin 1 100000000 t (Some n)
 
+-- `deadlock` without a text, or the text
+abbrev pub IsQuestion : Option Text → Text → Type 0
+IsQuestion None question = question ≡ codes "deadlock"
+IsQuestion (Some t) question = question ≡ t
+
 -- the request is what was found: each of its parts is that of one id
 pub record Asks (rows : List Row) (r : ExploreRequest) : Type 0 where
   pub config : r.config.now ≡ text_of (codes "CFG") rows
   pub scripts : r.scripts.now ≡ text_of (codes "SCRIPTS") rows
-  pub question : r.question.now ≡ text_of (codes "find") rows
+  pub question : IsQuestion (first_of (codes "find") rows) r.question.now
   pub ticks : IsTicks (text_of (codes "ticks") rows) r.ticks
   pub prompt : IsFlag (one_of (codes "prompt") rows) r.prompt
   pub drift : IsDrift (first_of (codes "drift") rows) r.drift
@@ -53,3 +59,8 @@ pub record Asks (rows : List Row) (r : ExploreRequest) : Type 0 where
   pub layer : option_map (λ t. t.now) r.layer ≡ first_of (codes "layer") rows
   pub progress : IsFlag (one_of (codes "progress") rows) r.progress
   pub context : IsFlag (one_of (codes "context") rows) r.context
+
+-- parts of a request that do not go together: traces to go on from are left of a search from boot alone, and what stays for ever is asked of all orders,
+-- which no number of ticks ends
+abbrev pub has_conflict : ExploreRequest → Bool
+has_conflict r = (is_some r.from && is_some r.layer) || (is_lasting r.question.now && (is_some r.ticks || (is_some r.from || is_some r.layer)))

@@ -5,15 +5,15 @@
 //! of errors read is tested in `fmpsim`.
 #![tactic(auto)]
 
-ghost use Rattle.std.specs.Prelude.{◌≡◌, IfOk, IfSome, Some, codes, map};
+ghost use Rattle.std.specs.Prelude.{◌≡◌, false, IfOk, IfSome, Some, codes, is_some, map};
 ghost use Rattle.clap.specs.Words.{app_of, first_of};
 ghost use Rattle.fmp_cli_table.specs.Found.{rows_in, text_of};
-ghost use Rattle.fmp_cli_explore.specs.Explore.{Asks, IsNumberWithin, IsPlaces, explore_line, found_in};
+ghost use Rattle.fmp_cli_explore.specs.Explore.{Asks, IsNumberWithin, IsPlaces, explore_line, found_in, has_conflict};
 
 mod bounds;
 mod numbers;
 
-use crate::numbers::{drift_in, number_in, places_in, ticks_in};
+use crate::numbers::{drift_in, number_in, places_in, question_in, ticks_in};
 pub use bounds::Bounds;
 use clap::error::ErrorKind;
 use clap::{ArgMatches, Command, Error};
@@ -21,6 +21,7 @@ use fmp_cli_table::{
     CONFIG_PART, CONTEXT_PART, Form, PROGRESS_PART, Part, SCRIPTS_PART, Title, flag_in, line,
     option_in, text_in,
 };
+use fmp_search_question::is_lasting;
 use std::alloc::{AllocError, Global};
 
 const ABOUT: &str = "Goes through every order of what scripts ask, and answers a question";
@@ -33,17 +34,24 @@ What may happen next on a processor is the next call of its due handler or else 
 task, its interrupt where a request is pending and nothing holds it back, and a tick. Every order
 of these is gone through, the shortest first, until one shows what QUESTION asks:
 
-  can two tasks wait for each other       --find 'end & waits sem'
+  can a task wait for ever (deadlock)     no --find, or --find deadlock
+  can one but SERVER and LOGGER           --find 'deadlock but SERVER,LOGGER'
+  can T wait for ever at a semaphore      --find 'T waits sem * for ever'
+  can T be kept from running for good     --find 'not run=T for ever'
   can a value be lost                     --find 'lost=*'
   can a call answer an error              --find 'LOGGER snd_dtq(LOG, *) E_CTX'
   can A come before B                     --find 'A without B'
   can B come after A with no C between    --find 'A then B without C'
-  can it take three ticks                 --find 'A then 3 times P1 tick taken without B'
+  can it take three ticks                 --find 'A then 3 times P1 * tick taken without B'
 
 A pattern is words that stand one behind the other in one line of an event: its line of the trace
 without the number, the lines that `fmpsim calls --state` writes below it, and `end` where nothing
 can change any more. In a word * is any number of bytes. `&` stands between patterns that have to
 be there at one event.
+
+`M for ever` asks for an event that has M from which on, in every order that goes on, every event has
+M; `or` stands between several, and `not` before a pattern. `deadlock` asks it of `waits` of each
+task. It is asked with `--ticks any`, and the line from which on it is so is told on standard error.
 
 With `--ticks any` there is no limit and no count, so that there are fewer places: try it first.
 Where it says `never`, no order of any length shows it.
@@ -74,6 +82,12 @@ const WRONG_NUMBER: &str =
 
 const TWO_BEGINNINGS: &str = "--layer writes traces for --from, and does not go with it";
 
+const FEW_TICKS: &str =
+    "what stays for ever, as where there is no --find, is asked with --ticks any: with a number all orders end where it is used up, and what waits there stays so";
+
+const PARTS_OF_ORDERS: &str =
+    "what stays for ever, as where there is no --find, is asked of all orders: neither --from nor --layer goes with it";
+
 const TITLE: Title<'static> = Title {
     name: "explore",
     bin_name: "fmpsim explore",
@@ -96,8 +110,8 @@ const PARTS: &[Part<'static>] = &[
     },
     Part {
         id: "find",
-        form: Form::Wanted("QUESTION"),
-        about: "What is looked for in the orders",
+        form: Form::Value("QUESTION"),
+        about: "What is looked for in the orders, or else whether a task can wait for ever",
     },
     Part {
         id: "prompt",
@@ -135,6 +149,7 @@ pub struct ExploreRequest<'a> {
     pub config: &'a str,
     /// The path of the scripts.
     pub scripts: &'a str,
+    /// What is looked for: `deadlock` where nothing is said.
     pub question: &'a str,
     /// How many ticks each processor takes at most. Without it any number.
     pub ticks: Option<u32>,
@@ -176,7 +191,7 @@ fn request_of<'a>(matches: &ArgMatches<'a>) -> Option<ExploreRequest<'a>>
 {
     let config = text_in(matches, "CFG");
     let scripts = text_in(matches, "SCRIPTS");
-    let question = text_in(matches, "find");
+    let question = question_in(option_in(matches, "find"));
     let ticks = ticks_in(text_in(matches, "ticks"))?;
     let prompt = flag_in(matches, "prompt");
     let drift = drift_in(option_in(matches, "drift"))?;
@@ -200,26 +215,47 @@ fn request_of<'a>(matches: &ArgMatches<'a>) -> Option<ExploreRequest<'a>>
     })
 }
 
+/// Why two parts of a request do not go together, if they do not.
+fn conflict_in(request: &ExploreRequest<'_>) -> Option<&'static str>
+    ensures { is_some result ≡ has_conflict request.now }
+{
+    if request.from.is_some() && request.layer.is_some() {
+        return Some(TWO_BEGINNINGS);
+    }
+    if !is_lasting(request.question.as_bytes()) {
+        return None;
+    }
+    if request.ticks.is_some() {
+        return Some(FEW_TICKS);
+    }
+    if request.from.is_some() || request.layer.is_some() {
+        return Some(PARTS_OF_ORDERS);
+    }
+    None
+}
+
 /// The request that the matches of a command are, or what is wrong with it.
 fn request_from<'a>(
     command: &mut Command<'a>,
     matches: &ArgMatches<'a>,
 ) -> Result<ExploreRequest<'a>, Error>
-    ensures { IfOk result (Asks (rows_in matches.now)) }
+    ensures asks { IfOk result (Asks (rows_in matches.now)) }
+    ensures together { IfOk result (λ r. has_conflict r ≡ false) }
 {
     let Some(request) = request_of(matches) else {
         return Err(command.error(ErrorKind::ValueValidation, WRONG_NUMBER)?);
     };
-    if request.from.is_some() && request.layer.is_some() {
-        return Err(command.error(ErrorKind::ArgumentConflict, TWO_BEGINNINGS)?);
+    if let Some(words) = conflict_in(&request) {
+        return Err(command.error(ErrorKind::ArgumentConflict, words)?);
     }
     Ok(request)
 }
 
 /// What the words of the command line ask for, from `explore` on. Each part of the request is what clap finds in these words under one
-/// name. Otherwise the error says what is wrong, or that memory ran out.
+/// name, and no two of them conflict. Otherwise the error says what is wrong, or that memory ran out.
 pub fn parse_explore<'a>(alloc: Global, words: &'a [String]) -> Result<ExploreRequest<'a>, Error>
-    ensures { IfOk result (Asks (found_in (map (λ w. w.bytes.items) words.now))) }
+    ensures asks { IfOk result (Asks (found_in (map (λ w. w.bytes.items) words.now))) }
+    ensures together { IfOk result (λ r. has_conflict r ≡ false) }
 {
     let mut command = explore_command(alloc)?;
     let matches = command.try_get_matches_from_mut(words)?;

@@ -1,6 +1,6 @@
-//! The numbers of the command line, by their texts.
+//! The numbers and the question of the command line, by their texts.
 ghost use Rattle.std.specs.Prelude.{◌≡◌, ◌≤◌, codes, None, IfSome, option_map};
-ghost use Rattle.fmp_cli_explore.specs.Explore.{IsNumberWithin, IsTicks, IsDrift, IsPlaces};
+ghost use Rattle.fmp_cli_explore.specs.Explore.{IsNumberWithin, IsTicks, IsDrift, IsPlaces, IsQuestion};
 
 /// The number from low to high that a text writes, if it is one.
 pub(crate) fn number_in(text: &str, low: u32, high: u32) -> Option<u32>
@@ -40,4 +40,11 @@ pub(crate) fn places_in(text: Option<&str>) -> Option<u32>
         None => Some(1_000_000),
         Some(text) => number_in(text, 1, 100_000_000),
     }
+}
+
+/// What is looked for: `deadlock` without a text.
+pub(crate) fn question_in(text: Option<&str>) -> &str
+    ensures { IsQuestion (option_map (λ t. t.now) text.entry) result.now }
+{
+    text.unwrap_or("deadlock")
 }

@@ -4,9 +4,9 @@ use Rattle.clap.specs.Words.{App, Row, is_simple, matches_of}
 use Rattle.fmp_cli_explore.specs.Explore.{Asks, found_in}
 use Rattle.fmp_cli_explore.proofs.parse_explore.Goals as goal
 
-pub returns : goal.returns
+pub returns-clause-asks : goal.returns-clause-asks
 unfolding found_in
-returns c =
+returns-clause-asks c =
     let line = c.in_ok-command.ensures in
     let rows = (c.in_ok-matches.ensures.ok.2 (ap is_simple line)).0 ∙ ap (λ (a : App). matches_of a (map (λ w. w.bytes.items) c.args.words.now)) line in
-    subst (λ (r : List Row). IfOk c.request_from.result (Asks r)) rows c.request_from.ensures
+    subst (λ (r : List Row). IfOk c.request_from.result (Asks r)) rows c.request_from.ensures.asks
