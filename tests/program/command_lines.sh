@@ -5,9 +5,7 @@ command_lines() {
     run 2 /dev/null "$(as_file echo fmpsim: a word of the command line is not UTF-8)" calls "$late/machine.cfg" $'\xff'
     refused_lines
     options_anywhere
-    run 2 /dev/null "$(as_file value 0 turns '0 is not in 1..=1000000')" smp again.cfg again.txt --ticks 0 --turns 0
-    run 2 /dev/null "$(as_file value 1000001 ticks '1000001 is not in 0..=1000000')" smp again.cfg again.txt --ticks 1000001 --turns 1
-    run 2 /dev/null "$(as_file value none seed 'invalid digit found in string')" smp again.cfg again.txt --ticks 0 --turns 1 --seed none
+    numbers_expected
     usage 0 output errors --help
     usage 0 output errors calls --help
     usage 0 output errors check --help
@@ -114,7 +112,22 @@ options_anywhere() {
     run 5 page /dev/null view "$late/machine.cfg" --differences other.txt --context
 }
 
-# value GIVEN OPTION WHY: how clap refuses the value of an option.
-value() {
-    printf "error: invalid value '%s' for '--%s <N>': %s\n\nFor more information, try '--help'.\n" "$@"
+# Of a number of smp that is none, or out of its range, it is told which one is expected, and of `any` where it goes.
+numbers_expected() {
+    local ticks='fmpsim: --ticks: a number from 0 to 1000000 is expected' seed='fmpsim: --seed: a number from 0 to 18446744073709551615 is expected'
+    run 2 /dev/null "$(as_file echo 'fmpsim: --turns: a number from 1 to 1000000 is expected')" smp again.cfg again.txt --ticks 0 --turns 0
+    run 2 /dev/null "$(as_file echo "$ticks")" smp again.cfg again.txt --ticks 1000001 --turns 1
+    run 2 /dev/null "$(as_file echo "$ticks")" smp again.cfg again.txt --ticks=many --turns 1
+    run 2 /dev/null "$(as_file printf '%s\n' "$ticks" '  `any` goes with explore alone')" smp again.cfg again.txt --ticks any --turns 1
+    run 2 /dev/null "$(as_file echo "$seed")" smp again.cfg again.txt --ticks 0 --turns 1 --seed none
+    run 2 /dev/null "$(as_file echo "$seed")" smp again.cfg again.txt --ticks 0 --turns 1 --seed 18446744073709551616
+    near_option
+}
+
+# `-v` is no option, and `-V` is near.
+near_option() {
+    local near=no
+    play -v
+    [ $? = 2 ] && [ "$(tail -n 1 errors)" = '  near: -V, which tells the version' ] && [ ! -s output ] && near=yes
+    count "$near" -v
 }

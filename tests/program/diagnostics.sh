@@ -46,7 +46,7 @@ differences_and_waits() {
     run 5 "$(as_file echo no 5)" "$told" check --partial --diagnostics=gcc "$machine" other.txt
     run 5 /dev/null "$told" wave --diagnostics=gcc "$machine" other.txt
     run 5 /dev/null "$told" view --diagnostics=gcc "$machine" other.txt
-    run 5 /dev/null "$(as_file echo 'fmpsim: other.txt: no 5: see fmpsim check --show')" view --diagnostics=plain "$machine" other.txt
+    run 5 /dev/null "$(as_file echo 'fmpsim: other.txt: line 5 differs: see fmpsim check --show')" view --diagnostics=plain "$machine" other.txt
     run 0 "$(as_file echo yes)" /dev/null check --diagnostics=gcc "$machine" "$late/trace.txt"
     # each of the two takes one of two semaphores, and waits for the other
     cp "$dead/scripts.txt" dead.txt

@@ -79,24 +79,24 @@ write_life() {
         'ext_tsk()' > events.txt
 }
 
-# The first name that names nothing is told, and nothing is written.
+# The first name that names nothing is told, with one that is near, or the task whose function it is, or else what may be named. Nothing is written.
 names_that_name_nothing() {
-    local names name
-    while IFS=$'\t' read -r names name; do
-        run 2 /dev/null "$(as_file echo "fmpsim: --of: life.cfg has nothing called '$name'")" calls life.cfg events.txt "--of=$names"
+    local names name near other='Tasks, handlers and objects may be named: `fmpsim list` with the path of a configuration has their names.'
+    while IFS='|' read -r names name near; do
+        run 2 /dev/null "$(as_file printf '%s\n' "fmpsim: --of: life.cfg has nothing called '$name'" "  ${near:-$other}")" calls life.cfg events.txt "--of=$names"
     done <<- END
-	T9	T9
-	t2	t2
-	T1,S9,T9	S9
-	T1,,T2
-	T1,
-	,T1
-	T1 	T1 
-	T1, T2	 T2
-	main1	main1
-	K	K
+	T9|T9
+	t2|t2|near: T2
+	T1,S9,T9|S9
+	T1,,T2|
+	T1,|
+	,T1|
+	T1 |T1 |near: T1
+	T1, T2| T2|near: T2
+	main1|main1|main1 is a function, and its task is T1.
+	K|K
 	END
-    run 2 /dev/null "$(as_file echo "fmpsim: --of: life.cfg has nothing called ''")" calls life.cfg events.txt --of ''
+    run 2 /dev/null "$(as_file printf '%s\n' "fmpsim: --of: life.cfg has nothing called ''" "  $other")" calls life.cfg events.txt --of ''
     printf 'PROCESSORS(1' > wrong.cfg
     run 1 /dev/null "$(as_file echo 'fmpsim: wrong.cfg: line 1: F2 cut short')" calls wrong.cfg events.txt --of T9
     refused calls life.cfg events.txt --of

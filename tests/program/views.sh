@@ -20,7 +20,7 @@ views() {
     every_value
     tags_in_fields
     sed '3s/taken/none/' "$late/trace.txt" > changed.txt
-    run 5 /dev/null "$(as_file echo fmpsim: changed.txt: no 3: see fmpsim check --show)" view "$late/machine.cfg" changed.txt
+    run 5 /dev/null "$(as_file echo fmpsim: changed.txt: line 3 differs: see fmpsim check --show)" view "$late/machine.cfg" changed.txt
     printf '1 P1 T1 tick taken' > cut.txt
     run 1 /dev/null "$(as_file echo fmpsim: cut.txt: line 1: E6 cut short)" view "$late/machine.cfg" cut.txt
     run 1 /dev/null "$(as_file printf '%s\n' 'fmpsim: cut.txt: line 1: E6 cut short' '  1 P1 T1 tick taken' '                    ^' \

@@ -11,7 +11,7 @@ waves() {
     done
     count "$timed" wave
     sed '3s/taken/none/' "$late/trace.txt" > changed.txt
-    run 5 /dev/null "$(as_file echo fmpsim: changed.txt: no 3: see fmpsim check --show)" wave "$late/machine.cfg" changed.txt
+    run 5 /dev/null "$(as_file echo fmpsim: changed.txt: line 3 differs: see fmpsim check --show)" wave "$late/machine.cfg" changed.txt
     printf '1 P1 T1 tick taken' > cut.txt
     run 1 /dev/null "$(as_file echo fmpsim: cut.txt: line 1: E6 cut short)" wave "$late/machine.cfg" cut.txt
     run 1 /dev/null "$(as_file printf '%s\n' 'fmpsim: cut.txt: line 1: E6 cut short' '  1 P1 T1 tick taken' '                    ^' \

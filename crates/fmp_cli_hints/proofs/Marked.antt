@@ -1,5 +1,5 @@
 -- Reading labels and jumps from line to line, as a loop does.
-use Rattle.std.proofs.Common.{◌≡◌, ℕ, suc, ◌+◌, List, [], take, Option, None, refl, sym, ◌∙◌}
+use Rattle.std.proofs.Common.{◌≡◌, ℕ, suc, ◌+◌, List, take, refl, sym, ◌∙◌}
 use Rattle.fmp_bytes.specs.Bytes.{cut_at, pieces_of}
 use Rattle.fmp_bytes.proofs.Cutting.{pieces_left, pieces_of-cut}
 use Rattle.fmp_cli_hints.specs.Labels.{Marked, with_line, with_lines}

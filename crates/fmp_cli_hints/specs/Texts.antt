@@ -1,14 +1,10 @@
 -- What stands beside a fault line of events, scripts or a trace.
-use Rattle.std.specs.Prelude.{ℕ, true, false, ◌+◌, ◌-◌, not, ◌&&◌, List, [], ◌++◌, Option, Some, None, option_and_then, ◌==◌, if◌then◌else◌, codes}
-use Rattle.std.specs.List.{list_all}
+use Rattle.std.specs.Prelude.{ℕ, true, false, ◌+◌, ◌-◌, List, [], ◌++◌, Option, Some, None, option_and_then, ◌==◌, if◌then◌else◌}
 use Rattle.std.specs.Option.{option_map_or}
-use Rattle.std.specs.Str.{bytes_eq}
 use Rattle.fmp_bytes.specs.declared.classes.Class.TheVariants.{Argument, Blank, Word}
-use Rattle.fmp_bytes.specs.declared.classes.Class.TheVariants as bytes
-use Rattle.fmp_bytes.specs.Bytes.{is_of, is_identifier, prefix, after}
+use Rattle.fmp_bytes.specs.Bytes.{prefix, after}
 use Rattle.fmp_calls.specs.declared.kinds.ArgumentKind.TheVariants as arguments
 use Rattle.fmp_calls.specs.declared.kinds.ObjectKind.TheVariants.{Task}
-use Rattle.fmp_calls.specs.Table.{named}
 use Rattle.fmp_cli_hints.specs.declared.text.TextForm.{TextForm}
 use Rattle.fmp_cli_hints.specs.declared.text.TextForm.TheVariants as forms
 use Rattle.fmp_cli_hints.specs.declared.wanted.Wanted.{Wanted}
@@ -17,7 +13,7 @@ use Rattle.fmp_cli_hints.specs.Contexts.{column_of, context_at, line_behind}
 use Rattle.fmp_cli_hints.specs.Excerpts.{excerpt}
 use Rattle.fmp_cli_hints.specs.Labels.{label_hint}
 use Rattle.fmp_cli_hints.specs.Likeness.{text_likeness, without_mark}
-use Rattle.fmp_cli_hints.specs.Places.{Walk, barred, behind_name, ending, event_place, going, stuck}
+use Rattle.fmp_cli_hints.specs.Places.{Walk, event_place, going}
 use Rattle.fmp_cli_hints.specs.Ways.{barred_place, line_place, word_place}
 use Rattle.fmp_cli_hints.specs.Traces.{partial_place, trace_place}
 use Rattle.fmp_cli_diagnostics.specs.declared.diagnostic.Spot.{Spot}

@@ -1,16 +1,17 @@
 -- What stands beside a fault line of a configuration.
-use Rattle.std.specs.Prelude.{ℕ, ◌+◌, ◌-◌, ◌&&◌, Bool, true, false, List, [], ◌∷◌, ◌++◌, length, take, drop, min, nat_lt, nat_le, Option, Some, None, ◌==◌, if◌then◌else◌}
+use Rattle.std.specs.Prelude.{ℕ, ◌+◌, ◌-◌, ◌&&◌, not, Bool, true, false, List, [], ◌∷◌, ◌++◌, length, take, drop, min, nat_lt, nat_le, Option, Some, None, ◌==◌, if◌then◌else◌}
 use Rattle.std.specs.Option.{option_map_or}
 use Rattle.fmp_bytes.specs.Bytes.{cut_at, line_feed}
 use Rattle.fmp_config.specs.declared.fault.ConfigFault.{ConfigFault}
 use Rattle.fmp_cli_hints.specs.Contexts.{line_behind}
-use Rattle.fmp_cli_hints.specs.Excerpts.{excerpt, line_shown}
-use Rattle.fmp_cli_hints.specs.Likeness.{config_likeness, without_mark}
+use Rattle.fmp_cli_hints.specs.Excerpts.{excerpt}
+use Rattle.fmp_cli_hints.specs.Likeness.{config_likeness}
 use Rattle.fmp_cli_hints_config.specs.Hints.{word_hint}
-use Rattle.fmp_cli_hints_config.specs.Opened.{end_of_text, missing_at}
+use Rattle.fmp_cli_hints_config.specs.Foreign.{foreign_spot, numbered, words_at}
+use Rattle.fmp_cli_hints_config.specs.Opened.{end_of_text, is_stray, missing_at}
+use Rattle.fmp_cli_hints_config.specs.Projects.{project_line}
 use Rattle.fmp_cli_hints_config.specs.Statements.{statement_at}
 use Rattle.fmp_cli_hints.specs.Wanted.{label, mark_line}
-use Rattle.fmp_cli_diagnostics.specs.Diagnostics.{of_line}
 use Rattle.fmp_cli_diagnostics.specs.declared.diagnostic.Spot.{Spot}
 use Rattle.fmp_cli_diagnostics.specs.declared.diagnostic.Spot.TheVariants.{Column}
 use Rattle.fmp_cli_help.specs.Faults.{advice_line, config_advice}
@@ -35,10 +36,6 @@ line_over text place = (cut_at line_feed (drop (place - column_at text place) te
 unfoldable pub placed : List ℕ → ℕ → List ℕ
 placed text place = excerpt (line_over text place) (min (column_at text place) (length (line_over text place)))
 
--- the line of this number from 1, if there is one, without a byte order mark before it
-unfoldable pub numbered : List ℕ → ℕ → List ℕ
-numbered text line = if line == 0 then [] else option_map_or (λ l. line_shown (without_mark l.0) 0) (line_behind (line - 1) text) []
-
 -- the place from which on so many bytes are left
 unfoldable pub place_of : List ℕ → ℕ → Option ℕ
 place_of text left = if nat_lt 0 left && nat_le left (length text) then Some (length text - left) else None
@@ -58,15 +55,26 @@ form_of (Some name) = label ++ about name
 
 -- the form of the statement at a place
 unfoldable pub form_at : List ℕ → ℕ → ConfigFault → List ℕ
-form_at text place fault = if wants_form fault.kind then form_of (statement_at text place fault.word.bytes) else []
+form_at text place fault = if wants_form fault.kind && not (is_stray text place) then form_of (statement_at text place fault.word.bytes) else []
 
 -- a byte that is missing behind what stands before a place, and the form of its statement
 unfoldable pub missed : List ℕ → ℕ → StatementName × ℕ → List ℕ
-missed text place missing = placed text (end_of_text (take place text)) ++ form_of (Some missing.0) ++ mark_line missing.1
+missed text place missing = placed text (end_of_text (take place text)) ++ form_of (Some missing.0)
 
--- the token at a place, with the form of its statement and what is told of the word
+-- the token at a place, with the form of its statement
 unfoldable pub refused : List ℕ → ℕ → ConfigFault → List ℕ
-refused text place fault = placed text place ++ form_at text place fault ++ word_hint text place fault
+refused text place fault = placed text place ++ form_at text place fault
+
+-- what is told of the token, of what is missing there, or of a character that no token has
+unfoldable pub told : List ℕ → ConfigFault → List ℕ
+told text fault =
+    option_map_or (λ place. option_map_or (λ missing. mark_line missing.1) (missing_at text place fault.kind) (word_hint text place fault))
+    (place_of text fault.left) (words_at text fault.line)
+
+-- that, or else what to do about such a fault
+abbrev pub told_or_advice : List ℕ → ConfigKind → List ℕ
+told_or_advice [] kind = advice_line (config_advice kind)
+told_or_advice (b ∷ bytes) kind = b ∷ bytes
 
 -- the line of a fault, with a caret where a token is at fault, or where one is missing
 unfoldable pub shown : List ℕ → ConfigFault → List ℕ
@@ -78,9 +86,10 @@ shown text fault =
 unfoldable pub likeness_at : List ℕ → ℕ → ConfigKind → List ℕ
 likeness_at text line kind = if line == 0 then [] else option_map_or (λ l. config_likeness kind l.0) (line_behind (line - 1) text) []
 
--- and what to do about it
+-- and what is told of it
 unfoldable pub config_context : List ℕ → ConfigFault → List ℕ
-config_context text fault = shown text fault ++ advice_line (config_advice fault.kind) ++ likeness_at text fault.line fault.kind
+config_context text fault =
+    shown text fault ++ told_or_advice (told text fault) fault.kind ++ likeness_at text fault.line fault.kind ++ project_line text fault
 
 -- how many line feeds there are, with so many before them
 abbrev pub line_feeds : ℕ → List ℕ → ℕ
@@ -95,4 +104,4 @@ spot_at text place = Column (line_feeds 0 (take place text) + 1) (column_at text
 unfoldable pub config_spot : List ℕ → ConfigFault → Spot
 config_spot text fault =
     option_map_or (λ place. option_map_or (λ _. spot_at text (end_of_text (take place text))) (missing_at text place fault.kind) (spot_at text place))
-    (place_of text fault.left) (of_line fault.line)
+    (place_of text fault.left) (foreign_spot text fault.line)

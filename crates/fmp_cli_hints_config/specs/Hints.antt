@@ -4,8 +4,9 @@ use Rattle.fmp_bytes.specs.Bytes.{behind, number_sign}
 use Rattle.fmp_config.specs.declared.fault.ConfigFault.{ConfigFault}
 use Rattle.fmp_cli_hints_config.specs.Classes.{near_class}
 use Rattle.fmp_cli_hints_config.specs.Numbers.{number_hint}
-use Rattle.fmp_cli_hints_config.specs.Opened.{item_in}
+use Rattle.fmp_cli_hints_config.specs.Opened.{is_stray, item_in}
 use Rattle.fmp_cli_hints_config.specs.Statements.{statement_at}
+use Rattle.fmp_cli_hints_config.specs.Taken.{taken_hint}
 use Rattle.fmp_cli_hints.specs.Hints.{near_line}
 use Rattle.fmp_cli_help.specs.Fields.{word_of}
 use Rattle.fmp_cli_help.specs.LeftOut.{is_left_out}
@@ -27,7 +28,7 @@ attribute_hint statement word = []
 unfoldable pub statement_hint : List ℕ → List ℕ
 statement_hint word =
     if is_some (behind number_sign word) then codes "  Let the C preprocessor do its part before: `cpp -P`, or `tools/from-toppers`.\n"
-    else (if is_left_out word then codes "  " ++ left_out_line word else near_line (near_statement word))
+    else (if is_left_out word then codes "  " ++ left_out_line word ++ codes "  Leave the statement out, as `tools/from-toppers` does.\n" else near_line (near_statement word))
 
 -- what may be written for a word of a statement
 abbrev pub written : Item → List ℕ
@@ -41,9 +42,16 @@ abbrev pub told_item : Option (StatementName × Item) → List ℕ
 told_item None = []
 told_item (Some (name, item)) = codes "  here: " ++ word_of name item ++ written item
 
+-- of a token that does not fit that a `;` stands where no statement is open, or which word has to stand there
+unfoldable pub syntax_hint : List ℕ → ℕ → List ℕ
+syntax_hint text place =
+    if is_stray text place then codes "  No `;` stands here: a class ends with its `}`, and each statement with one `;`.\n"
+    else told_item (item_in (take place text))
+
 -- what is told of the word at a place, with this fault
 abbrev pub hint_as : ConfigKind → List ℕ → ℕ → List ℕ → List ℕ
-hint_as kinds.Syntax text place word = told_item (item_in (take place text))
+hint_as kinds.Syntax text place word = syntax_hint text place
+hint_as kinds.NameTaken text place word = taken_hint (take place text) word
 hint_as kinds.BadAttribute text place word = attribute_hint (statement_at text place word) word
 hint_as kinds.Unsupported text place word = statement_hint word
 hint_as kinds.UnknownClass text place word = near_line (near_class (take place text) word)

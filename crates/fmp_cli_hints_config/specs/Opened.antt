@@ -1,8 +1,8 @@
 -- The statement that is open at a place of a configuration, and the mark that has to follow there.
-use Rattle.std.specs.Prelude.{ℕ, ◌+◌, Bool, true, false, ◌&&◌, ◌||◌, List, [], ◌∷◌, length, take, Option, Some, None, option_map, option_and_then, ◌==◌, if◌then◌else◌}
+use Rattle.std.specs.Prelude.{ℕ, ◌+◌, Bool, true, false, ◌&&◌, ◌||◌, List, [], ◌∷◌, length, take, drop, Option, Some, None, is_some, is_none, option_map, option_and_then, ◌==◌, if◌then◌else◌}
 use Rattle.std.specs.Option.{option_map_or}
 use Rattle.fmp_bytes.specs.declared.classes.Class.TheVariants.{Space}
-use Rattle.fmp_bytes.specs.Bytes.{is_of, close_parenthesis, comma}
+use Rattle.fmp_bytes.specs.Bytes.{behind, is_of, close_parenthesis, comma}
 use Rattle.fmp_config_statements.specs.declared.fault.ConfigKind.{ConfigKind}
 use Rattle.fmp_config_statements.specs.declared.fault.ConfigKind.TheVariants as kinds
 use Rattle.fmp_config_statements.specs.declared.parts.Item.{Item}
@@ -117,6 +117,13 @@ is_name item = false
 
 abbrev pub awaits_class : Option Opened → Bool
 awaits_class opened = option_map_or (λ o. is_definition o.name && is_name (item_at o.scan o.rest)) opened false
+
+abbrev pub awaits_name : Option Opened → Bool
+awaits_name opened = option_map_or (λ o. is_name (item_at o.scan o.rest)) opened false
+
+-- a `;` at a place where no statement is open
+unfoldable pub is_stray : List ℕ → ℕ → Bool
+is_stray text place = is_some (behind 59 (drop place text)) && is_none (opened_in (take place text))
 
 -- only a token that does not fit tells what is missing before it
 abbrev pub missing_at : List ℕ → ℕ → ConfigKind → Option (StatementName × ℕ)

@@ -3,15 +3,15 @@ ghost use Rattle.std.specs.Prelude.{◌≡◌, ◌≤◌, ◌++◌, length, OnOk
 ghost use Rattle.fmp_config.specs.Limits.{most_bytes};
 ghost use Rattle.fmp_cli_hints_config.specs.Configs as spec;
 
+use crate::foreign::{foreign_spot, put_numbered, words_at};
 use crate::hints::put_word_hint;
-use crate::opened::{end_of_text, missing_at};
+use crate::opened::{end_of_text, is_stray, missing_at};
+use crate::projects::put_project_line;
 use crate::statements::statement_at;
 use fmp_bytes::cut;
 use fmp_cli_diagnostics::Spot;
 use fmp_cli_help::{put_config_advice, put_statement};
-use fmp_cli_hints::{
-    label, line_behind, put_config_likeness, put_excerpt, put_line, put_mark, without_mark,
-};
+use fmp_cli_hints::{label, line_behind, put_config_likeness, put_excerpt, put_mark};
 use fmp_config::{ConfigFault, ConfigKind};
 use fmp_config_statements::StatementName;
 use std::alloc::{AllocError, Global};
@@ -41,20 +41,6 @@ fn put_placed(out: &mut Vec<u8>, text: &[u8], place: usize) -> Result<(), AllocE
     let column = column_after(&text[..place]);
     let (line, _after) = cut(b'\n', &text[place - column..]);
     put_excerpt(out, line, column.min(line.len()))
-}
-
-/// Adds the line of this number from 1, if there is one, without a byte order mark before it.
-#[tactic(auto, unfolding(crate::specs::Configs::numbered))]
-fn put_numbered(out: &mut Vec<u8>, text: &[u8], line: u32) -> Result<(), AllocError>
-    ensures { OnOk result (out.new.items ≡ out.old.items ++ spec.numbered text.now line) }
-{
-    if line == 0 {
-        return Ok(());
-    }
-    match line_behind(line - 1, text) {
-        Some((line, _after)) => put_line(out, without_mark(line), 0),
-        None => Ok(()),
-    }
 }
 
 /// The place from which on so many bytes are left.
@@ -108,7 +94,7 @@ fn put_form_at(
     requires few { length text.now ≤ most_bytes }
     ensures { OnOk result (out.new.items ≡ out.old.items ++ spec.form_at text.now place fault.now) }
 {
-    if wants_form(fault.kind) {
+    if wants_form(fault.kind) && !is_stray(text, place) {
         put_form(out, statement_at(text, place, fault.word.as_bytes()))
     } else {
         Ok(())
@@ -126,16 +112,14 @@ fn put_missed(
     requires { place ≤ length text.now }
     ensures { OnOk result (out.new.items ≡ out.old.items ++ spec.missed text.now place missing) }
 {
-    let (name, byte) = missing;
+    let (name, _byte) = missing;
     put_placed(out, text, end_of_text(&text[..place]))?;
-    put_form(out, Some(name))?;
-    put_mark(out, byte)
+    put_form(out, Some(name))
 }
 
-/// Adds the line of the token at a place, a caret under it, and what is wanted in its place.
+/// Adds the line of the token at a place, a caret under it, and the form of its statement.
 #[tactic(auto, unfolding(crate::specs::Configs::refused))]
 fn put_refused(
-    alloc: Global,
     out: &mut Vec<u8>,
     text: &[u8],
     place: usize,
@@ -146,18 +130,12 @@ fn put_refused(
     ensures { OnOk result (out.new.items ≡ out.old.items ++ spec.refused text.now place fault.now) }
 {
     put_placed(out, text, place)?;
-    put_form_at(out, text, place, fault)?;
-    put_word_hint(alloc, out, text, place, fault)
+    put_form_at(out, text, place, fault)
 }
 
 /// Adds the line of a fault, with a caret where a token is at fault, or where one is missing.
 #[tactic(auto, unfolding(crate::specs::Configs::shown))]
-fn put_fault(
-    alloc: Global,
-    out: &mut Vec<u8>,
-    text: &[u8],
-    fault: &ConfigFault,
-) -> Result<(), AllocError>
+fn put_fault(out: &mut Vec<u8>, text: &[u8], fault: &ConfigFault) -> Result<(), AllocError>
     requires { length text.now ≤ most_bytes }
     ensures { OnOk result (out.new.items ≡ out.old.items ++ spec.shown text.now fault.now) }
 {
@@ -166,7 +144,48 @@ fn put_fault(
     };
     match missing_at(text, place, fault.kind) {
         Some(missing) => put_missed(out, text, place, missing),
-        None => put_refused(alloc, out, text, place, fault),
+        None => put_refused(out, text, place, fault),
+    }
+}
+
+/// Adds what is told of the token at fault, of what is missing there, or of a character that no token has.
+#[tactic(auto, unfolding(crate::specs::Configs::told))]
+fn put_told(
+    alloc: Global,
+    out: &mut Vec<u8>,
+    text: &[u8],
+    fault: &ConfigFault,
+) -> Result<(), AllocError>
+    requires { length text.now ≤ most_bytes }
+    ensures { OnOk result (out.new.items ≡ out.old.items ++ spec.told text.now fault.now) }
+{
+    let Some(place) = place_of(text, fault.left) else {
+        return out.extend_from_slice(words_at(text, fault.line));
+    };
+    match missing_at(text, place, fault.kind) {
+        Some((_name, byte)) => put_mark(out, byte),
+        None => put_word_hint(alloc, out, text, place, fault),
+    }
+}
+
+/// What is told of the token at fault.
+fn told(alloc: Global, text: &[u8], fault: &ConfigFault) -> Result<Vec<u8>, AllocError>
+    requires { length text.now ≤ most_bytes }
+    ensures { IfOk result (λ out. out.items ≡ spec.told text.now fault.now) }
+{
+    let mut out = Vec::new(alloc);
+    put_told(alloc, &mut out, text, fault)?;
+    Ok(out)
+}
+
+/// Adds what is told of the token at fault, or else what to do about such a fault.
+fn put_told_or_advice(out: &mut Vec<u8>, told: &[u8], kind: ConfigKind) -> Result<(), AllocError>
+    ensures { OnOk result (out.new.items ≡ out.old.items ++ spec.told_or_advice told.now kind) }
+{
+    if told.is_empty() {
+        put_config_advice(out, kind)
+    } else {
+        out.extend_from_slice(told)
     }
 }
 
@@ -190,8 +209,8 @@ fn put_likeness_at(
 }
 
 /// What stands beside a fault of a configuration: the line, and where a token is at fault a caret under its first byte, or where one
-/// is missing there, and the form of the statement, and what to do about such a fault, and what the line looks like where it looks like one of another text.
-/// Where the token stands is taken from the fault.
+/// is missing there, and the form of the statement, what is told of the token or else what to do about such a fault, and what the line or the text
+/// looks like where it looks like another one. Where the token stands is taken from the fault.
 #[tactic(auto, unfolding(crate::specs::Configs::config_context))]
 pub fn config_context(
     alloc: Global,
@@ -202,9 +221,11 @@ pub fn config_context(
     ensures { IfOk result (λ out. out.items ≡ spec.config_context text.now fault.now) }
 {
     let mut out = Vec::new(alloc);
-    put_fault(alloc, &mut out, text, fault)?;
-    put_config_advice(&mut out, fault.kind)?;
+    put_fault(&mut out, text, fault)?;
+    let told = told(alloc, text, fault)?;
+    put_told_or_advice(&mut out, told.as_slice(), fault.kind)?;
     put_likeness_at(&mut out, text, fault.line, fault.kind)?;
+    put_project_line(&mut out, text, fault)?;
     Ok(out)
 }
 
@@ -240,7 +261,7 @@ pub fn config_spot(text: &[u8], fault: &ConfigFault) -> Spot
     ensures { result ≡ spec.config_spot text.now fault.now }
 {
     let Some(place) = place_of(text, fault.left) else {
-        return Spot::of_line(fault.line);
+        return foreign_spot(text, fault.line);
     };
     match missing_at(text, place, fault.kind) {
         Some(_) => spot_at(text, end_of_text(&text[..place])),

@@ -1,13 +1,14 @@
 //! What a configuration says of a word that stands where a function is wanted.
-ghost use Rattle.std.specs.Prelude.{◌≡◌, ◌++◌, None, IfOk, OnOk};
+ghost use Rattle.std.specs.Prelude.{◌≡◌, ◌++◌, ◌<◌, None, IfOk, IfSome, OnOk, length, position};
 ghost use Rattle.std.specs.Option.{option_copied};
 ghost use Rattle.fmp_cli_hints_config.specs.Functions as spec;
 ghost use Rattle.fmp_cli_help.specs.Near.{nearest};
 
 use fmp_calls::{NameKind, ObjectKind};
 use fmp_cli_help::nearer;
-use fmp_cli_hints::{function_at, put_near};
+use fmp_cli_hints::{TextForm, function_at, near_thing, put_near, task_at};
 use fmp_config::Config;
+use fmp_setup::TaskSetup;
 use fmp_text::{TextFault, is_name};
 use std::alloc::{AllocError, Global};
 
@@ -105,20 +106,159 @@ fn put_word(
     }
 }
 
-/// What more stands below what `fmp_cli_hints` tells of a fault of scripts: of the word that stands where a function is wanted which function it
-/// has, where it is a task, or the nearest function. That the text has the fault is taken from the caller.
+/// Adds what is told of the word that stands where a function is wanted, where a fault of scripts is there.
 #[tactic(auto, unfolding(crate::specs::Functions::script_hint))]
-pub fn script_hint(
+fn put_script_hint(
     alloc: Global,
+    out: &mut Vec<u8>,
     config: &Config,
     text: &[u8],
     fault: TextFault,
+) -> Result<(), AllocError>
+    ensures { OnOk result (out.new.items ≡ out.old.items ++ spec.script_hint config.now text.now fault) }
+{
+    match function_at(alloc, config.names(), text, fault)? {
+        Some(word) => put_word(alloc, out, config, word),
+        None => Ok(()),
+    }
+}
+
+/// Whether a task has the function of this number.
+fn has_main(task: &TaskSetup, number: usize) -> bool
+    ensures { result ≡ spec.has_main number task.now }
+{
+    usize::from(task.main) == number
+}
+
+/// The place, from 0, of the first of these tasks that has the function of this number.
+fn place_with(tasks: &[TaskSetup], number: usize) -> Option<usize>
+    ensures place { result ≡ position (spec.has_main number) tasks.now }
+    ensures within { IfSome result (λ i. i < length tasks.now) }
+{
+    tasks.iter().position(|task| has_main(task, number))
+}
+
+/// The first task with this function.
+#[tactic(auto, unfolding(crate::specs::Functions::task_of))]
+fn task_of<'a>(config: &'a Config, function: &[u8]) -> Option<&'a [u8]>
+    ensures { option_copied result ≡ spec.task_of config.now function.now }
+{
+    let names = config.names();
+    let number = names.number(NameKind::Function, function)?;
+    let place = place_with(config.tasks(), number)?;
+    names.name(NameKind::Object(ObjectKind::Task), place + 1)
+}
+
+/// What stands between a function and its task.
+#[tactic(auto, unfolding(crate::specs::Functions::main_words))]
+fn main_words() -> &'static [u8]
+    ensures { result.now ≡ spec.main_words }
+{
+    b" is a function, and its task is "
+}
+
+/// Adds which task a function has.
+#[tactic(auto, unfolding(crate::specs::Functions::main_line))]
+fn put_main_line(out: &mut Vec<u8>, function: &[u8], task: &[u8]) -> Result<(), AllocError>
+    ensures { OnOk result (out.new.items ≡ out.old.items ++ spec.main_line function.now task.now) }
+{
+    out.extend_from_slice(b"  ")?;
+    out.extend_from_slice(function)?;
+    out.extend_from_slice(main_words())?;
+    out.extend_from_slice(task)?;
+    out.extend_from_slice(b".\n")
+}
+
+/// Adds which task a word has that is its function.
+#[tactic(auto, unfolding(crate::specs::Functions::told_task))]
+fn put_task_of(out: &mut Vec<u8>, config: &Config, word: &[u8]) -> Result<(), AllocError>
+    ensures { OnOk result (out.new.items ≡ out.old.items ++ spec.told_task config.now word.now) }
+{
+    match task_of(config, word) {
+        Some(task) => put_main_line(out, word, task),
+        None => Ok(()),
+    }
+}
+
+/// Adds which task has the function that stands where a task is wanted, where a fault of a text is there.
+#[tactic(auto, unfolding(crate::specs::Functions::task_hint))]
+fn put_task_hint(
+    alloc: Global,
+    out: &mut Vec<u8>,
+    config: &Config,
+    form: TextForm,
+    text: &[u8],
+    fault: TextFault,
+) -> Result<(), AllocError>
+    ensures { OnOk result (out.new.items ≡ out.old.items ++ spec.task_hint config.now form text.now fault) }
+{
+    match task_at(alloc, config.names(), form, text, fault)? {
+        Some(word) => put_task_of(out, config, word),
+        None => Ok(()),
+    }
+}
+
+/// What more stands below what `fmp_cli_hints` tells of a fault of a text. Where a task is wanted and its function stands there: which task that is.
+/// In scripts, where a function is wanted: which function a task has that stands there, or else the nearest function. That the text has the
+/// fault is taken from the caller.
+#[tactic(auto, unfolding(crate::specs::Functions::text_hint))]
+pub fn text_hint(
+    alloc: Global,
+    config: &Config,
+    form: TextForm,
+    text: &[u8],
+    fault: TextFault,
 ) -> Result<Vec<u8>, AllocError>
-    ensures { IfOk result (λ out. out.items ≡ spec.script_hint config.now text.now fault) }
+    ensures { IfOk result (λ out. out.items ≡ spec.text_hint config.now form text.now fault) }
 {
     let mut out = Vec::new(alloc);
-    if let Some(word) = function_at(alloc, config.names(), text, fault)? {
-        put_word(alloc, &mut out, config, word)?;
+    if matches!(form, TextForm::Scripts) {
+        put_script_hint(alloc, &mut out, config, text, fault)?;
     }
+    put_task_hint(alloc, &mut out, config, form, text, fault)?;
+    Ok(out)
+}
+
+/// What is told where no name is near.
+#[tactic(auto, unfolding(crate::specs::Functions::nameable))]
+fn nameable() -> &'static [u8]
+    ensures { result.now ≡ spec.nameable }
+{
+    b"  Tasks, handlers and objects may be named: `fmpsim list` with the path of a configuration has their names.\n"
+}
+
+/// Adds the name that is near, or what may be named.
+fn put_near_or_nameable(out: &mut Vec<u8>, near: Option<&[u8]>) -> Result<(), AllocError>
+    ensures { OnOk result (out.new.items ≡ out.old.items ++ spec.near_or_nameable (option_copied near.entry)) }
+{
+    match near {
+        Some(_) => put_near(out, near),
+        None => out.extend_from_slice(nameable()),
+    }
+}
+
+/// Adds what is told of a name that no task, handler or object has.
+#[tactic(auto, unfolding(crate::specs::Functions::thing_hint))]
+fn put_thing_hint(
+    alloc: Global,
+    out: &mut Vec<u8>,
+    config: &Config,
+    name: &[u8],
+) -> Result<(), AllocError>
+    ensures { OnOk result (out.new.items ≡ out.old.items ++ spec.thing_hint config.now name.now) }
+{
+    match task_of(config, name) {
+        Some(task) => put_main_line(out, name, task),
+        None => put_near_or_nameable(out, near_thing(alloc, config.names(), name)?),
+    }
+}
+
+/// What is told of a name that no task, handler or object of a configuration has: whose function it is, the nearest that one has, or what may
+/// be named.
+pub fn thing_hint(alloc: Global, config: &Config, name: &[u8]) -> Result<Vec<u8>, AllocError>
+    ensures { IfOk result (λ out. out.items ≡ spec.thing_hint config.now name.now) }
+{
+    let mut out = Vec::new(alloc);
+    put_thing_hint(alloc, &mut out, config, name)?;
     Ok(out)
 }

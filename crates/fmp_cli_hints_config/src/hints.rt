@@ -5,8 +5,9 @@ ghost use Rattle.fmp_cli_hints_config.specs.Hints as spec;
 
 use crate::classes::near_class;
 use crate::numbers::put_number_hint;
-use crate::opened::item_in;
+use crate::opened::{is_stray, item_in};
 use crate::statements::statement_at;
+use crate::taken::put_taken_hint;
 use fmp_bytes::behind;
 use fmp_cli_help::{is_left_out, near_attribute, near_statement, put_left_out, statement_word};
 use fmp_cli_hints::put_near;
@@ -41,7 +42,8 @@ fn put_statement_hint(alloc: Global, out: &mut Vec<u8>, word: &[u8]) -> Result<(
     }
     if is_left_out(word) {
         out.extend_from_slice(b"  ")?;
-        return put_left_out(out, word);
+        put_left_out(out, word)?;
+        return out.extend_from_slice(b"  Leave the statement out, as `tools/from-toppers` does.\n");
     }
     put_near(out, near_statement(alloc, word)?)
 }
@@ -70,6 +72,21 @@ fn put_item(out: &mut Vec<u8>, item: Option<(StatementName, Item)>) -> Result<()
     out.extend_from_slice(written(item))
 }
 
+/// Adds what is told of a token that does not fit: that a `;` stands where no statement is open, or which word has to stand there.
+#[tactic(auto, unfolding(crate::specs::Hints::syntax_hint))]
+fn put_syntax_hint(out: &mut Vec<u8>, text: &[u8], place: usize) -> Result<(), AllocError>
+    requires within { place ≤ length text.now }
+    requires few { length text.now ≤ most_bytes }
+    ensures { OnOk result (out.new.items ≡ out.old.items ++ spec.syntax_hint text.now place) }
+{
+    if is_stray(text, place) {
+        return out.extend_from_slice(
+            b"  No `;` stands here: a class ends with its `}`, and each statement with one `;`.\n",
+        );
+    }
+    put_item(out, item_in(&text[..place]))
+}
+
 /// Adds what is told of the word at a place, with this fault.
 #[tactic(auto, unfolding(crate::specs::Hints::word_hint))]
 pub(crate) fn put_word_hint(
@@ -85,7 +102,8 @@ pub(crate) fn put_word_hint(
 {
     let word = fault.word.as_bytes();
     match fault.kind {
-        ConfigKind::Syntax => put_item(out, item_in(&text[..place])),
+        ConfigKind::Syntax => put_syntax_hint(out, text, place),
+        ConfigKind::NameTaken => put_taken_hint(out, &text[..place], word),
         ConfigKind::BadAttribute => {
             put_attribute_hint(alloc, out, statement_at(text, place, word), word)
         }

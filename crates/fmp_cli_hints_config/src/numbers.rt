@@ -49,7 +49,7 @@ fn line_behind_define(
 }
 
 /// The line of the last `#define` of a text for this word.
-fn defined_line(text: &[u8], word: &[u8]) -> Option<u32>
+pub(crate) fn defined_line(text: &[u8], word: &[u8]) -> Option<u32>
     requires { length text.now + 1 < 2 ^ 32 }
     ensures { result ≡ spec.defined_line text.now word.now }
 {

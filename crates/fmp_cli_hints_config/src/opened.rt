@@ -4,7 +4,7 @@ ghost use Rattle.fmp_config.specs.Limits.{most_bytes};
 ghost use Rattle.fmp_cli_hints_config.specs.Opened as spec;
 ghost use Rattle.fmp_config_statements.specs.Parts.{depth_of};
 
-use fmp_bytes::Class;
+use fmp_bytes::{Class, behind};
 use fmp_config_statements::{ConfigKind, Item, Part, Scan, StatementName, find_statement};
 use fmp_config_tokens::{Lexer, Token, TokenKind};
 use std::marker::Model;
@@ -202,6 +202,26 @@ pub(crate) fn awaits_class(opened: &Option<Opened>) -> bool
         }
         None => false,
     }
+}
+
+/// Whether a name has to follow in the open statement.
+pub(crate) fn awaits_name(opened: &Option<Opened>) -> bool
+    ensures { result ≡ spec.awaits_name opened.now }
+{
+    match opened {
+        Some(opened) => matches!(item_at(opened.scan, opened.rest), Some(Item::Name)),
+        None => false,
+    }
+}
+
+/// Whether a `;` stands at a place where no statement is open.
+#[tactic(auto, unfolding(crate::specs::Opened::is_stray))]
+pub(crate) fn is_stray(text: &[u8], place: usize) -> bool
+    requires within { place ≤ length text.now }
+    requires few { length text.now ≤ most_bytes }
+    ensures { result ≡ spec.is_stray text.now place }
+{
+    behind(b';', &text[place..]).is_some() && opened_in(&text[..place]).is_none()
 }
 
 /// The statement that is open at the end of a text, and the word that has to follow, where it has to be a word.

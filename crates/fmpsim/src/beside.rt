@@ -4,8 +4,9 @@ use crate::lines::{tell_placed, tell_plainly};
 use crate::texts::STANDARD_INPUT;
 use fmp_cli::Paths;
 use fmp_cli_diagnostics::{LineForm, Spot};
-use fmp_cli_hints::{TextForm, question_context, text_advice, text_context, text_spot};
-use fmp_cli_hints_config::{config_context, config_spot, script_hint};
+use fmp_cli_hints::{TextForm, text_advice, text_context, text_spot};
+use fmp_cli_hints_config::{config_context, config_spot, text_hint, thing_hint};
+use fmp_cli_hints_question::question_context;
 use fmp_config::{Config, ConfigFault, MOST_BYTES as MOST_CONFIG_BYTES, read_config};
 use fmp_run_events::{ReadSource, RunFault, read_up_to};
 use fmp_search_question::QuestionFault;
@@ -129,10 +130,8 @@ fn text_beside(
     fault: TextFault,
 ) -> Option<Vec<u8>> {
     let mut beside = text_context(alloc, config.names(), form, text, fault).ok()?;
-    if matches!(form, TextForm::Scripts) {
-        let hint = script_hint(alloc, config, text, fault).ok()?;
-        beside.extend_from_slice(hint.as_slice()).ok()?;
-    }
+    let hint = text_hint(alloc, config, form, text, fault).ok()?;
+    beside.extend_from_slice(hint.as_slice()).ok()?;
     Some(beside)
 }
 
@@ -245,6 +244,7 @@ pub fn tell<R: Files + Eprint + AllocGlobal>(
 pub fn tell_question<R: Eprint + AllocGlobal>(
     rt: &R,
     paths: &Paths<'_>,
+    config: &[u8],
     question: &str,
     fault: QuestionFault,
     place: usize,
@@ -252,7 +252,21 @@ pub fn tell_question<R: Eprint + AllocGlobal>(
     if paths.context.is_none() {
         return;
     }
-    if let Ok(text) = question_context(rt.alloc(), question.as_bytes(), fault, place) {
+    let Ok(config) = read_config(rt.alloc(), config) else {
+        return;
+    };
+    let question = question.as_bytes();
+    if let Ok(text) = question_context(rt.alloc(), config.names(), question, fault, place) {
+        tell_beside(rt, text.as_slice());
+    }
+}
+
+/// Tells what is near to a name that nothing in a configuration has.
+pub fn tell_name<R: Eprint + AllocGlobal>(rt: &R, config: &[u8], name: &str) {
+    let Ok(config) = read_config(rt.alloc(), config) else {
+        return;
+    };
+    if let Ok(text) = thing_hint(rt.alloc(), &config, name.as_bytes()) {
         tell_beside(rt, text.as_slice());
     }
 }

@@ -1,7 +1,7 @@
 //! The lines that tell faults, in this program's own form or in that of compilers.
 use fmp_cli::{Asked, Paths};
 use fmp_cli_diagnostics::{Diagnostic, LineForm, Spot};
-use fmp_cli_hints::question_kind;
+use fmp_cli_hints_question::question_kind;
 use fmp_run_events::{FaultLine, RunFault};
 use fmp_run_explore::QuestionLine;
 use fmp_search_question::QuestionFault;
@@ -48,7 +48,7 @@ pub fn tell_differs<R: Eprint>(rt: &R, form: LineForm, path: &str, asked: Asked,
             eprintln!(rt; "{path}:{line}: error: this line is not the machine's")
         }
         (_, Asked::Waveform | Asked::Page) => {
-            eprintln!(rt; "fmpsim: {path}: no {line}: see fmpsim check --show")
+            eprintln!(rt; "fmpsim: {path}: line {line} differs: see fmpsim check --show")
         }
         _ => return,
     };

@@ -12,6 +12,7 @@ mod output;
 mod progress;
 mod scripts;
 mod texts;
+mod values;
 mod waiting;
 mod words;
 
@@ -41,6 +42,7 @@ use std::rt::{Clock, Env, Files};
 use std::sync::Wait;
 use std::thread::Threads;
 use texts::{STANDARD_INPUT, both_opened, config_alone, trace_read};
+use values::{refused_number, tell_near_option};
 use words::{settle_context, words_of};
 
 /// The paths where no text is at fault.
@@ -135,10 +137,11 @@ fn lived<R: Files + Eprint + AllocGlobal>(
     names: &str,
     run: Result<Status, Ending>,
 ) -> Status {
-    if let Err(Ending::Name(index)) = &run {
+    if let Err(Ending::Unnamed(index, config)) = &run {
         let path = paths.config;
         let name = names.split(',').nth(*index).unwrap_or("");
         let _ = eprintln!(rt; "fmpsim: --of: {path} has nothing called '{name}'");
+        beside::tell_name(rt, config.as_slice(), name);
     }
     let text = TextForm::Events;
     ended(rt, paths, Telling { line, text }, run)
@@ -256,15 +259,14 @@ fn replied<R: Files + Eprint + AllocGlobal>(
     question: &str,
     run: Result<Status, Ending>,
 ) -> Status {
-    let asked = match &run {
-        Err(Ending::Question(fault, place)) => Some((*fault, *place)),
-        _ => None,
-    };
-    let status = ended(rt, paths, telling, run);
-    if let Some((fault, place)) = asked {
-        beside::tell_question(rt, paths, question, fault, place);
+    match run {
+        Err(Ending::Asked(fault, place, config)) => {
+            lines::tell_question(rt, telling.line, fault, place);
+            beside::tell_question(rt, paths, config.as_slice(), question, fault, place);
+            Status::Faulty
+        }
+        run => ended(rt, paths, telling, run),
     }
-    status
 }
 
 /// Tells what is wrong with the trace, at this path, with which a search was to begin.
@@ -429,7 +431,7 @@ fn ended<R: Files + Eprint + AllocGlobal>(
         Ok(status) => status,
         Err(Ending::Unread | Ending::NoTrace) => Status::Device,
         Err(Ending::LongTrace | Ending::Stray(_)) => Status::Faulty,
-        Err(Ending::Name(_)) => Status::Usage,
+        Err(Ending::Name(_) | Ending::Unnamed(..)) => Status::Usage,
         Err(Ending::OneInput) => {
             let _ = eprintln!(rt; "fmpsim: only one text can come from standard input");
             Status::Usage
@@ -452,7 +454,7 @@ fn ended<R: Files + Eprint + AllocGlobal>(
         }
         Err(Ending::NoConfig(error)) => unopened(rt, paths, paths.config, &error),
         Err(Ending::NoText(error)) => unopened(rt, paths, paths.text, &error),
-        Err(Ending::Question(fault, place)) => {
+        Err(Ending::Question(fault, place) | Ending::Asked(fault, place, _)) => {
             lines::tell_question(rt, telling.line, fault, place);
             Status::Faulty
         }
@@ -468,18 +470,26 @@ fn status_of(error: &clap::Error) -> Status {
     }
 }
 
-/// Tells help, or what is wrong with the command line, and how that ends the program.
+/// Tells help, or what is wrong with the command line, and how that ends the program. Of a number of `smp` it is told which one is expected.
 fn refused<R: Files + Print + Eprint + AllocGlobal>(
     rt: &R,
+    words: &[String],
     error: &clap::Error,
     line: LineForm,
 ) -> Status {
+    if let Some(number) = refused_number(words, error) {
+        number.tell(rt);
+        return Status::Usage;
+    }
     // No text is read, so that of their forms any will do.
     let text = TextForm::Events;
     match status_of(error) {
         Status::Memory => failed(rt, &NO_PATHS, &RunFault::Memory),
         status => match error.print(rt) {
-            Ok(()) => status,
+            Ok(()) => {
+                tell_near_option(rt, words);
+                status
+            }
             Err(error) => {
                 let run = Err(Ending::of_write(&error));
                 ended(rt, &NO_PATHS, Telling { line, text }, run)
@@ -573,7 +583,7 @@ fn execute<R: Env + Files + Input + Print + Eprint + Clock + AllocGlobal + Threa
         Ok(Request::Shrink(request)) => shrunk(rt, &request, line),
         Ok(Request::List(name)) => ended(rt, &NO_PATHS, events, list(rt, name)),
         Ok(Request::Describe(request)) => described(rt, &request, line),
-        Err(error) => refused(rt, &error, line),
+        Err(error) => refused(rt, words, &error, line),
     }
 }
 

@@ -32,8 +32,12 @@ pub enum Ending {
     LongTrace,
     /// Its line of this number, from 1, is the first that no order has there.
     Stray(u32),
+    /// That of a run that has read this configuration.
+    Asked(QuestionFault, usize, Vec<u8>),
     /// The name of this number, from 0, names nothing in the configuration.
     Name(usize),
+    /// That of a run that has read this configuration.
+    Unnamed(usize, Vec<u8>),
     /// The file or folder at this path cannot be made or written, for this cause.
     Unmade(io::Error, String),
 }
@@ -75,6 +79,8 @@ pub fn kept<T: Drop>(run: Result<T, Ending>, config: Vec<u8>) -> Result<T, Endin
     match run {
         Ok(done) => Ok(done),
         Err(Ending::Fault(fault)) => Err(Ending::Faulty(fault, config)),
+        Err(Ending::Question(fault, place)) => Err(Ending::Asked(fault, place, config)),
+        Err(Ending::Name(index)) => Err(Ending::Unnamed(index, config)),
         Err(ending) => Err(ending),
     }
 }

@@ -1,0 +1,107 @@
+//! A character that is not ASCII, in a line in which no token is at fault.
+ghost use Rattle.std.specs.Prelude.{◌≡◌, ◌<◌, ◌++◌, length, position, OnOk, IfSome};
+ghost use Rattle.std.specs.Option.{option_copied};
+ghost use Rattle.fmp_cli_hints_config.specs.Foreign as spec;
+
+use fmp_bytes::Class;
+use fmp_cli_diagnostics::Spot;
+use fmp_cli_hints::{foreign_words, line_behind, put_excerpt, put_line, without_mark};
+use std::alloc::AllocError;
+
+/// Whether a byte is printed ASCII or a tab, and neither a quotation mark nor a slash, behind which a string or a comment may begin.
+fn is_plain(byte: u8) -> bool
+    ensures { result ≡ spec.is_plain byte }
+{
+    (Class::Printed.has(byte) || byte == b'\t') && byte != b'"' && byte != b'/'
+}
+
+/// The first byte of a line that is not plain.
+fn unplain(line: &[u8]) -> Option<usize>
+    ensures place { result ≡ position spec.is_unplain line.now }
+    ensures within { IfSome result (λ i. i < length line.now) }
+{
+    line.iter().position(|byte| !is_plain(*byte))
+}
+
+/// The column of the first byte of a line that is not ASCII, where no string and no comment can have begun before it.
+#[tactic(auto, unfolding(crate::specs::Foreign::foreign_column))]
+fn foreign_column(line: &[u8]) -> Option<usize>
+    ensures column { result ≡ spec.foreign_column line.now }
+    ensures within { IfSome result (λ i. i < length line.now) }
+{
+    let column = unplain(line)?;
+    if line[column] < 0x80 {
+        return None;
+    }
+    Some(column)
+}
+
+/// The line of this number from 1, if there is one, without a byte order mark before it.
+#[tactic(auto, unfolding(crate::specs::Foreign::line_at))]
+fn line_at(text: &[u8], line: u32) -> Option<&[u8]>
+    ensures { option_copied result ≡ spec.line_at text.now line }
+{
+    if line == 0 {
+        return None;
+    }
+    let (line, _after) = line_behind(line - 1, text)?;
+    Some(without_mark(line))
+}
+
+/// Adds a line, with a caret under the first byte that is not ASCII, if it has one.
+#[tactic(auto, unfolding(crate::specs::Foreign::line_shown_so))]
+fn put_shown(out: &mut Vec<u8>, line: &[u8]) -> Result<(), AllocError>
+    ensures { OnOk result (out.new.items ≡ out.old.items ++ spec.line_shown_so line.now) }
+{
+    match foreign_column(line) {
+        Some(column) => put_excerpt(out, line, column),
+        None => put_line(out, line, 0),
+    }
+}
+
+/// Adds the line of this number from 1, if there is one, with a caret under the first byte that is not ASCII, if it has one.
+#[tactic(auto, unfolding(crate::specs::Foreign::numbered))]
+pub(crate) fn put_numbered(out: &mut Vec<u8>, text: &[u8], line: u32) -> Result<(), AllocError>
+    ensures { OnOk result (out.new.items ≡ out.old.items ++ spec.numbered text.now line) }
+{
+    match line_at(text, line) {
+        Some(line) => put_shown(out, line),
+        None => Ok(()),
+    }
+}
+
+/// What is told of the first byte of a line that is not ASCII.
+#[tactic(auto, unfolding(crate::specs::Foreign::words_in))]
+fn words_in(line: &[u8]) -> &'static [u8]
+    ensures { result.now ≡ spec.words_in line.now }
+{
+    match foreign_column(line) {
+        Some(column) => foreign_words(&line[column..]),
+        None => b"",
+    }
+}
+
+/// What is told of the first byte that is not ASCII of the line of this number from 1.
+#[tactic(auto, unfolding(crate::specs::Foreign::words_at))]
+pub(crate) fn words_at(text: &[u8], line: u32) -> &'static [u8]
+    ensures { result.now ≡ spec.words_at text.now line }
+{
+    match line_at(text, line) {
+        Some(line) => words_in(line),
+        None => b"",
+    }
+}
+
+/// Where the first byte that is not ASCII stands in the line of this number from 1.
+#[tactic(auto, unfolding(crate::specs::Foreign::foreign_spot))]
+pub(crate) fn foreign_spot(text: &[u8], line: u32) -> Spot
+    ensures { result ≡ spec.foreign_spot text.now line }
+{
+    let Some(shown) = line_at(text, line) else {
+        return Spot::of_line(line);
+    };
+    match foreign_column(shown) {
+        Some(column) => Spot::Column(line as usize, column + 1),
+        None => Spot::of_line(line),
+    }
+}

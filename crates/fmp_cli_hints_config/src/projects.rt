@@ -1,0 +1,85 @@
+//! Whether a text looks like one of the static API files of a TOPPERS project.
+ghost use Rattle.std.specs.Prelude.{◌≡◌, ◌≤◌, ◌++◌, ◌+◌, ◌<◌, ◌^◌, OnOk, length};
+ghost use Rattle.fmp_config.specs.Limits.{most_bytes};
+ghost use Rattle.fmp_cli_hints_config.specs.Projects as spec;
+
+use fmp_bytes::behind;
+use fmp_cli_help::{is_class_word, is_project_word};
+use fmp_config::{ConfigFault, ConfigKind};
+use fmp_config_tokens::Lexer;
+use std::alloc::AllocError;
+
+/// Where a text is from, as far as its words say.
+#[derive(Clone, Copy)]
+pub enum Origin {
+    Unknown,
+    /// It names classes that a kernel brings with it.
+    Classes,
+    /// It has words that stand in no configuration.
+    Project,
+    /// It defines classes, as a configuration does.
+    Own,
+}
+
+/// Where a text is from, by one word more.
+fn origin_behind(origin: Origin, word: &[u8]) -> Origin
+    ensures { result ≡ spec.origin_behind origin word.now }
+{
+    if matches!(origin, Origin::Project) || is_project_word(word) {
+        Origin::Project
+    } else if matches!(origin, Origin::Own) || word == b"DEF_CLASS".as_slice() {
+        Origin::Own
+    } else if is_class_word(word) {
+        Origin::Classes
+    } else {
+        origin
+    }
+}
+
+/// Where a text is from.
+fn origin_of(text: &[u8]) -> Origin
+    requires { length text.now + 1 < 2 ^ 32 }
+    ensures { result ≡ spec.origin_of text.now }
+{
+    let mut lexer = Lexer::new(text);
+    let mut origin = Origin::Unknown;
+    while let Some(token) = lexer.next_token() {
+        origin = origin_behind(origin, token.text());
+    }
+    origin
+}
+
+/// Whether a fault may come of a text that is none for this program.
+fn may_be_of_project(kind: ConfigKind) -> bool
+    ensures { result ≡ spec.may_be_of_project kind }
+{
+    matches!(
+        kind,
+        ConfigKind::Syntax
+            | ConfigKind::Unsupported
+            | ConfigKind::UnknownClass
+            | ConfigKind::OutOfRange
+            | ConfigKind::NoProcessors
+    )
+}
+
+/// Adds that a text with this fault looks like a file of a project, where it does, unless the fault is a directive, of which that is told.
+#[tactic(auto, unfolding(crate::specs::Projects::project_line))]
+pub(crate) fn put_project_line(
+    out: &mut Vec<u8>,
+    text: &[u8],
+    fault: &ConfigFault,
+) -> Result<(), AllocError>
+    requires { length text.now ≤ most_bytes }
+    ensures { OnOk result (out.new.items ≡ out.old.items ++ spec.project_line text.now fault.now) }
+{
+    if !may_be_of_project(fault.kind) || behind(b'#', fault.word.as_bytes()).is_some() {
+        return Ok(());
+    }
+    match origin_of(text) {
+        Origin::Classes | Origin::Project => out.extend_from_slice(
+            b"  This looks like a file of a TOPPERS project: `tools/from-toppers` makes a configuration of it.\n",
+        ),
+        Origin::Unknown | Origin::Own => Ok(()),
+    }
+}

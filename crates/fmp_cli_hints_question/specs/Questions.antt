@@ -1,0 +1,56 @@
+-- What stands beside a fault of a question.
+use Rattle.std.specs.Prelude.{ℕ, Bool, List, [], ◌∷◌, ◌++◌, length, drop, min, ◌==◌, if◌then◌else◌, codes}
+use Rattle.std.specs.List.{list_any}
+use Rattle.fmp_bytes.specs.Bytes.{cut_at, space}
+use Rattle.fmp_names.specs.Names.{NameLists}
+use Rattle.fmp_search_question.specs.declared.fault.QuestionFault.{QuestionFault}
+use Rattle.fmp_search_question.specs.declared.fault.QuestionFault.TheVariants as question
+use Rattle.fmp_text.specs.declared.fault.TextKind.{TextKind}
+use Rattle.fmp_text.specs.declared.fault.TextKind.TheVariants as kinds
+use Rattle.fmp_cli_hints_question.specs.declared.question.TheConstants.{SIGNS}
+use Rattle.fmp_cli_hints_question.specs.Known.{run_hints}
+use Rattle.fmp_cli_hints.specs.Excerpts.{excerpt}
+use Rattle.fmp_cli_hints.specs.Wanted.{label}
+
+-- what is wanted
+abbrev pub words : QuestionFault → List ℕ
+words question.BadWord = codes "a word of printed bytes, with one blank between two words\n"
+words question.BadForm =
+    codes "a pattern, before and behind each `then`, `without` and `&`; a number from 1 to 255 at the front of a step before `times`\n"
+words question.UnknownName =
+    codes "a name of the configuration, a processor, a call, a code, a word of a trace or of a state, or a `*` in the word\n"
+words question.TooLong = codes "at most 255 steps, and at most 1024 bytes in a pattern\n"
+
+-- as which fault of a text one of a question is told
+abbrev pub kind_of : QuestionFault → TextKind
+kind_of question.BadWord = kinds.BadByte
+kind_of question.BadForm = kinds.BadWord
+kind_of question.UnknownName = kinds.UnknownName
+kind_of question.TooLong = kinds.TooMany
+
+-- a byte that means something in a regular expression
+abbrev pub is_sign : ℕ → Bool
+is_sign b = list_any (λ s. s == b) SIGNS
+
+abbrev pub has_sign : List ℕ → Bool
+has_sign word = list_any is_sign word
+
+-- what is told of the word at fault
+unfoldable pub word_hint : NameLists → List ℕ → List ℕ
+word_hint names word =
+    if has_sign word then codes "  A pattern is no regular expression: `*` alone stands for any bytes.\n" else run_hints names word
+
+-- with such a fault, in a text that goes on so from it on
+unfoldable pub hint : NameLists → QuestionFault → List ℕ → List ℕ
+hint names question.BadWord text = word_hint names (cut_at space text).0
+hint names question.UnknownName text = word_hint names (cut_at space text).0
+hint names fault text = []
+
+abbrev pub empty_words : List ℕ → List ℕ
+empty_words [] = codes "  The question is empty.\n"
+empty_words (b ∷ bytes) = []
+
+-- the question, a caret under the byte at which the fault begins, what is wanted there, and what is told of the word
+unfoldable pub question_context : NameLists → List ℕ → QuestionFault → ℕ → List ℕ
+question_context names text fault place =
+    excerpt text (min place (length text)) ++ label ++ words fault ++ empty_words text ++ hint names fault (drop (min place (length text)) text)

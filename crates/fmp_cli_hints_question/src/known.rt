@@ -1,0 +1,233 @@
+//! What is told of a word of a question that is no name, no call, no code and no word of a trace.
+ghost use Rattle.std.specs.Prelude.{◌≡◌, ◌++◌, ◌<◌, ◌==◌, IfOk, IfSome, OnOk, None, length, map, position};
+ghost use Rattle.std.specs.List.{list_any};
+ghost use Rattle.std.specs.Option.{option_copied};
+ghost use Rattle.fmp_cli_help.specs.Near.{nearest};
+ghost use Rattle.fmp_cli_hints_question.specs.Known as spec;
+ghost use Rattle.fmp_search_question.specs.Words as words;
+
+use crate::rows::QUESTION_ROWS;
+use fmp_bytes::Class;
+use fmp_cli_help::{near_answer, nearer};
+use fmp_cli_hints::{near_thing, put_near, put_processors, told_of};
+use fmp_names::is_processor_word;
+use fmp_text::{Names, processor_in};
+use std::alloc::{AllocError, Global};
+
+/// The words of a trace and of a state, besides names, processors, calls and codes.
+pub const LINE_WORDS: [&[u8]; 39] = [
+    b"tick",
+    b"ipi",
+    b"wait",
+    b"spin",
+    b"gone",
+    b"idle",
+    b"held",
+    b"taken",
+    b"none",
+    b"rel",
+    b"lost",
+    b"run",
+    b"ready",
+    b"due",
+    b"locked",
+    b"disabled",
+    b"latch",
+    b"suspended",
+    b"waits",
+    b"slp",
+    b"dly",
+    b"sem",
+    b"flg",
+    b"sdtq",
+    b"rdtq",
+    b"mpf",
+    b"left",
+    b"stopped",
+    b"pri",
+    b"act",
+    b"wup",
+    b"count",
+    b"pattern",
+    b"values",
+    b"free",
+    b"end",
+    b"TSK_SELF",
+    b"TWF_ANDW",
+    b"TWF_ORW",
+];
+
+/// The nearest of these words, and of the best one before them.
+fn near_word<'a>(
+    alloc: Global,
+    word: &[u8],
+    before: Option<&'a [u8]>,
+    words: &[&'a [u8]],
+) -> Result<Option<&'a [u8]>, AllocError>
+    ensures { IfOk result (λ found. option_copied found ≡ nearest word.now (option_copied before.entry) (map (λ w. w.now) words.now)) }
+{
+    let mut best = before;
+    for it in words {
+        best = nearer(alloc, word, best, it)?;
+    }
+    Ok(best)
+}
+
+/// The nearest of what may stand in a line of a trace or of a state.
+#[tactic(auto, unfolding(crate::specs::Known::near_known))]
+fn near_known<'a>(
+    alloc: Global,
+    names: &'a Names,
+    word: &[u8],
+) -> Result<Option<&'a [u8]>, AllocError>
+    ensures { IfOk result (λ found. option_copied found ≡ spec.near_known names.now word.now) }
+{
+    let best = near_thing(alloc, names, word)?;
+    let best = near_word(alloc, word, best, &LINE_WORDS)?;
+    if best.is_some() {
+        return Ok(best);
+    }
+    near_answer(alloc, word)
+}
+
+/// Whether the first byte of a run is a decimal digit. That holds of an empty run too.
+fn begins_with_digit(run: &[u8]) -> bool
+    ensures { result ≡ words.begins_with_digit run.now }
+{
+    match run {
+        [] => true,
+        [first, ..] => first.is_ascii_digit(),
+    }
+}
+
+/// Whether some byte of a run is a star.
+fn has_star(run: &[u8]) -> bool
+    ensures { result ≡ list_any (λ b. b == words.star) run.now }
+{
+    run.iter().any(|b| *b == b'*')
+}
+
+/// Whether nothing is told of a run: it has a star, begins with a digit, is empty, or is the name of an object.
+#[tactic(auto, unfolding(crate::specs::Known::is_settled))]
+fn is_settled(names: &Names, run: &[u8]) -> bool
+    ensures { result ≡ spec.is_settled names.now run.now }
+{
+    has_star(run) || begins_with_digit(run) || names.contains_object(run)
+}
+
+/// What is told of a function, behind its name.
+#[tactic(auto, unfolding(crate::specs::Known::function_words))]
+fn function_words() -> &'static [u8]
+    ensures { result.now ≡ spec.function_words }
+{
+    b" is a function. In a line stands the name of the task or the handler.\n"
+}
+
+/// Adds the name that is near to a run, unless it is the run itself.
+fn put_other(out: &mut Vec<u8>, run: &[u8], found: Option<&[u8]>) -> Result<(), AllocError>
+    ensures { OnOk result (out.new.items ≡ out.old.items ++ spec.other_line run.now (option_copied found.entry)) }
+{
+    match found {
+        Some(name) if name != run => put_near(out, found),
+        _ => Ok(()),
+    }
+}
+
+/// Adds what is told of a name that stands in no line.
+#[tactic(auto, unfolding(crate::specs::Known::name_hint))]
+fn put_name_hint(
+    alloc: Global,
+    out: &mut Vec<u8>,
+    names: &Names,
+    run: &[u8],
+) -> Result<(), AllocError>
+    ensures { OnOk result (out.new.items ≡ out.old.items ++ spec.name_hint names.now run.now) }
+{
+    if names.contains_function(run) {
+        out.extend_from_slice(b"  ")?;
+        out.extend_from_slice(run)?;
+        return out.extend_from_slice(function_words());
+    }
+    put_other(out, run, near_known(alloc, names, run)?)
+}
+
+/// Adds which processors there are, where a run is none of them.
+#[tactic(auto, unfolding(crate::specs::Known::processor_hint))]
+fn put_processor_hint(out: &mut Vec<u8>, names: &Names, run: &[u8]) -> Result<(), AllocError>
+    ensures { OnOk result (out.new.items ≡ out.old.items ++ spec.processor_hint names.now run.now) }
+{
+    if processor_in(names, run).is_ok() {
+        return Ok(());
+    }
+    out.extend_from_slice(b"  here: ")?;
+    put_processors(out, names.processors())
+}
+
+/// Adds what is told of letters, digits, `_` and stars in a row.
+#[tactic(auto, unfolding(crate::specs::Known::run_hint))]
+fn put_run_hint(
+    alloc: Global,
+    out: &mut Vec<u8>,
+    names: &Names,
+    run: &[u8],
+) -> Result<(), AllocError>
+    ensures { OnOk result (out.new.items ≡ out.old.items ++ spec.run_hint names.now run.now) }
+{
+    if is_settled(names, run) {
+        return Ok(());
+    }
+    if is_processor_word(run) {
+        return put_processor_hint(out, names, run);
+    }
+    let row = told_of(&QUESTION_ROWS, run);
+    if row.is_empty() {
+        put_name_hint(alloc, out, names, run)
+    } else {
+        out.extend_from_slice(row)
+    }
+}
+
+/// Whether a byte is no letter, no digit, no `_` and no star, so that it ends a run.
+fn is_outside(byte: u8) -> bool
+    ensures { result ≡ words.is_outside byte }
+{
+    !(Class::Word.has(byte) || byte == b'*')
+}
+
+/// The place of the first byte that ends a run, from 0. None where the whole word is one run.
+fn end_of_run(word: &[u8]) -> Option<usize>
+    ensures place { result ≡ position words.is_outside word.now }
+    ensures within { IfSome result (λ i. i < length word.now) }
+{
+    word.iter().position(|byte| is_outside(*byte))
+}
+
+/// The first run of a word, and what follows the byte that ends it, which is in neither. None follows where the whole word is one run.
+#[tactic(auto, unfolding(fmp_search_question::specs::Words::cut_run))]
+fn cut_run(word: &[u8]) -> (&[u8], Option<&[u8]>)
+    ensures prefix { result.0.now ≡ (words.cut_run word.now).0 }
+    ensures rest { option_copied result.1 ≡ (words.cut_run word.now).1 }
+{
+    match end_of_run(word) {
+        Some(end) => (&word[..end], Some(&word[end + 1..])),
+        None => (word, None),
+    }
+}
+
+/// Adds what is told of each run of letters, digits, `_` and stars of a word.
+pub(crate) fn put_run_hints(
+    alloc: Global,
+    out: &mut Vec<u8>,
+    names: &Names,
+    word: &[u8],
+) -> Result<(), AllocError>
+    ensures { OnOk result (out.new.items ≡ out.old.items ++ spec.run_hints names.now word.now) }
+{
+    let mut rest = Some(word);
+    while let Some(text) = rest {
+        let (run, after) = cut_run(text);
+        rest = after;
+        put_run_hint(alloc, out, names, run)?;
+    }
+    Ok(())
+}

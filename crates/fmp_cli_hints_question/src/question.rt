@@ -1,0 +1,127 @@
+//! What stands beside a fault of a question.
+ghost use Rattle.std.specs.Prelude.{◌≡◌, ◌++◌, IfOk, OnOk};
+ghost use Rattle.fmp_cli_hints_question.specs.Questions as spec;
+
+use crate::known::put_run_hints;
+use fmp_bytes::cut;
+use fmp_cli_hints::{label, put_excerpt};
+use fmp_search_question::QuestionFault;
+use fmp_text::{Names, TextKind};
+use std::alloc::{AllocError, Global};
+
+/// What is wanted where a question has such a fault.
+fn wanted_at(fault: QuestionFault) -> &'static [u8]
+    ensures { result.now ≡ spec.words fault }
+{
+    match fault {
+        QuestionFault::BadWord => b"a word of printed bytes, with one blank between two words\n",
+        QuestionFault::BadForm => {
+            b"a pattern, before and behind each `then`, `without` and `&`; a number from 1 to 255 at the front of a step before `times`\n"
+        }
+        QuestionFault::UnknownName => {
+            b"a name of the configuration, a processor, a call, a code, a word of a trace or of a state, or a `*` in the word\n"
+        }
+        QuestionFault::TooLong => b"at most 255 steps, and at most 1024 bytes in a pattern\n",
+    }
+}
+
+/// The kind of fault of a text as which a fault of a question is told.
+pub fn question_kind(fault: QuestionFault) -> TextKind
+    ensures { result ≡ spec.kind_of fault }
+{
+    match fault {
+        QuestionFault::BadWord => TextKind::BadByte,
+        QuestionFault::BadForm => TextKind::BadWord,
+        QuestionFault::UnknownName => TextKind::UnknownName,
+        QuestionFault::TooLong => TextKind::TooMany,
+    }
+}
+
+/// The bytes of regular expressions that mean something there.
+pub const SIGNS: [u8; 11] = *b".[]^$+?\\|{}";
+
+/// Whether a byte means something in a regular expression.
+fn is_sign(byte: u8) -> bool
+    ensures { result ≡ spec.is_sign byte }
+{
+    SIGNS.iter().any(|sign| *sign == byte)
+}
+
+/// Whether a word has a byte that means something in a regular expression.
+fn has_sign(word: &[u8]) -> bool
+    ensures { result ≡ spec.has_sign word.now }
+{
+    word.iter().any(|byte| is_sign(*byte))
+}
+
+/// Adds what is told of the word at fault.
+#[tactic(auto, unfolding(crate::specs::Questions::word_hint))]
+fn put_word_hint(
+    alloc: Global,
+    out: &mut Vec<u8>,
+    names: &Names,
+    word: &[u8],
+) -> Result<(), AllocError>
+    ensures { OnOk result (out.new.items ≡ out.old.items ++ spec.word_hint names.now word.now) }
+{
+    if has_sign(word) {
+        out.extend_from_slice(
+            b"  A pattern is no regular expression: `*` alone stands for any bytes.\n",
+        )
+    } else {
+        put_run_hints(alloc, out, names, word)
+    }
+}
+
+/// Adds what is told of a question with this fault, whose text goes on so from the word at fault on.
+#[tactic(auto, unfolding(crate::specs::Questions::hint))]
+fn put_hint(
+    alloc: Global,
+    out: &mut Vec<u8>,
+    names: &Names,
+    fault: QuestionFault,
+    text: &[u8],
+) -> Result<(), AllocError>
+    ensures { OnOk result (out.new.items ≡ out.old.items ++ spec.hint names.now fault text.now) }
+{
+    let (word, _rest) = cut(b' ', text);
+    match fault {
+        QuestionFault::BadWord | QuestionFault::UnknownName => {
+            put_word_hint(alloc, out, names, word)
+        }
+        _ => Ok(()),
+    }
+}
+
+/// What is told of a question without a byte.
+fn empty_words(text: &[u8]) -> &'static [u8]
+    ensures { result.now ≡ spec.empty_words text.now }
+{
+    if text.is_empty() {
+        b"  The question is empty.\n"
+    } else {
+        b""
+    }
+}
+
+/// What stands beside a fault of a question, which begins at this byte of its text, counted from 0: the question, a caret under that byte,
+/// what is wanted there, and what is told of the word that stands there. That the question has the fault is taken from the caller.
+#[tactic(auto, unfolding(crate::specs::Questions::question_context))]
+pub fn question_context(
+    alloc: Global,
+    names: &Names,
+    text: &[u8],
+    fault: QuestionFault,
+    place: usize,
+) -> Result<Vec<u8>, AllocError>
+    ensures { IfOk result (λ out. out.items ≡ spec.question_context names.now text.now fault place) }
+{
+    let mut out = Vec::new(alloc);
+    let column = place.min(text.len());
+    put_excerpt(&mut out, text, column)?;
+    out.extend_from_slice(label())?;
+    out.extend_from_slice(wanted_at(fault))?;
+    out.extend_from_slice(empty_words(text))?;
+    put_hint(alloc, &mut out, names, fault, &text[column..])?;
+    Ok(out)
+}
