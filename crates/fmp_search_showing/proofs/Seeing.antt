@@ -167,16 +167,16 @@ seen_at_boot c rules question n small = (
 
 -- ---- what is settled stays as it is
 
-module _ (question : List Step) (numbers : List Bool) (settled : IsSettled question numbers) (text : List ℕ) where
-  -- where all steps were seen, nothing is looked for any more
-  allowed_at_end : (n : ℕ) → length question ≤ n → allows question n false text ≡ true
-  unfolding allows
-  allowed_at_end n past = rw (slice_get_past question n past) refl
+-- where all steps were seen, nothing is looked for any more
+pub allowed_at_end : (question : List Step) (text : List ℕ) (n : ℕ) → length question ≤ n → allows question n false text ≡ true
+unfolding allows
+allowed_at_end question text n past = rw (slice_get_past question n past) refl
 
+module _ (question : List Step) (numbers : List Bool) (settled : IsSettled question numbers) (text : List ℕ) where
   stays : (n : ℕ) → goes_on question text numbers n false ≡ slice_index_or numbers n false
   stays n = elim (cases_lt n (length question)) [
     | inl less ↦ rw (settled n less) refl
-    | inr past ↦ rw (allowed_at_end n past) (and-true (slice_index_or numbers n false))
+    | inr past ↦ rw (allowed_at_end question text n past) (and-true (slice_index_or numbers n false))
   ]
 
   none_moves : (n : ℕ) → n < length question → goes_on question text numbers n true ≡ false

@@ -1,6 +1,6 @@
 //! Whether what a machine answers to events shows what a question asks. At each event a step of the question may be marked or not, so all
 //! numbers of steps are kept that may have been seen.
-ghost use Rattle.std.specs.Prelude.{◌≡◌, ◌≤◌, ◌<◌, ◌+◌, ◌^◌, ◌↔◌, ◌∷◌, ℕ, false, true, drop, length, replicate, slice_index, IfOk, OnOk, IsTrue};
+ghost use Rattle.std.specs.Prelude.{◌≡◌, ◌≤◌, ◌<◌, ◌+◌, ◌^◌, ◌↔◌, ◌∷◌, ◌++◌, [], ℕ, List, false, true, drop, length, replicate, slice_index, IfOk, OnOk, IsTrue};
 ghost use Rattle.fmp_codes.specs.Records.{AreOn, processor_of};
 ghost use Rattle.fmp_rules.specs.Arrivals.{State, numbered};
 ghost use Rattle.fmp_rules.specs.Boot.{booted};
@@ -13,7 +13,8 @@ ghost use Rattle.fmp_search_orders.specs.Shown.{Shows};
 ghost use Rattle.fmp_search_orders.specs.Sights.{sight};
 ghost use Rattle.fmp_search_kernel.specs.Walked.{count_in};
 ghost use Rattle.fmp_search_showing.specs.Seen as spec;
-ghost use Rattle.fmp_search_showing.specs.Seen.{AreNext, IsSettled};
+ghost use Rattle.fmp_search_showing.specs.Seen.{AreNext, IsSettled, IsShownAt, Watches};
+ghost use Rattle.fmp_codes.specs.declared.records.Event.{Event as AnyEvent};
 
 use fmp_codes::{Answer, Event, Proc, Record};
 use fmp_kernel::Kernel;
@@ -174,10 +175,56 @@ impl Watch {
         self.kernel.step_into(event, &mut self.made);
         advance_taken(rules, &mut self.taken, &self.made);
     }
+
+    /// Answers one event more, and sees how many steps may have been seen after it.
+    fn go_on(
+        &mut self,
+        config: &Config,
+        rules: Rules,
+        question: &Question,
+        event: Event,
+    ) -> Result<(), AllocError>
+        requires short { length question.now ≤ 255 }
+        requires on { (processor_of event).number ≤ length self.old.kernel.processors }
+        requires room { (i : ℕ) → i < 8 → slice_index self.old.taken i + 1 < 2 ^ 32 }
+        ensures { (given : List AnyEvent) → Watches config.now rules question.now given self.old → OnOk result (Watches config.now rules question.now (given ++ event ∷ []) self.new) }
+    {
+        self.answer(rules, event);
+        self.see(config, rules, question)?;
+        Ok(())
+    }
 }
 
-/// Whether what the machine answers to these events shows what a question asks, by these rules. Of them only the number of ticks matters, on
-/// which the line `end` depends. The error is want of memory.
+/// After how many of these events what the machine answers shows what a question asks for the first time, by these rules, if it ever does. Of
+/// the rules only the number of ticks matters, on which the line `end` depends. The error is want of memory.
+pub fn shown_at(
+    config: &Config,
+    rules: Rules,
+    question: &Question,
+    events: &[Event],
+) -> Result<Option<usize>, AllocError>
+    requires short { length question.now ≤ 255 }
+    requires on { AreOn config.now.processors events.now }
+    requires few { orders.counts_ticks rules ≡ true → length events.now < 2 ^ 32 }
+    ensures { IfOk result (IsShownAt config.now rules question.now events.now) }
+{
+    let most = question.steps().len();
+    let mut watch = Watch::new(config)?;
+    if watch.numbers[most] {
+        return Ok(Some(0));
+    }
+    let mut count = 0usize;
+    for event in events {
+        watch.go_on(config, rules, question, *event)?;
+        count += 1;
+        if watch.numbers[most] {
+            return Ok(Some(count));
+        }
+    }
+    Ok(None)
+}
+
+/// Whether what the machine answers to these events shows what a question asks, by these rules. The error is want of memory.
 pub fn shows(
     config: &Config,
     rules: Rules,
@@ -189,10 +236,6 @@ pub fn shows(
     requires few { orders.counts_ticks rules ≡ true → length events.now < 2 ^ 32 }
     ensures { IfOk result (λ r. IsTrue r ↔ Shows config.now rules question.now (answers numbered (booted config.now) events.now)) }
 {
-    let mut watch = Watch::new(config)?;
-    for event in events {
-        watch.answer(rules, *event);
-        watch.see(config, rules, question)?;
-    }
-    Ok(watch.numbers[question.steps().len()])
+    let at = shown_at(config, rules, question, events)?;
+    Ok(at.is_some())
 }
