@@ -68,7 +68,7 @@ refused_lines() {
 	shrink machine.cfg events.txt events.txt --find end
 	shrink machine.cfg events.txt --find end --find end
 	explore machine.cfg scripts.txt
-	explore machine.cfg scripts.txt --ticks any --turns 1
+	explore machine.cfg scripts.txt --ticks 1 --turns 1
 	explore machine.cfg scripts.txt --ticks any --find end
 	explore machine.cfg scripts.txt --turns 1 --find end
 	explore machine.cfg --ticks any --turns 1 --find end

@@ -20,6 +20,7 @@ searches() {
     unread explore "$folder/machine.cfg" missing --ticks 0 --turns 1 --find end
     unwritten explore "$folder/machine.cfg" "$folder/scripts.txt" --ticks 0 --turns 100 --find E_PAR
     unwritten explore "$folder/machine.cfg" "$folder/scripts.txt" --ticks 0 --turns 100 --find 'end & waits sem'
+    stays
     begins_behind
     leaves_traces
     takes_each_word
@@ -42,14 +43,18 @@ asks() {
 
 # asks_of FOLDER SCRIPTS QUESTIONS
 asks_of() {
-    local right options words well
+    local right options words well errors
     while IFS=$'\t' read -r right options; do
         eval "options=($options)"
         words=(explore "$1/machine.cfg" "$2" "${options[@]}")
         case $right in
             never) run 0 "$(as_file echo never)" /dev/null "${words[@]}" ;;
             not\ within\ *) run 6 "$(as_file echo "$right")" /dev/null "${words[@]}" ;;
-            *.txt) run 5 "$1/$right" /dev/null "${words[@]}" && judged "$1/machine.cfg" ;;
+            *.txt)
+                errors=$1/${right%.txt}.errors
+                [ -e "$errors" ] || errors=/dev/null
+                run 5 "$1/$right" "$errors" "${words[@]}" && judged "$1/machine.cfg"
+                ;;
             *\ lines)
                 well=no
                 play "${words[@]}"
@@ -59,6 +64,21 @@ asks_of() {
             *) count no "${words[@]}" "# $right" ;;
         esac
     done < "$3"
+}
+
+# What stays for ever is asked of all orders: one run is not asked it, nor orders that end where ticks are used up.
+stays() {
+    local folder=$top/examples/explore-deadlock words one='fmpsim: --find: what stays for ever is asked of every order, by fmpsim explore'
+    words=(explore "$folder/machine.cfg" "$folder/mended.txt" --turns 1000)
+    run 0 "$(as_file echo never)" /dev/null "${words[@]}" --ticks any
+    refused "${words[@]}" --ticks 3
+    refused "${words[@]}" --ticks 3 --find 'LOG waits for ever'
+    refused "${words[@]}" --ticks any --layer layer
+    refused "${words[@]}" --ticks any --from /dev/null
+    run 2 /dev/null "$(as_file echo "$one")" shrink "$folder/machine.cfg" /dev/null --find deadlock
+    run 2 /dev/null "$(as_file echo "$one")" smp "$folder/machine.cfg" "$folder/scripts.txt" --ticks 1 --turns 9 --seeds 0..1 --find 'LOG waits for ever'
+    run 5 "$folder/trace.txt" "$(as_file printf '%s\n' 'fmpsim: from line 6 on LOG waits for ever' 'fmpsim: a shorter one is not ruled out')" \
+        explore "$folder/machine.cfg" "$folder/scripts.txt" --ticks any --turns 16
 }
 
 # judged CFG: the checker says yes to what was written last.

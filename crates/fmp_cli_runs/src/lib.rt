@@ -1,18 +1,21 @@
 //! What the program does of what its command line asks for, over any devices: which run that is, and how it ends the program.
 //!
-//! [`answer`] is `fmpsim calls`, [`judge`] is `check`, `wave` and `view`, [`play`], [`seek`] and [`seek_shown`] are `smp`, [`search`]
-//! and [`search_from`] are `explore`, and [`shrink`] is `shrink`. Each contract says for each request what the run that it makes says, so that a request is not taken for another. The
+//! [`answer`] is `fmpsim calls`, [`judge`] is `check`, `wave` and `view`, [`play`], [`seek`] and [`seek_shown`] are `smp`, [`search`],
+//! [`search_from`] and [`search_forever`] are `explore`, and [`shrink`] is `shrink`. Each contract says for each request what the run that it
+//! makes says, so that a request is not taken for another. The
 //! program opens files, calls one of them and prints its fault. Where a command line leaves nothing to choose it calls the run itself: `run_life`
 //! for `calls --of`, `run_save` for `wave --gtkw`, `run_list` for `list` of a configuration.
 #![tactic(auto)]
 
 mod events;
+mod forever;
 mod orders;
 mod scripts;
 mod shrinking;
 mod traces;
 
 pub use events::answer;
+pub use forever::search_forever;
 pub use orders::{search, search_from};
 pub use scripts::{Played, play, seek, seek_shown};
 pub use shrinking::shrink;

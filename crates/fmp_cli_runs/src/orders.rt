@@ -21,7 +21,7 @@ use fmp_run_explore_from::{FromFault, run_explore_from};
 use std::alloc::Global;
 
 /// Which orders are gone through.
-fn rules_of(request: &ExploreRequest<'_>) -> Rules
+pub(crate) fn rules_of(request: &ExploreRequest<'_>) -> Rules
     ensures { result ≡ asked.rules_of request.now }
 {
     Rules {

@@ -2,7 +2,7 @@
 use fmp_cli::{Asked, Paths};
 use fmp_cli_diagnostics::{Diagnostic, LineForm, Spot};
 use fmp_cli_hints_question::question_kind;
-use fmp_run_events::{FaultLine, RunFault};
+use fmp_run_events::{FaultLine, RunFault, Status};
 use fmp_run_explore::QuestionLine;
 use fmp_search_question::QuestionFault;
 
@@ -61,6 +61,14 @@ pub fn tell_stray<R: Eprint>(rt: &R, form: LineForm, path: &str, line: u32) {
         LineForm::Gcc => eprintln!(rt; "{path}:{line}: error: {words}"),
         _ => eprintln!(rt; "fmpsim: {path}: line {line}: {words}"),
     };
+}
+
+/// Tells that a question is one about every order, where one run is asked, and how that ends the program.
+pub fn tell_lasting<R: Eprint>(rt: &R) -> Status {
+    let _ = eprintln!(rt;
+        "fmpsim: --find: what stays for ever is asked of every order, by fmpsim explore"
+    );
+    Status::Usage
 }
 
 /// Tells the line of a fault of a question, which begins at this byte of its text, counted from 0.

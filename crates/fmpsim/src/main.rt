@@ -11,6 +11,7 @@ mod lines;
 mod output;
 mod progress;
 mod scripts;
+mod staying;
 mod texts;
 mod values;
 mod waiting;
@@ -23,7 +24,7 @@ use fmp_cli_colour::ColourSink;
 use fmp_cli_diagnostics::{LineForm, line_form, without_option};
 use fmp_cli_explore::ExploreRequest;
 use fmp_cli_hints::TextForm;
-use fmp_cli_runs::{answer, judge, search, search_from, shrink};
+use fmp_cli_runs::{answer, judge, search, search_forever, search_from, shrink};
 use fmp_cli_shrink::ShrinkRequest;
 use fmp_cli_table::SmpRequest;
 use fmp_run_events::{MemSource, ReadSource, RunFault, Status, WriteSink, run_life};
@@ -31,6 +32,7 @@ use fmp_run_explore::Progress;
 use fmp_run_list::run_list;
 use fmp_run_smp::SeedProgress;
 use fmp_run_wave::run_save;
+use fmp_search_question::is_lasting;
 use fmp_trace_check::Verdict;
 use output::{Ending, is_coloured, kept, settled, settled_begun, settled_life, settled_search};
 use progress::{ProgressForm, ProgressLine};
@@ -223,6 +225,30 @@ fn explore<R: Files + Input + Print + Eprint + Clock + AllocGlobal>(
     Ok(outcome.finding.status())
 }
 
+/// Writes whether something that the request asks stays for ever in an order of what scripts ask, and tells from which line on.
+fn explore_forever<R: Files + Input + Print + Eprint + Clock + AllocGlobal>(
+    rt: &R,
+    paths: &Paths<'_>,
+    request: &ExploreRequest<'_>,
+    line: &mut ProgressLine<'_, R>,
+) -> Result<Status, Ending> {
+    let alloc = rt.alloc();
+    let (config, scripts) = both_opened(rt, paths)?;
+    let mut scripts = ReadSource::new(scripts);
+    let mut output = WriteSink::new(alloc, io::writer(rt))?;
+    let run = search_forever(
+        alloc,
+        &mut MemSource::new(config.as_slice()),
+        &mut scripts,
+        &mut output,
+        request,
+        line,
+    );
+    let stayed = kept(settled_search(run, output.is_closed()), config)?;
+    staying::tell_stayed(rt, &stayed);
+    Ok(stayed.staying.status())
+}
+
 /// Writes whether one of the orders that go on from the trace at this path does.
 fn explore_from<R: Files + Input + Print + Eprint + Clock + AllocGlobal>(
     rt: &R,
@@ -304,6 +330,9 @@ fn explored<R: Files + Input + Print + Eprint + Clock + AllocGlobal>(
     let mut progress = ProgressLine::new(rt, told);
     let run = match request.from {
         Some(begun) => explore_from(rt, &paths, request, begun, &mut progress),
+        None if is_lasting(request.question.as_bytes()) => {
+            explore_forever(rt, &paths, request, &mut progress)
+        }
         None => explore(rt, &paths, request, &mut progress),
     };
     Progress::end(&mut progress);
@@ -337,6 +366,9 @@ fn shrunk<R: Files + Input + Print + Eprint + AllocGlobal>(
     request: &ShrinkRequest<'_>,
     line: LineForm,
 ) -> Status {
+    if is_lasting(request.question.as_bytes()) {
+        return lines::tell_lasting(rt);
+    }
     let paths = Paths {
         config: request.config,
         text: request.events,
@@ -523,6 +555,9 @@ fn scripted<R: Env + Files + Input + Print + Eprint + Clock + AllocGlobal + Thre
     };
     if let Some(misfit) = Misfit::of_request(request) {
         return misfit.tell(rt);
+    }
+    if is_lasting(request.find.unwrap_or("").as_bytes()) {
+        return lines::tell_lasting(rt);
     }
     let paths = Paths {
         config: request.config,
