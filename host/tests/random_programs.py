@@ -16,6 +16,7 @@ SMALL = [
 LARGE = [
     (":three", "Wx||Sx||", 0), (":three", "Bx||x||", 0), (":three", "m||Mx|x|", 0), (":three", "Px||x||", 0), (":queue", "w||w|ssx|", 0),
     ("", "dA|y|xB|x|", 0), ("", "UxV||xy|y|", 0), ("", "Tx|x|Ay||", 0), ("", "luxy||tuy||OQ", 0), ("", "Zx||L||K", 2), ("", "Zx||W||", 2), ("", "z||sy||", 2),
+    (":ready", "xy|y|A|1", 0),
 ]
 
 
