@@ -355,7 +355,7 @@ others_at_limits() {
 # Searches by the scripts, and the last seeds there are. The first call of the first task polls the second semaphore, and each call names
 # an object that is there.
 searches_at_limits() {
-    local words=(limits.cfg limits.txt --ticks 1) last=18446744073709551615 seed name task
+    local words=(limits.cfg limits.txt --ticks 1) last=18446744073709551615 seed name task line
     named T 1
     task=$name
     named S 2
@@ -365,8 +365,11 @@ searches_at_limits() {
     run 6 "$(as_file echo not within 2)" /dev/null explore "${words[@]}" --turns 2 --find E_ID --from first.txt
     run 0 /dev/null /dev/null smp "${words[@]}" --turns 2000 --seeds 18446744073709551614..$last --find E_ID
     for seed in 18446744073709551614 $last; do
+        # up to the first line with the answer, where the run of the seed is cut off by its turns
         play smp "${words[@]}" --turns 2000 --seed "$seed"
+        line=$(grep -n -m 1 -w E_OK output | cut -d : -f 1)
+        play smp "${words[@]}" --turns "$line" --seed "$seed"
         mv output seed.trace && mv errors seed.waits
-        run 5 seed.trace "$({ echo "fmpsim: seed $seed" && cat seed.waits; } | as_file)" smp "${words[@]}" --turns 2000 --seeds "$seed..$last" --find E_OK
+        run 5 seed.trace "$({ echo "fmpsim: seed $seed, line $line" && cat seed.waits; } | as_file)" smp "${words[@]}" --turns 2000 --seeds "$seed..$last" --find E_OK
     done
 }

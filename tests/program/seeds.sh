@@ -92,11 +92,11 @@ END
 # nothing can change any more at its call, though its wait counts ticks. So where the first three numbers of a seed are odd, which is the
 # clock's place. By another program these seeds are 3, 11, 21 and more.
 seeds_that_show() {
-    local late='dly_tsk(100) wait & end' words=(smp wait.cfg wait.txt --ticks 3 --turns) seed calls
+    local late='dly_tsk(100) wait & end' words=(smp wait.cfg wait.txt --ticks 3 --turns) seed calls line
     printf 'PROCESSORS(1);\nDEF_CLASS(C, 1, {1});\nCLASS(C) { CRE_TSK(T1, {TA_ACT, 0, main, 1, 4096, NULL}); }\n' > wait.cfg
     printf 'script main\ndly_tsk(100)\nend\n' > wait.txt
     printf '%s\n' '1 P1 T1 tick taken' '2 P1 T1 tick taken' '3 P1 T1 tick taken' '4 P1 T1 dly_tsk(100) wait run=idle' > wait.trace
-    printf 'fmpsim: %s\n' 'seed 3' 'T1 waits dly left=101' > wait.errors
+    printf 'fmpsim: %s\n' 'seed 3, line 4' 'T1 waits dly left=101' > wait.errors
     run 5 wait.trace wait.errors "${words[@]}" 25 --seeds 0..99 --find "$late"
     run 5 wait.trace wait.errors "${words[@]}" 25 --seeds 3..3 --find "$late" --strict
     from=wait.txt run 5 wait.trace wait.errors smp wait.cfg - --ticks 3 --turns 25 --seeds 0..18446744073709551615 --find "$late"
@@ -105,13 +105,17 @@ seeds_that_show() {
     # the fourth number of seed 11 is even: with a tick more there is one left at the call, and with one less none
     run 0 /dev/null /dev/null smp wait.cfg wait.txt --ticks 4 --turns 25 --seeds 11..11 --find "$late"
     run 5 wait.trace "$(as_file sed 's/seed 3/seed 11/' wait.errors)" "${words[@]}" 25 --seeds 11..11 --find "$late"
-    # a run at its limit of turns may show it too
-    run 5 "$(as_file head -n 3 wait.trace)" "$(as_file echo fmpsim: seed 3)" "${words[@]}" 3 --seeds 0..99 --find '3 times tick taken without dly_tsk(100)'
+    # the trace ends at the first line that shows it, and a run at its limit of turns may show it too
+    run 5 "$(as_file head -n 3 wait.trace)" "$(as_file echo fmpsim: seed 3, line 3)" "${words[@]}" 25 --seeds 0..99 --find '3 times tick taken without dly_tsk(100)'
+    run 5 "$(as_file head -n 2 wait.trace)" "$(as_file echo fmpsim: seed 3, line 2)" "${words[@]}" 25 --seeds 3..3 --find '2 times tick taken'
+    run 5 "$(as_file head -n 1 wait.trace)" "$(as_file echo fmpsim: seed 3, line 1)" "${words[@]}" 25 --seeds 3..3 --find 'tick'
+    run 5 "$(as_file head -n 3 wait.trace)" "$(as_file echo fmpsim: seed 3, line 3)" "${words[@]}" 3 --seeds 0..99 --find '3 times tick taken without dly_tsk(100)'
     # behind `end` nothing comes, but for ticks for which nothing waits
     run 0 /dev/null /dev/null "${words[@]}" 25 --seeds 0..99 --find 'end then *'
-    run 5 "$(as_file head -n 2 ticks.txt)" "$(as_file echo fmpsim: seed 7)" smp idle.cfg none.txt --ticks 2 --turns 3 --seeds 7..9 --find 'end then *'
+    run 5 "$(as_file head -n 2 ticks.txt)" "$(as_file echo fmpsim: seed 7, line 2)" smp idle.cfg none.txt --ticks 2 --turns 3 --seeds 7..9 --find 'end then *'
     # the two that wait for each other
-    run 5 dead.trace dead.errors smp dead.cfg dead.txt --ticks 0 --turns 25 --seeds 0..99 --find 'end & waits sem'
+    run 5 dead.trace "$(as_file sed 's/seed 21/&, line 10/' dead.errors)" smp dead.cfg dead.txt --ticks 0 --turns 25 --seeds 0..99 --find 'end & waits sem'
+    run 5 "$(as_file head -n 9 dead.trace)" "$(as_file printf 'fmpsim: %s\n' 'seed 21, line 9' 'T1 waits sem B')" smp dead.cfg dead.txt --ticks 0 --turns 25 --seeds 21..21 --find 'waits sem'
     run 0 /dev/null /dev/null smp dead.cfg dead.txt --ticks 0 --turns 25 --seeds 22..72 --find 'end & waits sem'
     # the first seed whose first five calls are those of T2, by the documented order
     for seed in {0..99}; do
@@ -119,7 +123,8 @@ seeds_that_show() {
         calls=$(grep -oE 'E_OK:[12]$' five.txt | head -n 5 | sort -u)
         [ "$calls" != E_OK:2 ] || break
     done
-    run 5 five.txt "$(as_file echo "fmpsim: seed $seed")" smp two.cfg two.txt --ticks 10 --turns 80 --seeds 0..99 --find '5 times E_OK:2 without E_OK:1'
+    line=$(grep -nE 'E_OK:2$' five.txt | sed -n '5s/:.*//p')
+    run 5 "$(as_file head -n "$line" five.txt)" "$(as_file echo "fmpsim: seed $seed, line $line")" smp two.cfg two.txt --ticks 10 --turns 80 --seeds 0..99 --find '5 times E_OK:2 without E_OK:1'
     # faults of the question, behind those of the texts, and a question without seeds
     run 1 /dev/null "$(as_file echo 'fmpsim: --find: byte 1: E3 unknown name')" "${words[@]}" 25 --seeds 0..99 --find 'act_tsk(NOBODY)'
     run 1 /dev/null "$(as_file echo 'fmpsim: --find: byte 10: E2 bad word')" "${words[@]}" 25 --seeds 0..99 --find 'tick then'

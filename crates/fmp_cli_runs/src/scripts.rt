@@ -14,7 +14,7 @@ use fmp_cli_table::SmpRequest;
 use fmp_run_devices::{Sink, Source};
 use fmp_run_events::{RunFault, Status};
 use fmp_run_explore::ExploreFault;
-use fmp_run_seeds::run_seeds_find;
+use fmp_run_seeds::{SeedShown, run_seeds_find};
 use fmp_run_smp::{SeedFound, SeedProgress, run_scripts, run_seeds};
 use fmp_smp::Open;
 use std::alloc::Global;
@@ -131,7 +131,7 @@ pub fn seek<R: Source, S: Source, W: Sink, P: SeedProgress>(
 }
 
 /// Has processors follow scripts in the order of each seed from the first to the last, up to the first whose run shows what a question
-/// asks, tells that one, and writes its trace.
+/// asks, tells that one with the line that does, and writes its trace up to there.
 pub fn seek_shown<R: Source, S: Source, W: Sink, P: SeedProgress>(
     alloc: Global,
     config: &mut R,
@@ -142,13 +142,13 @@ pub fn seek_shown<R: Source, S: Source, W: Sink, P: SeedProgress>(
     first: u64,
     last: u64,
     progress: &mut P,
-) -> Result<Option<SeedFound>, ExploreFault>
+) -> Result<Option<SeedShown>, ExploreFault>
     requires config_calls { R.failures config.old < 2 ^ 64 - 1 }
     requires script_calls { S.failures scripts.old < 2 ^ 64 - 1 }
     requires trace_calls { W.failures trace.old < 2 ^ 64 - 1 }
 
     // Both texts were read to their ends, and what is told is the first of these seeds whose run shows it, with the limits that
-    // were asked for, and what is written its trace; or there is none such, and nothing is written. None of it is held back.
+    // were asked for, and the line that does, and what is written its trace up to there; or there is none such, and nothing is written. None of it is held back.
     ensures sought { IsKnown (R.left config.old) → IsKnown (S.left scripts.old) → IsKnown (W.written trace.old)
         → IfOk result (shown.IsSought (bytes_of (R.left config.old)) (bytes_of (S.left scripts.old)) question.now request.now.limits.ticks request.now.limits.turns first last (bytes_of (W.written trace.old)) (bytes_of (W.written trace.new))) }
     ensures known { IsKnown (W.written trace.old) → IsKnown (W.written trace.new) }

@@ -9,5 +9,6 @@ mod run;
 mod seeking;
 
 pub use fmp_run_explore::{ExploreFault, QuestionLine};
-pub use fmp_run_smp::{SeedFound, SeedProgress};
+pub use fmp_run_smp::SeedProgress;
 pub use run::{run_seeds_find, status_of_found};
+pub use seeking::SeedShown;

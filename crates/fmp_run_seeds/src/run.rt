@@ -7,15 +7,15 @@ ghost use Rattle.fmp_run_explore.specs.Faults as faults;
 ghost use Rattle.fmp_run_seeds.specs.Found as spec;
 ghost use Rattle.fmp_run_seeds.specs.Found.{IsBegun, IsSought};
 
-use crate::seeking::sought;
+use crate::seeking::{SeedShown, sought};
 use fmp_run_devices::{Sink, Source, write_out};
 use fmp_run_explore::{ExploreFault, question_from};
-use fmp_run_smp::{SeedFound, SeedProgress};
+use fmp_run_smp::SeedProgress;
 use fmp_run_texts::{RunFault, Status, texts_from};
 use std::alloc::Global;
 
 /// How the program ends after a search for a run that shows what is asked, by what was found.
-pub fn status_of_found(found: &Option<SeedFound>) -> Status
+pub fn status_of_found(found: &Option<SeedShown>) -> Status
     ensures { result ≡ spec.status_of_found found.now }
 {
     match found {
@@ -25,7 +25,8 @@ pub fn status_of_found(found: &Option<SeedFound>) -> Status
 }
 
 /// Reads a configuration and scripts, has processors follow these in the order of each seed from the first to the last, both included,
-/// up to the first whose run shows what the question asks, and writes the trace of that run. Where there is none, nothing is written.
+/// up to the first whose run shows what the question asks, and writes the trace of that run up to the line that shows it for the first time. Where there
+/// is none, nothing is written.
 ///
 /// Each run is as that of [`run_scripts`](fmp_run_smp::run_scripts) with its seed, and it may be one at its limit of turns. The line `end` stands
 /// where nothing can change any more, and each processor whose ticks count has taken all of them or nothing waits for one.
@@ -40,7 +41,7 @@ pub fn run_seeds_find<R: Source, S: Source, W: Sink, P: SeedProgress>(
     first: u64,
     last: u64,
     progress: &mut P,
-) -> Result<Option<SeedFound>, ExploreFault>
+) -> Result<Option<SeedShown>, ExploreFault>
     requires config_calls { R.failures config.old < 2 ^ 64 - 1 }
     requires script_calls { S.failures scripts.old < 2 ^ 64 - 1 }
     requires trace_calls { W.failures trace.old < 2 ^ 64 - 1 }
@@ -48,8 +49,8 @@ pub fn run_seeds_find<R: Source, S: Source, W: Sink, P: SeedProgress>(
     requires least { 1 ≤ turns }
     requires most { turns ≤ 1000000 }
 
-    // Both texts were read to their ends, and what is told is the first of these seeds whose run shows what is asked, and what is written
-    // its trace; or there is none such, and nothing is written. None of it is held back.
+    // Both texts were read to their ends, and what is told is the first of these seeds whose run shows what is asked, with the line that
+    // does, and what is written its trace up to there; or there is none such, and nothing is written. None of it is held back.
     ensures sought { IsKnown (R.left config.old) → IsKnown (S.left scripts.old) → IsKnown (W.written trace.old)
         → IfOk result (IsSought (bytes_of (R.left config.old)) (bytes_of (S.left scripts.old)) question.now ticks turns first last (bytes_of (W.written trace.old)) (bytes_of (W.written trace.new))) }
     ensures known { IsKnown (W.written trace.old) → IsKnown (W.written trace.new) }

@@ -1,20 +1,39 @@
 //! One seed after the other, up to the first whose run shows what is asked.
-ghost use Rattle.std.specs.Prelude.{◌≡◌, ◌≤◌, length, IfOk};
+ghost use Rattle.std.specs.Prelude.{◌≡◌, ◌≤◌, ◌<◌, ◌^◌, length, IfOk};
+ghost use Rattle.fmp_codes.specs.Records.{AreOn};
+ghost use Rattle.fmp_rules.specs.Arrivals.{numbered};
+ghost use Rattle.fmp_rules.specs.Boot.{booted};
+ghost use Rattle.fmp_rules.specs.Step.{answers, replay};
+ghost use Rattle.fmp_show_state.specs.Waits.{waiting_lines};
+ghost use Rattle.fmp_trace.specs.Lines.{lines_from};
 ghost use Rattle.fmp_smp_histories.specs.Histories as histories;
 ghost use Rattle.fmp_text_scripts.specs.Scripts.{AreInBits};
 ghost use Rattle.fmp_run_seeds.specs.Found as spec;
 ghost use Rattle.fmp_run_seeds.specs.Found.{Seeks};
 
 use fmp_codes::{Answer, Event, Proc, Record};
+use fmp_kernel::Kernel;
 use fmp_rules::Config;
-use fmp_run_smp::{SeedFound, SeedProgress, history_text, waiting_at_end};
+use fmp_run_smp::SeedProgress;
 use fmp_search_orders::Rules;
 use fmp_search_question::Question;
-use fmp_search_showing::shows;
+use fmp_search_showing::shown_at;
+use fmp_show_state::put_waiting;
 use fmp_smp::run_seeded;
 use fmp_text_scripts::Scripts;
+use fmp_trace::put_line;
 use fmp_world::History;
 use std::alloc::{AllocError, Global};
+
+/// A seed whose run shows what is asked.
+#[derive(Drop)]
+pub struct SeedShown {
+    pub seed: u64,
+    /// The line of its trace that shows it.
+    pub line: usize,
+    /// A line for each task that waits behind that line.
+    pub waiting: Vec<u8>,
+}
 
 /// How processors follow scripts: each takes so many ticks, and a request before its next call.
 fn rules_of(ticks: u32) -> Rules
@@ -40,8 +59,53 @@ fn events_of(alloc: Global, history: &History<'_>) -> Result<Vec<Event>, AllocEr
     Ok(events)
 }
 
-/// What the run in the order of a seed comes to: if it shows what is asked, that, and its trace. Of another run nothing is printed but the
-/// lines in which the question looks. The error is want of memory.
+/// The events of the run in the order of a seed. The error is want of memory.
+fn seeded_events(
+    alloc: Global,
+    config: &Config,
+    scripts: &Scripts,
+    ticks: u32,
+    turns: u32,
+    seed: u64,
+) -> Result<Vec<Event>, AllocError>
+    requires ticks { ticks ≤ 1000000 }
+    requires least { 1 ≤ turns }
+    requires most { turns ≤ 1000000 }
+    ensures { IfOk result (λ v. spec.AreOfSeed seed config.now scripts.now ticks turns v.items) }
+{
+    let run = run_seeded(alloc, config, scripts, ticks, turns, seed)?;
+    let events = events_of(alloc, &run.history)?;
+    Ok(events)
+}
+
+/// The trace of what the machine answers to these events, and a line for each task that waits behind them. The error is want of memory.
+fn traced(
+    alloc: Global,
+    config: &Config,
+    events: &[Event],
+) -> Result<(Vec<u8>, Vec<u8>), AllocError>
+    requires on { AreOn config.now.processors events.now }
+    requires few { length events.now < 2 ^ 32 }
+    ensures text { IfOk result (λ r. r.0.items ≡ lines_from config.now.names 1 (answers numbered (booted config.now) events.now)) }
+    ensures waiting { IfOk result (λ r. r.1.items ≡ waiting_lines config.now.names (replay numbered (booted config.now) events.now)) }
+{
+    let names = config.names();
+    let mut kernel = Kernel::boot(config)?;
+    let mut told = Record::answer(Event::Tick(Proc::new(1)), None, Answer::Nothing);
+    let mut text = Vec::new(alloc);
+    let mut n: u32 = 0;
+    for event in events {
+        kernel.step_into(*event, &mut told);
+        n += 1;
+        put_line(&mut text, names, n, &told)?;
+    }
+    let mut waiting = Vec::new(alloc);
+    put_waiting(&mut waiting, names, &kernel)?;
+    Ok((text, waiting))
+}
+
+/// What the run in the order of a seed comes to: if it shows what is asked, that, and its trace up to the line that shows it. The error is want of
+/// memory.
 fn found_by(
     alloc: Global,
     config: &Config,
@@ -50,7 +114,7 @@ fn found_by(
     ticks: u32,
     turns: u32,
     seed: u64,
-) -> Result<Option<(SeedFound, Vec<u8>)>, AllocError>
+) -> Result<Option<(SeedShown, Vec<u8>)>, AllocError>
     requires short { length question.now ≤ 255 }
     requires ticks { ticks ≤ 1000000 }
     requires least { 1 ≤ turns }
@@ -60,14 +124,21 @@ fn found_by(
 {
     let names = config.names();
     names.validity();
-    let run = run_seeded(alloc, config, scripts, ticks, turns, seed)?;
-    let events = events_of(alloc, &run.history)?;
-    if !shows(config, rules_of(ticks), question, events.as_slice())? {
+    let run = seeded_events(alloc, config, scripts, ticks, turns, seed)?;
+    let events = run.as_slice();
+    let shown = shown_at(config, rules_of(ticks), question, events)?;
+    let Some(line) = shown else {
         return Ok(None);
-    }
-    let waiting = waiting_at_end(alloc, names, &run.history)?;
-    let text = history_text(alloc, &run.history, names)?;
-    Ok(Some((SeedFound { seed, waiting }, text)))
+    };
+    let (text, waiting) = traced(alloc, config, &events[..line])?;
+    Ok(Some((
+        SeedShown {
+            seed,
+            line,
+            waiting,
+        },
+        text,
+    )))
 }
 
 /// The first of the seeds whose run shows what is asked, if there is one, and what is written of it. The error is want of memory.
@@ -81,7 +152,7 @@ pub(crate) fn sought<P: SeedProgress>(
     first: u64,
     last: u64,
     progress: &mut P,
-) -> Result<(Option<SeedFound>, Vec<u8>), AllocError>
+) -> Result<(Option<SeedShown>, Vec<u8>), AllocError>
     requires short { length question.now ≤ 255 }
     requires ticks { ticks ≤ 1000000 }
     requires least { 1 ≤ turns }

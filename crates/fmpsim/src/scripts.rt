@@ -12,7 +12,7 @@ use fmp_cli_runs::{Played, play, seek, seek_shown};
 use fmp_cli_table::{Seeds, SmpRequest};
 use fmp_run_events::{MemSource, ReadSource, Sink, Source, Status, WriteSink};
 use fmp_run_explore::ExploreFault;
-use fmp_run_seeds::status_of_found as status_of_shown;
+use fmp_run_seeds::{SeedShown, status_of_found as status_of_shown};
 use fmp_run_smp::{SeedFound, SeedProgress, status_of_found};
 use std::alloc::Global;
 use std::io;
@@ -27,7 +27,9 @@ struct Outcome {
     status: Status,
     /// The seed that was found.
     seed: Option<u64>,
-    /// A line for each task that waits at the end.
+    /// The line of its trace that shows what is asked.
+    line: Option<usize>,
+    /// A line for each task that waits at the end of what is written.
     waiting: Vec<u8>,
 }
 
@@ -37,27 +39,48 @@ impl Outcome {
         Outcome {
             status: played.status,
             seed: None,
+            line: None,
             waiting: played.waiting,
         }
     }
 
-    /// That of the runs of many seeds, which end the program so.
+    /// That of the runs of many seeds, none of which was looked for, which end the program so.
+    fn of_none(alloc: Global, status: Status) -> Outcome {
+        Outcome {
+            status,
+            seed: None,
+            line: None,
+            waiting: Vec::new(alloc),
+        }
+    }
+
+    /// That of the runs of many seeds up to one that ends while a task waits.
     fn of_seeds(alloc: Global, found: Option<SeedFound>, status: Status) -> Outcome {
         match found {
             Some(found) => Outcome {
                 status,
                 seed: Some(found.seed),
+                line: None,
                 waiting: found.waiting,
             },
-            None => Outcome {
-                status,
-                seed: None,
-                waiting: Vec::new(alloc),
-            },
+            None => Outcome::of_none(alloc, status),
         }
     }
 
-    /// Reports it on standard error: the seed, and then the tasks.
+    /// That of the runs of many seeds up to one that shows what is asked.
+    fn of_shown(alloc: Global, found: Option<SeedShown>, status: Status) -> Outcome {
+        match found {
+            Some(found) => Outcome {
+                status,
+                seed: Some(found.seed),
+                line: Some(found.line),
+                waiting: found.waiting,
+            },
+            None => Outcome::of_none(alloc, status),
+        }
+    }
+
+    /// Reports it on standard error: the seed, with the line that shows what is asked, and then the tasks.
     fn tell<R: Files + Eprint + AllocGlobal>(
         &self,
         rt: &R,
@@ -65,9 +88,11 @@ impl Outcome {
         form: LineForm,
         config: &[u8],
     ) {
-        if let Some(seed) = self.seed {
-            let _ = eprintln!(rt; "fmpsim: seed {seed}");
-        }
+        let _ = match (self.seed, self.line) {
+            (Some(seed), Some(line)) => eprintln!(rt; "fmpsim: seed {seed}, line {line}"),
+            (Some(seed), None) => eprintln!(rt; "fmpsim: seed {seed}"),
+            (None, _) => Ok(()),
+        };
         let lines = str::from_utf8(self.waiting.as_slice()).unwrap_or("");
         let status = self.status;
         let waiting = Waiting {
@@ -134,7 +159,7 @@ fn sought<R: Source, S: Source, W: Sink, P: SeedProgress>(
             alloc, config, scripts, trace, question, request, first, last, progress,
         )?;
         let status = status_of_shown(&found);
-        return Ok(Outcome::of_seeds(alloc, found, status));
+        return Ok(Outcome::of_shown(alloc, found, status));
     }
     let found = seek(
         alloc, config, scripts, trace, request, first, last, progress,
