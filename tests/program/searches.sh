@@ -24,6 +24,7 @@ searches() {
     begins_behind
     leaves_traces
     takes_each_word
+    questions_of_the_pages
     tells_how_far
     # no room for a table of a hundred million places
     memory=400000 run 4 /dev/null "$(as_file echo fmpsim: want of memory)" \
@@ -235,6 +236,36 @@ takes_each_word() {
             *) count no explore --find "$word" ;;
         esac
     done
+}
+
+# questions_of_the_pages: each question that the help, README and GUIDE show is one, on a machine that has the names in it; and on one that has them not,
+# one with a name is none.
+questions_of_the_pages() {
+    local question well name
+    {
+        printf '%s\n' 'PROCESSORS(2);' 'DEF_CLASS(ONE, 1, {1});' 'DEF_CLASS(TWO, 2, {2});' 'CLASS(ONE) {'
+        for name in A B C T T1 T2 COMM LOG LOGGER SERVER WORKER; do
+            echo "CRE_TSK($name, {TA_NULL, 0, main, 10, 4096, NULL});"
+        done
+        printf '%s\n' 'CRE_SEM(BUS, {TA_NULL, 1, 1});' 'CRE_ALM(ALARM, {TA_NULL, 0, alarm});' 'CRE_SPN(L1, {TA_NULL});' '}'
+    } > named.cfg
+    printf 'script main\nend\n' > main.txt
+    play explore --help && cp output help.txt
+    {
+        # in commands, and the last cell of a row that says what can be
+        cat help.txt "$top/README.md" "$top/README.ja.md" "$top/docs/GUIDE.md" | grep -oE -- "--find ('[^']*'|[a-z]+)" | sed -E "s/^--find //; s/^'(.*)'\$/\1/"
+        grep -E '^\| (can|likewise|either) ' "$top/docs/GUIDE.md" | sed 's/ |$//; s/.* | //' | grep -oE '`[^`]+`' | tr -d '`' | grep -vxF -- --find
+    } | sort -u > questions.txt
+    well=no
+    [ "$(wc -l < questions.txt)" -ge 20 ] && well=yes
+    count "$well" explore '# questions in the pages'
+    while IFS= read -r question; do
+        well=no
+        play explore named.cfg main.txt --ticks any --turns 3 --find "$question"
+        case $? in 0 | 5 | 6) well=yes ;; esac
+        count "$well" explore named.cfg main.txt --ticks any --turns 3 --find "$question"
+    done < questions.txt
+    run 1 /dev/null "$(as_file echo 'fmpsim: --find: byte 1: E3 unknown name')" explore named.cfg main.txt --ticks any --turns 3 --find 'T9 waits sem'
 }
 
 # are_counting EDIT: standard error has at least one line, this edit makes each of them two numbers, and both of them grow from line to line, the second from 1 on
