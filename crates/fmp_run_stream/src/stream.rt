@@ -29,7 +29,7 @@ use fmp_show_life::Life;
 use fmp_show_state::put_state;
 use fmp_text::Names;
 use fmp_text_feed::EventFeed;
-use fmp_trace::trace_line;
+use fmp_trace::{Count, counted_line};
 use std::alloc::{AllocError, Global};
 
 /// What is written of an event.
@@ -115,7 +115,7 @@ pub struct Answering {
     detail: Detail,
     feed: EventFeed,
     kernel: Kernel,
-    count: u32,
+    count: Count,
     told: Record,
     line: Vec<u8>,
 }
@@ -135,7 +135,7 @@ impl Answering {
             detail,
             feed: EventFeed::new(alloc)?,
             kernel: Kernel::boot(config)?,
-            count: 0,
+            count: Count::new(),
             told: Record::answer(Event::Tick(Proc::new(1)), None, Answer::Nothing),
             line: Vec::with_capacity(alloc, LINE_ROOM)?,
         })
@@ -199,8 +199,8 @@ impl Answering {
         names.validity();
         self.kernel.step_into(event, &mut self.told);
         few_told(&self.told);
-        self.count += 1;
-        trace_line(self.count, &self.told, names, &mut self.line)?;
+        self.count.increase();
+        counted_line(&self.count, &self.told, names, &mut self.line)?;
         put_behind(&mut self.detail, names, &self.kernel, &mut self.line)?;
         Ok(write_all(trace, self.line.as_slice())?)
     }

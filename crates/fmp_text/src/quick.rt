@@ -1,6 +1,6 @@
 //! The short way through an event of the common forms: one pass, in which a call and the names of objects are guessed by their
 //! first bytes and then compared. The text spells what is found. Where nothing is found, the line has to be read in full.
-ghost use Rattle.std.specs.Prelude.{◌≡◌, ◌++◌, ◌∷◌, [], ◌+◌, ◌<◌, ◌≤◌, ◌^◌, IfSome, Some, decimal, length};
+ghost use Rattle.std.specs.Prelude.{◌≡◌, ◌++◌, ◌∷◌, [], ◌+◌, ◌<◌, ◌≤◌, ◌^◌, IfSome, IsTrue, Some, decimal, length};
 ghost use Rattle.fmp_calls.specs.Table.{kinds_of};
 ghost use Rattle.fmp_calls.specs.declared.kinds.ArgumentKind.TheVariants as kinds;
 ghost use Rattle.fmp_text.specs.Grammar.{IsNumber, IsObjectName, SpellsValue, SpellsCall};
@@ -15,6 +15,107 @@ use fmp_calls::{ArgumentKind, MOST_ARGUMENTS, NameKind, ObjectKind, Value, form,
 use fmp_codes::{Call, Event, Mode, Proc};
 use fmp_names::{Names, word_key};
 
+/// Whether all bytes of two texts of one length are the same, one after the other.
+#[inline(always)]
+fn are_same_bytes(one: &[u8], other: &[u8]) -> bool
+    requires { length one.now ≡ length other.now }
+    ensures { IsTrue result → one.now ≡ other.now }
+{
+    for index in 0..one.len() {
+        if one[index] != other[index] {
+            return false;
+        }
+    }
+    true
+}
+
+/// Whether two bytes are the same as two others, which are compared as one word.
+#[inline(always)]
+fn is_same_two(one: &[u8; 2], other: &[u8; 2]) -> bool
+    ensures { IsTrue result → one.now ≡ other.now }
+{
+    u16::from_le_bytes(*one) == u16::from_le_bytes(*other)
+}
+
+/// Whether four bytes are the same as four others, which are compared as one word.
+#[inline(always)]
+fn is_same_four(one: &[u8; 4], other: &[u8; 4]) -> bool
+    ensures { IsTrue result → one.now ≡ other.now }
+{
+    u32::from_le_bytes(*one) == u32::from_le_bytes(*other)
+}
+
+/// Whether eight bytes are the same as eight others, which are compared as one word.
+#[inline(always)]
+fn is_same_eight(one: &[u8; 8], other: &[u8; 8]) -> bool
+    ensures { IsTrue result → one.now ≡ other.now }
+{
+    u64::from_le_bytes(*one) == u64::from_le_bytes(*other)
+}
+
+/// Whether two texts of one length, of 2 to 4 bytes, are the same: their first two bytes and their last, which may overlap.
+#[inline(always)]
+fn is_same_brief(one: &[u8], other: &[u8]) -> bool
+    requires { (length one.now ≡ length other.now) × (length one.now ≤ 4) }
+    ensures { IsTrue result → one.now ≡ other.now }
+{
+    let (Some(first), Some(second)) = (one.first_chunk::<2>(), other.first_chunk::<2>()) else {
+        return false;
+    };
+    let (Some(last), Some(end)) = (one.last_chunk::<2>(), other.last_chunk::<2>()) else {
+        return false;
+    };
+    is_same_two(first, second) && is_same_two(last, end)
+}
+
+/// The same of 4 to 8 bytes.
+#[inline(always)]
+fn is_same_short(one: &[u8], other: &[u8]) -> bool
+    requires { (length one.now ≡ length other.now) × (length one.now ≤ 8) }
+    ensures { IsTrue result → one.now ≡ other.now }
+{
+    let (Some(first), Some(second)) = (one.first_chunk::<4>(), other.first_chunk::<4>()) else {
+        return false;
+    };
+    let (Some(last), Some(end)) = (one.last_chunk::<4>(), other.last_chunk::<4>()) else {
+        return false;
+    };
+    is_same_four(first, second) && is_same_four(last, end)
+}
+
+/// The same of 8 to 16 bytes.
+#[inline(always)]
+fn is_same_long(one: &[u8], other: &[u8]) -> bool
+    requires { (length one.now ≡ length other.now) × (length one.now ≤ 16) }
+    ensures { IsTrue result → one.now ≡ other.now }
+{
+    let (Some(first), Some(second)) = (one.first_chunk::<8>(), other.first_chunk::<8>()) else {
+        return false;
+    };
+    let (Some(last), Some(end)) = (one.last_chunk::<8>(), other.last_chunk::<8>()) else {
+        return false;
+    };
+    is_same_eight(first, second) && is_same_eight(last, end)
+}
+
+/// Whether two texts of one length are the same. Most words have 2 to 16 bytes, and are compared as two words of the machine.
+#[inline(always)]
+fn is_same(one: &[u8], other: &[u8]) -> bool
+    requires { length one.now ≡ length other.now }
+    ensures { IsTrue result → one.now ≡ other.now }
+{
+    let length = one.len();
+    if length < 2 || 16 < length {
+        are_same_bytes(one, other)
+    } else if length < 4 {
+        is_same_brief(one, other)
+    } else if length <= 8 {
+        is_same_short(one, other)
+    } else {
+        is_same_long(one, other)
+    }
+}
+
 /// What follows the prefix, where the text begins with it.
 #[inline(always)]
 fn behind_all<'a>(prefix: &[u8], text: &'a [u8]) -> Option<&'a [u8]>
@@ -24,12 +125,11 @@ fn behind_all<'a>(prefix: &[u8], text: &'a [u8]) -> Option<&'a [u8]>
     if text.len() < length {
         return None;
     }
-    for index in 0..length {
-        if text[index] != prefix[index] {
-            return None;
-        }
+    if is_same(&text[..length], prefix) {
+        Some(&text[length..])
+    } else {
+        None
     }
-    Some(&text[length..])
 }
 
 /// What follows a byte, where the text begins with it.
@@ -52,8 +152,7 @@ fn behind_blank(text: &[u8]) -> Option<&[u8]>
 }
 
 /// What follows the spaces and tabs that the text begins with, if any.
-#[inline(always)]
-fn behind_blanks(text: &[u8]) -> &[u8]
+fn behind_all_blanks(text: &[u8]) -> &[u8]
     ensures { IsBehindBlanks text.now result.now }
 {
     let mut rest = text;
@@ -61,6 +160,30 @@ fn behind_blanks(text: &[u8]) -> &[u8]
         rest = more;
     }
     rest
+}
+
+/// The same, where most texts begin with no blank but with a byte above them all.
+#[inline(always)]
+#[tactic(auto, using(crate::proofs::Fronted::no_blanks))]
+fn behind_blanks(text: &[u8]) -> &[u8]
+    ensures { IsBehindBlanks text.now result.now }
+{
+    match text {
+        [first, ..] if b' ' < *first => text,
+        _ => behind_all_blanks(text),
+    }
+}
+
+/// The same, where most texts begin with a line feed.
+#[inline(always)]
+#[tactic(auto, using(crate::proofs::Fronted::no_blanks))]
+fn behind_end_blanks(text: &[u8]) -> &[u8]
+    ensures { IsBehindBlanks text.now result.now }
+{
+    match text {
+        [b'\n', ..] => text,
+        _ => behind_all_blanks(text),
+    }
 }
 
 /// The value of a decimal digit, and what follows it.
@@ -331,5 +454,5 @@ pub fn quick_event<'a>(names: &Names, text: &'a [u8]) -> Option<(Event, &'a [u8]
     let behind = behind_blanks(third);
     let processor = processor_at(names, number)?;
     let (event, end) = happening_front(names, processor, behind)?;
-    Some((event, behind_blanks(end)))
+    Some((event, behind_end_blanks(end)))
 }

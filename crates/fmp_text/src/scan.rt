@@ -30,9 +30,9 @@ struct SaidLine {
 fn behind_end(text: &[u8]) -> Option<&[u8]>
     ensures { IfSome result (λ rest. IsBehindEnd text.now rest.now) }
 {
-    match after_byte(b'\r', text) {
-        Some(feed) => after_byte(b'\n', feed),
-        None => after_byte(b'\n', text),
+    match after_byte(b'\n', text) {
+        Some(rest) => Some(rest),
+        None => after_byte(b'\n', after_byte(b'\r', text)?),
     }
 }
 

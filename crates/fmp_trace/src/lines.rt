@@ -1,15 +1,19 @@
 //! Printing records, a line for each. What adds to a vector fails only where that had less room than there has to be, and it never
 //! takes room away.
-ghost use Rattle.std.specs.Prelude.{◌≡◌, ◌+◌, ◌<◌, ◌≤◌, ◌^◌, [], ◌++◌, length, OnOk, OnErr, IfOk, vec_capacity};
+ghost use Rattle.std.specs.Prelude.{◌≡◌, ◌+◌, ◌<◌, ◌≤◌, ◌^◌, [], ◌++◌, length, take, OnOk, OnErr, IfOk, vec_capacity};
+ghost use Rattle.fmp_codes.specs.Codes.{name_of};
+ghost use Rattle.fmp_trace.specs.Behind.{behind_number};
 ghost use Rattle.fmp_trace.specs.Lines as spec;
 
-use crate::values::{put_call, put_named, put_number, put_signed};
+use crate::count::{Count, put_count};
+use crate::values::{put_call, put_named, put_number, put_piece, put_signed};
 use fmp_calls::ObjectKind;
 use fmp_codes::{Answer, Code, Event, Proc, Record, Release, Releases, Runner, Task};
 use fmp_text::Names;
 use std::alloc::{AllocError, Global};
 
 /// Adds an event without its processor.
+#[inline(always)]
 pub fn put_event(out: &mut Vec<u8>, names: &Names, event: Event) -> Result<(), AllocError>
     ensures ok { OnOk result (out.new.items ≡ out.old.items ++ spec.event_text names.now event) }
     ensures full { OnErr result (vec_capacity out.old < length out.old.items + length (spec.event_text names.now event)) }
@@ -23,6 +27,7 @@ pub fn put_event(out: &mut Vec<u8>, names: &Names, event: Event) -> Result<(), A
 }
 
 /// Adds the name of a task, or its number where no task has it.
+#[inline(always)]
 pub fn put_task(out: &mut Vec<u8>, names: &Names, task: Task) -> Result<(), AllocError>
     ensures ok { OnOk result (out.new.items ≡ out.old.items ++ spec.task_text names.now task) }
     ensures full { OnErr result (vec_capacity out.old < length out.old.items + length (spec.task_text names.now task)) }
@@ -32,6 +37,7 @@ pub fn put_task(out: &mut Vec<u8>, names: &Names, task: Task) -> Result<(), Allo
 }
 
 /// Adds the name of a task or a handler, or `-` where there is none.
+#[inline(always)]
 pub fn put_runner(
     out: &mut Vec<u8>,
     names: &Names,
@@ -53,14 +59,46 @@ pub fn put_runner(
     }
 }
 
+/// The name of a code with blanks behind it, and how many bytes the name has.
+#[inline(always)]
+fn code_piece(code: Code) -> (&'static [u8; 16], usize)
+    ensures few { result.1 ≤ 16 }
+    ensures text { take result.1 result.0.now ≡ name_of code }
+    ensures bytes { result.1 ≡ length (name_of code) }
+{
+    match code {
+        Code::Accepted => (b"E_OK            ", 4),
+        Code::Parameter => (b"E_PAR           ", 5),
+        Code::Identifier => (b"E_ID            ", 4),
+        Code::Context => (b"E_CTX           ", 5),
+        Code::IllegalUse => (b"E_ILUSE         ", 7),
+        Code::ObjectState => (b"E_OBJ           ", 5),
+        Code::QueueOverflow => (b"E_QOVR          ", 6),
+        Code::WaitReleased => (b"E_RLWAI         ", 7),
+        Code::TimedOut => (b"E_TMOUT         ", 7),
+    }
+}
+
+/// Adds the name of a code.
+#[inline(always)]
+fn put_code_name(out: &mut Vec<u8>, code: Code) -> Result<(), AllocError>
+    ensures ok { OnOk result (out.new.items ≡ out.old.items ++ name_of code) }
+    ensures full { OnErr result (vec_capacity out.old < length out.old.items + length (name_of code)) }
+    ensures room { vec_capacity out.old ≤ vec_capacity out.new }
+{
+    let (piece, bytes) = code_piece(code);
+    put_piece(out, piece, bytes)
+}
+
 /// Adds a code and the value that it has, if any.
+#[inline(always)]
 #[tactic(auto, unfolding(crate::specs::Lines::code_text))]
 fn put_code(out: &mut Vec<u8>, code: Code, value: Option<i64>) -> Result<(), AllocError>
     ensures ok { OnOk result (out.new.items ≡ out.old.items ++ spec.code_text code value) }
     ensures full { OnErr result (vec_capacity out.old < length out.old.items + length (spec.code_text code value)) }
     ensures room { vec_capacity out.old ≤ vec_capacity out.new }
 {
-    out.extend_from_slice(code.name().as_bytes())?;
+    put_code_name(out, code)?;
     if let Some(value) = value {
         out.push(b':')?;
         put_signed(out, value)?;
@@ -69,6 +107,7 @@ fn put_code(out: &mut Vec<u8>, code: Code, value: Option<i64>) -> Result<(), All
 }
 
 /// Adds what a call returned, where the answer is that.
+#[inline(always)]
 fn put_returned(out: &mut Vec<u8>, answer: Answer) -> Result<(), AllocError>
     ensures ok { OnOk result (out.new.items ≡ out.old.items ++ spec.returned_text answer) }
     ensures full { OnErr result (vec_capacity out.old < length out.old.items + length (spec.returned_text answer)) }
@@ -81,6 +120,7 @@ fn put_returned(out: &mut Vec<u8>, answer: Answer) -> Result<(), AllocError>
 }
 
 /// Adds the answer to an event.
+#[inline(always)]
 pub fn put_answer(out: &mut Vec<u8>, answer: Answer) -> Result<(), AllocError>
     ensures ok { OnOk result (out.new.items ≡ out.old.items ++ spec.answer_text answer) }
     ensures full { OnErr result (vec_capacity out.old < length out.old.items + length (spec.answer_text answer)) }
@@ -93,6 +133,7 @@ pub fn put_answer(out: &mut Vec<u8>, answer: Answer) -> Result<(), AllocError>
 }
 
 /// Adds the end of a wait behind a blank: the task, and the code with its value, if any.
+#[inline(always)]
 #[tactic(auto, unfolding(crate::specs::Lines::release_text))]
 fn put_release(out: &mut Vec<u8>, names: &Names, release: Release) -> Result<(), AllocError>
     ensures ok { OnOk result (out.new.items ≡ out.old.items ++ spec.release_text names.now release) }
@@ -106,6 +147,7 @@ fn put_release(out: &mut Vec<u8>, names: &Names, release: Release) -> Result<(),
 }
 
 /// Adds the ends of waits, each behind a blank.
+#[inline(always)]
 pub fn put_releases(out: &mut Vec<u8>, names: &Names, releases: &Releases) -> Result<(), AllocError>
     ensures ok { OnOk result (out.new.items ≡ out.old.items ++ spec.releases_text names.now releases.now) }
     ensures full { OnErr result (vec_capacity out.old < length out.old.items + length (spec.releases_text names.now releases.now)) }
@@ -118,6 +160,7 @@ pub fn put_releases(out: &mut Vec<u8>, names: &Names, releases: &Releases) -> Re
 }
 
 /// Adds the value that was overwritten, if any, behind a blank.
+#[inline(always)]
 pub fn put_lost(out: &mut Vec<u8>, lost: Option<i64>) -> Result<(), AllocError>
     ensures ok { OnOk result (out.new.items ≡ out.old.items ++ spec.lost_text lost) }
     ensures full { OnErr result (vec_capacity out.old < length out.old.items + length (spec.lost_text lost)) }
@@ -131,6 +174,7 @@ pub fn put_lost(out: &mut Vec<u8>, lost: Option<i64>) -> Result<(), AllocError>
 }
 
 /// Adds the task that runs now, or that there is none.
+#[inline(always)]
 pub fn put_running(
     out: &mut Vec<u8>,
     names: &Names,
@@ -147,6 +191,7 @@ pub fn put_running(
 }
 
 /// Adds what runs now behind a blank, where that is another than before.
+#[inline(always)]
 pub fn put_run_change(
     out: &mut Vec<u8>,
     names: &Names,
@@ -164,6 +209,7 @@ pub fn put_run_change(
 }
 
 /// Adds the processors to which a request is sent, if any, behind a blank.
+#[inline(always)]
 pub fn put_requests(out: &mut Vec<u8>, requests: &[Proc]) -> Result<(), AllocError>
     ensures ok { OnOk result (out.new.items ≡ out.old.items ++ spec.requests_from 0 requests.now) }
     ensures full { OnErr result (vec_capacity out.old < length out.old.items + length (spec.requests_from 0 requests.now)) }
@@ -180,23 +226,8 @@ pub fn put_requests(out: &mut Vec<u8>, requests: &[Proc]) -> Result<(), AllocErr
     Ok(())
 }
 
-/// Adds what stands before the event in line n.
-#[tactic(auto, unfolding(crate::specs::Lines::head_text))]
-fn put_head(out: &mut Vec<u8>, names: &Names, n: u32, entry: &Record) -> Result<(), AllocError>
-    ensures ok { OnOk result (out.new.items ≡ out.old.items ++ spec.head_text names.now n entry.now) }
-    ensures full { OnErr result (vec_capacity out.old < length out.old.items + length (spec.head_text names.now n entry.now)) }
-    ensures room { vec_capacity out.old ≤ vec_capacity out.new }
-{
-    put_number(out, u64::from(n))?;
-    out.extend_from_slice(b" P")?;
-    put_number(out, u64::from(entry.event.processor().number))?;
-    out.push(b' ')?;
-    put_runner(out, names, entry.runner)?;
-    out.push(b' ')?;
-    Ok(())
-}
-
 /// Adds what stands behind the answer.
+#[inline(always)]
 #[tactic(auto, unfolding(crate::specs::Lines::tail_text))]
 fn put_tail(out: &mut Vec<u8>, names: &Names, entry: &Record) -> Result<(), AllocError>
     ensures ok { OnOk result (out.new.items ≡ out.old.items ++ spec.tail_text names.now entry.now) }
@@ -210,19 +241,35 @@ fn put_tail(out: &mut Vec<u8>, names: &Names, entry: &Record) -> Result<(), Allo
     Ok(())
 }
 
-/// Adds line n without its line feed.
-#[tactic(auto, unfolding(crate::specs::Lines::core_text))]
-pub fn put_core(out: &mut Vec<u8>, names: &Names, n: u32, entry: &Record) -> Result<(), AllocError>
-    ensures ok { OnOk result (out.new.items ≡ out.old.items ++ spec.core_text names.now n entry.now) }
-    ensures full { OnErr result (vec_capacity out.old < length out.old.items + length (spec.core_text names.now n entry.now)) }
+/// Adds what stands behind the number of a line, without its line feed.
+#[inline(always)]
+#[tactic(auto, unfolding(crate::specs::Behind::behind_number))]
+fn put_behind_number(out: &mut Vec<u8>, names: &Names, entry: &Record) -> Result<(), AllocError>
+    ensures ok { OnOk result (out.new.items ≡ out.old.items ++ behind_number names.now entry.now) }
+    ensures full { OnErr result (vec_capacity out.old < length out.old.items + length (behind_number names.now entry.now)) }
     ensures room { vec_capacity out.old ≤ vec_capacity out.new }
 {
-    put_head(out, names, n, entry)?;
+    out.extend_from_slice(b" P")?;
+    put_number(out, u64::from(entry.event.processor().number))?;
+    out.push(b' ')?;
+    put_runner(out, names, entry.runner)?;
+    out.push(b' ')?;
     put_event(out, names, entry.event)?;
     out.push(b' ')?;
     put_answer(out, entry.answer)?;
     put_tail(out, names, entry)?;
     Ok(())
+}
+
+/// Adds line n without its line feed.
+#[tactic(auto, unfolding(crate::specs::Lines::core_text, crate::specs::Lines::head_text, crate::specs::Behind::behind_number))]
+pub fn put_core(out: &mut Vec<u8>, names: &Names, n: u32, entry: &Record) -> Result<(), AllocError>
+    ensures ok { OnOk result (out.new.items ≡ out.old.items ++ spec.core_text names.now n entry.now) }
+    ensures full { OnErr result (vec_capacity out.old < length out.old.items + length (spec.core_text names.now n entry.now)) }
+    ensures room { vec_capacity out.old ≤ vec_capacity out.new }
+{
+    put_number(out, u64::from(n))?;
+    put_behind_number(out, names, entry)
 }
 
 /// Adds line n with its line feed.
@@ -233,6 +280,24 @@ pub fn put_line(out: &mut Vec<u8>, names: &Names, n: u32, entry: &Record) -> Res
     ensures room { vec_capacity out.old ≤ vec_capacity out.new }
 {
     put_core(out, names, n, entry)?;
+    out.push(b'\n')?;
+    Ok(())
+}
+
+/// Adds the line of this count with its line feed.
+#[tactic(auto, unfolding(crate::specs::Lines::line_text, crate::specs::Lines::core_text, crate::specs::Lines::head_text, crate::specs::Behind::behind_number))]
+fn put_counted(
+    out: &mut Vec<u8>,
+    names: &Names,
+    count: &Count,
+    entry: &Record,
+) -> Result<(), AllocError>
+    ensures ok { OnOk result (out.new.items ≡ out.old.items ++ spec.line_text names.now count.now entry.now) }
+    ensures full { OnErr result (vec_capacity out.old < length out.old.items + length (spec.line_text names.now count.now entry.now)) }
+    ensures room { vec_capacity out.old ≤ vec_capacity out.new }
+{
+    put_count(out, count)?;
+    put_behind_number(out, names, entry)?;
     out.push(b'\n')?;
     Ok(())
 }
@@ -252,6 +317,26 @@ pub fn trace_line(
 {
     line.clear();
     let made = put_line(line, names, n, entry);
+    if made.is_err() {
+        line.clear();
+    }
+    made
+}
+
+/// Replaces what the vector holds by the line of this count, as `trace_line` does by line n.
+pub fn counted_line(
+    count: &Count,
+    entry: &Record,
+    names: &Names,
+    line: &mut Vec<u8>,
+) -> Result<(), AllocError>
+    ensures ok { OnOk result (line.new.items ≡ spec.line_text names.now count.now entry.now) }
+    ensures err { OnErr result (line.new.items ≡ []) }
+    ensures full { OnErr result (vec_capacity line.old < length (spec.line_text names.now count.now entry.now)) }
+    ensures room { vec_capacity line.old ≤ vec_capacity line.new }
+{
+    line.clear();
+    let made = put_counted(line, names, count, entry);
     if made.is_err() {
         line.clear();
     }

@@ -1,6 +1,6 @@
 //! Printing numbers, names and calls. What adds to a vector fails only where that had less room than there has to be, and it never
 //! takes room away.
-ghost use Rattle.std.specs.Prelude.{◌≡◌, ◌+◌, ◌<◌, ◌≤◌, ◌++◌, length, decimal, OnOk, OnErr, vec_capacity};
+ghost use Rattle.std.specs.Prelude.{◌≡◌, ◌+◌, ◌<◌, ◌≤◌, ◌++◌, length, take, decimal, OnOk, OnErr, vec_capacity};
 ghost use Rattle.std.specs.Fmt.{signed_decimal};
 ghost use Rattle.fmp_trace.specs.Values as spec;
 
@@ -10,19 +10,60 @@ use fmp_text::Names;
 use itoa::Buffer;
 use std::alloc::AllocError;
 
+/// Adds the first bytes of a piece. Where there is room for the whole piece, it is one store.
+#[inline(always)]
+pub(crate) fn put_piece(out: &mut Vec<u8>, piece: &[u8; 16], bytes: usize) -> Result<(), AllocError>
+    requires { bytes ≤ 16 }
+    ensures ok { OnOk result (out.new.items ≡ out.old.items ++ take bytes piece.now) }
+    ensures full { OnErr result (vec_capacity out.old < length out.old.items + bytes) }
+    ensures room { vec_capacity out.old ≤ vec_capacity out.new }
+{
+    let end = out.len() + bytes;
+    if out.capacity() - out.len() < 16 {
+        return out.extend_from_slice(&piece[..bytes]);
+    }
+    out.extend_from_slice(piece.as_slice())?;
+    out.truncate(end);
+    Ok(())
+}
+
+/// Adds a text. Most names have two or three bytes, and so many are one or two stores.
+#[inline(always)]
+fn put_word(out: &mut Vec<u8>, text: &[u8]) -> Result<(), AllocError>
+    ensures ok { OnOk result (out.new.items ≡ out.old.items ++ text.now) }
+    ensures full { OnErr result (vec_capacity out.old < length out.old.items + length text.now) }
+    ensures room { vec_capacity out.old ≤ vec_capacity out.new }
+{
+    match text.len() {
+        2 => out.extend_from_slice(&text[..2]),
+        3 => out.extend_from_slice(&text[..3]),
+        _ => out.extend_from_slice(text),
+    }
+}
+
+/// Adds a number of any size in decimal.
+fn put_great(out: &mut Vec<u8>, number: u64) -> Result<(), AllocError>
+    ensures ok { OnOk result (out.new.items ≡ out.old.items ++ decimal number) }
+    ensures full { OnErr result (vec_capacity out.old < length out.old.items + length (decimal number)) }
+    ensures room { vec_capacity out.old ≤ vec_capacity out.new }
+{
+    let mut buffer = Buffer::new();
+    out.extend_from_slice(buffer.format(number).as_bytes())
+}
+
 /// Adds a number in decimal. Most are one digit, which is written without a buffer.
+#[inline(always)]
 #[tactic(auto, using(std::proofs::lemmas::Fmt::decimal_digit))]
 pub fn put_number(out: &mut Vec<u8>, number: u64) -> Result<(), AllocError>
     ensures ok { OnOk result (out.new.items ≡ out.old.items ++ decimal number) }
     ensures full { OnErr result (vec_capacity out.old < length out.old.items + length (decimal number)) }
     ensures room { vec_capacity out.old ≤ vec_capacity out.new }
 {
-    if number < 10 {
-        out.push(b'0' + number as u8)?;
-        return Ok(());
+    if 10 <= number {
+        return put_great(out, number);
     }
-    let mut buffer = Buffer::new();
-    out.extend_from_slice(buffer.format(number).as_bytes())
+    out.push(b'0' + number as u8)?;
+    Ok(())
 }
 
 /// Adds a number with its sign, where it is below 0.
@@ -39,6 +80,7 @@ pub fn put_signed(out: &mut Vec<u8>, number: i64) -> Result<(), AllocError>
 }
 
 /// Adds the name of an object, or the number where no object has it.
+#[inline(always)]
 #[tactic(auto, unfolding(crate::specs::Values::named))]
 pub fn put_named(
     out: &mut Vec<u8>,
@@ -51,7 +93,7 @@ pub fn put_named(
     ensures room { vec_capacity out.old ≤ vec_capacity out.new }
 {
     match names.name(NameKind::Object(kind), number) {
-        Some(name) => out.extend_from_slice(name),
+        Some(name) => put_word(out, name),
         None => put_number(out, number as u64),
     }
 }

@@ -1,5 +1,5 @@
 use Rattle.fmp_text.proofs.Fronted.{no_blanks, blanks_more}
-use Rattle.fmp_text.proofs.quick.behind_blanks.Goals as goal
+use Rattle.fmp_text.proofs.quick.behind_all_blanks.Goals as goal
 
 pub loop-more-init : goal.loop-more-init
 loop-more-init c = no_blanks c.args.text.now
