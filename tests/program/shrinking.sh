@@ -19,7 +19,7 @@ shrinking() {
         shrink "$cfg" steps.txt --find '2 times pol_sem(GATE) E_OK'
     # the semaphore is empty after the last of them alone
     run 0 "$(as_file printf 'P1 pol_sem(GATE)\n')" /dev/null shrink "$cfg" "$({ cat steps.txt && echo 'P1 pol_sem(GATE)'; } | as_file)" --find 'pol_sem(GATE) E_TMOUT'
-    run 0 "$(as_file printf 'P1 sig_sem(GATE)\nP1 pol_sem(GATE)\n')" /dev/null shrink "$cfg" steps.txt --find 'pol_sem(GATE) E_OK without get_tid'
+    run 0 "$(as_file printf 'P1 sig_sem(GATE)\nP1 pol_sem(GATE)\n')" /dev/null shrink "$cfg" steps.txt --find 'sig_sem(GATE) * then pol_sem(GATE) E_OK without get_tid() *'
     # the state behind an event is looked at too
     run 0 "$(as_file printf 'P1 act_tsk(WORKER)\n')" /dev/null shrink "$cfg" "$folder/events.txt" --find 'ready=WORKER latch'
     for silent in 'rel=WORKER:E_RLWAI' 'end' 'act_tsk(WORKER) then act_tsk(WORKER)' 'tslp_tsk(2) * then act_tsk(WORKER) *'; do

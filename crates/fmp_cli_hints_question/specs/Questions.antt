@@ -5,10 +5,9 @@ use Rattle.fmp_bytes.specs.Bytes.{cut_at, space}
 use Rattle.fmp_names.specs.Names.{NameLists}
 use Rattle.fmp_search_question.specs.declared.fault.QuestionFault.{QuestionFault}
 use Rattle.fmp_search_question.specs.declared.fault.QuestionFault.TheVariants as question
-use Rattle.fmp_text.specs.declared.fault.TextKind.{TextKind}
-use Rattle.fmp_text.specs.declared.fault.TextKind.TheVariants as kinds
 use Rattle.fmp_cli_hints_question.specs.declared.question.TheConstants.{SIGNS}
 use Rattle.fmp_cli_hints_question.specs.Known.{run_hints}
+use Rattle.fmp_cli_hints_question.specs.Lines.{line_hint}
 use Rattle.fmp_cli_hints.specs.Excerpts.{excerpt}
 use Rattle.fmp_cli_hints.specs.Wanted.{label}
 
@@ -20,13 +19,22 @@ words question.BadForm =
 words question.UnknownName =
     codes "a name of the configuration, a processor, a call, a code, a word of a trace or of a state, or a `*` in the word\n"
 words question.TooLong = codes "at most 255 steps, and at most 1024 bytes in a pattern\n"
+words question.NoLine = codes "a word that stands behind those before it in some line of a trace or of a state, or a `*` for the words between\n"
 
--- as which fault of a text one of a question is told
-abbrev pub kind_of : QuestionFault → TextKind
-kind_of question.BadWord = kinds.BadByte
-kind_of question.BadForm = kinds.BadWord
-kind_of question.UnknownName = kinds.UnknownName
-kind_of question.TooLong = kinds.TooMany
+-- the number of a fault, and its words behind it
+abbrev pub code_of : QuestionFault → List ℕ
+code_of question.BadWord = codes "E1"
+code_of question.BadForm = codes "E2"
+code_of question.UnknownName = codes "E3"
+code_of question.TooLong = codes "E7"
+code_of question.NoLine = codes "E9"
+
+abbrev pub words_of : QuestionFault → List ℕ
+words_of question.BadWord = codes "bad byte"
+words_of question.BadForm = codes "bad word"
+words_of question.UnknownName = codes "unknown name"
+words_of question.TooLong = codes "too many"
+words_of question.NoLine = codes "no such line"
 
 -- a byte that means something in a regular expression
 abbrev pub is_sign : ℕ → Bool
@@ -35,15 +43,22 @@ is_sign b = list_any (λ s. s == b) SIGNS
 abbrev pub has_sign : List ℕ → Bool
 has_sign word = list_any is_sign word
 
+unfoldable pub sign_words : List ℕ
+sign_words = codes "  A pattern is no regular expression: `*` alone stands for any bytes.\n"
+
 -- what is told of the word at fault
 unfoldable pub word_hint : NameLists → List ℕ → List ℕ
-word_hint names word =
-    if has_sign word then codes "  A pattern is no regular expression: `*` alone stands for any bytes.\n" else run_hints names word
+word_hint names word = if has_sign word then sign_words else run_hints names word
+
+-- what is told of a word that stands there in no line
+unfoldable pub order_hint : List ℕ → List ℕ
+order_hint word = if has_sign word then sign_words else line_hint word
 
 -- with such a fault, in a text that goes on so from it on
 unfoldable pub hint : NameLists → QuestionFault → List ℕ → List ℕ
 hint names question.BadWord text = word_hint names (cut_at space text).0
 hint names question.UnknownName text = word_hint names (cut_at space text).0
+hint names question.NoLine text = order_hint (cut_at space text).0
 hint names fault text = []
 
 abbrev pub empty_words : List ℕ → List ℕ

@@ -3,10 +3,11 @@ ghost use Rattle.std.specs.Prelude.{◌≡◌, ◌++◌, IfOk, OnOk};
 ghost use Rattle.fmp_cli_hints_question.specs.Questions as spec;
 
 use crate::known::put_run_hints;
+use crate::lines::put_line_hint;
 use fmp_bytes::cut;
 use fmp_cli_hints::{label, put_excerpt};
 use fmp_search_question::QuestionFault;
-use fmp_text::{Names, TextKind};
+use fmp_text::Names;
 use std::alloc::{AllocError, Global};
 
 /// What is wanted where a question has such a fault.
@@ -22,18 +23,35 @@ fn wanted_at(fault: QuestionFault) -> &'static [u8]
             b"a name of the configuration, a processor, a call, a code, a word of a trace or of a state, or a `*` in the word\n"
         }
         QuestionFault::TooLong => b"at most 255 steps, and at most 1024 bytes in a pattern\n",
+        QuestionFault::NoLine => {
+            b"a word that stands behind those before it in some line of a trace or of a state, or a `*` for the words between\n"
+        }
     }
 }
 
-/// The kind of fault of a text as which a fault of a question is told.
-pub fn question_kind(fault: QuestionFault) -> TextKind
-    ensures { result ≡ spec.kind_of fault }
+/// The number of a fault of a question, from `E1` to `E9`.
+pub fn question_code(fault: QuestionFault) -> &'static str
+    ensures { result.now ≡ spec.code_of fault }
 {
     match fault {
-        QuestionFault::BadWord => TextKind::BadByte,
-        QuestionFault::BadForm => TextKind::BadWord,
-        QuestionFault::UnknownName => TextKind::UnknownName,
-        QuestionFault::TooLong => TextKind::TooMany,
+        QuestionFault::BadWord => "E1",
+        QuestionFault::BadForm => "E2",
+        QuestionFault::UnknownName => "E3",
+        QuestionFault::TooLong => "E7",
+        QuestionFault::NoLine => "E9",
+    }
+}
+
+/// The fault in words, as it is printed behind its number.
+pub fn question_words(fault: QuestionFault) -> &'static str
+    ensures { result.now ≡ spec.words_of fault }
+{
+    match fault {
+        QuestionFault::BadWord => "bad byte",
+        QuestionFault::BadForm => "bad word",
+        QuestionFault::UnknownName => "unknown name",
+        QuestionFault::TooLong => "too many",
+        QuestionFault::NoLine => "no such line",
     }
 }
 
@@ -54,6 +72,14 @@ fn has_sign(word: &[u8]) -> bool
     word.iter().any(|byte| is_sign(*byte))
 }
 
+/// What is told of a word with a byte that means something in a regular expression.
+#[tactic(auto, unfolding(crate::specs::Questions::sign_words))]
+fn sign_words() -> &'static [u8]
+    ensures { result.now ≡ spec.sign_words }
+{
+    b"  A pattern is no regular expression: `*` alone stands for any bytes.\n"
+}
+
 /// Adds what is told of the word at fault.
 #[tactic(auto, unfolding(crate::specs::Questions::word_hint))]
 fn put_word_hint(
@@ -65,11 +91,21 @@ fn put_word_hint(
     ensures { OnOk result (out.new.items ≡ out.old.items ++ spec.word_hint names.now word.now) }
 {
     if has_sign(word) {
-        out.extend_from_slice(
-            b"  A pattern is no regular expression: `*` alone stands for any bytes.\n",
-        )
+        out.extend_from_slice(sign_words())
     } else {
         put_run_hints(alloc, out, names, word)
+    }
+}
+
+/// Adds what is told of a word that stands there in no line.
+#[tactic(auto, unfolding(crate::specs::Questions::order_hint))]
+fn put_order_hint(out: &mut Vec<u8>, word: &[u8]) -> Result<(), AllocError>
+    ensures { OnOk result (out.new.items ≡ out.old.items ++ spec.order_hint word.now) }
+{
+    if has_sign(word) {
+        out.extend_from_slice(sign_words())
+    } else {
+        put_line_hint(out, word)
     }
 }
 
@@ -89,6 +125,7 @@ fn put_hint(
         QuestionFault::BadWord | QuestionFault::UnknownName => {
             put_word_hint(alloc, out, names, word)
         }
+        QuestionFault::NoLine => put_order_hint(out, word),
         _ => Ok(()),
     }
 }

@@ -43,3 +43,52 @@ pub const QUESTION_ROWS: [(&[u8], &[u8]); 17] = [
 ];
 
 const DIGITS: &[u8] = b"  A number is written in digits, as in `3 times`.\n";
+
+/// What is told of a word of a question that no line has behind the words before it.
+pub const LINE_ROWS: [(&[u8], &[u8]); 17] = [
+    (
+        b"tick",
+        b"  Who runs stands before it, as in `P1 T1 tick taken`: write `P1 * tick taken`.\n",
+    ),
+    (
+        b"ipi",
+        b"  Who runs stands before it, as in `P1 T1 ipi taken`: write `P1 * ipi taken`.\n",
+    ),
+    (b"taken", TIMER),
+    (b"none", TIMER),
+    (
+        b"held",
+        b"  A tick or an interrupt is `tick held` or `ipi held`, and a spin lock `held=P1`.\n",
+    ),
+    (
+        b"E_OK",
+        b"  A call stands before it, and behind it the value that the call tells, as in `get_pid() E_OK:1`: write `get_pid() E_OK*`.\n",
+    ),
+    (b"wait", CALL),
+    (b"spin", CALL),
+    (b"gone", CALL),
+    (b"idle", CALL),
+    (b"locked", PROCESSOR),
+    (b"disabled", PROCESSOR),
+    (b"latch", PROCESSOR),
+    (
+        b"ready",
+        b"  The names stand behind a `=`, as in `P1 run=T1 ready=T2,T3`: write `P1 * ready=*T2*`.\n",
+    ),
+    (b"run", b"  The name stands behind a `=`: write `run=T1`.\n"),
+    (
+        b"due",
+        b"  The names stand behind a `=`, as in `P1 run=T1 due=A1`: write `P1 * due=*A1*`.\n",
+    ),
+    (
+        b"rel",
+        b"  The name and the code stand behind a `=`: write `rel=T1:E_OK`.\n",
+    ),
+];
+
+const TIMER: &[u8] = b"  It answers a tick or an interrupt, as in `P1 T1 tick taken`.\n";
+
+const CALL: &[u8] = b"  It answers a call, as in `P1 T1 slp_tsk() wait`: write `T1 * wait`.\n";
+
+const PROCESSOR: &[u8] =
+    b"  What the processor runs stands before it, as in `P1 run=T1 latch`: write `P1 * latch`.\n";

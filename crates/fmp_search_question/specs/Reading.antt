@@ -1,6 +1,6 @@
 -- How a question is read: word by word. Words stand between single blanks, and mean themselves but for these: `&` between the patterns of
 -- a moment, `without` before what must not come, `then` before the next step, `times` behind a number at the front of a step.
-use Rattle.std.specs.Prelude.{ℕ, ◌-◌, ◌==◌, not, ◌&&◌, nat_le, is_none, List, [], ◌∷◌, ◌++◌, length, take, drop, Option, None, Some, option_map, unwrap_or, replicate, Result, Ok, Err, if◌then◌else◌, codes}
+use Rattle.std.specs.Prelude.{ℕ, ◌-◌, ◌==◌, not, ◌&&◌, ◌||◌, nat_le, is_none, List, [], ◌∷◌, ◌++◌, length, take, drop, Option, None, Some, option_map, unwrap_or, replicate, Result, Ok, Err, if◌then◌else◌, codes}
 use Rattle.std.specs.List.{list_all, join_with_byte}
 use Rattle.std.specs.Option.{option_and_then}
 use Rattle.std.specs.Str.{bytes_eq}
@@ -9,9 +9,13 @@ use Rattle.fmp_bytes.specs.Numerals.{are_digits, magnitude_of}
 use Rattle.fmp_names.specs.Names.{NameLists}
 use Rattle.fmp_search_question.specs.declared.question.Step.{Step}
 use Rattle.fmp_search_question.specs.declared.fault.QuestionFault.{QuestionFault}
-use Rattle.fmp_search_question.specs.declared.fault.QuestionFault.TheVariants.{BadWord, BadForm, UnknownName, TooLong}
+use Rattle.fmp_search_question.specs.declared.fault.QuestionFault.TheVariants.{BadWord, BadForm, UnknownName, TooLong, NoLine}
 use Rattle.fmp_search_question.specs.declared.fault.ReadFault.{ReadFault}
 use Rattle.fmp_search_question.specs.declared.fault.ReadFault.TheVariants.{Memory, Text}
+use Rattle.fmp_search_question.specs.declared.spot.Spot.{Spot}
+use Rattle.fmp_search_question.specs.declared.spot.Spot.TheVariants.{Front}
+use Rattle.fmp_search_question.specs.Forms.{spot_of}
+use Rattle.fmp_search_question.specs.Spots.{is_number, stepped}
 use Rattle.fmp_search_question.specs.Words.{star, is_printed, is_fine, runs_of}
 
 -- the greatest number of steps, and of bytes of a pattern with the blanks around it
@@ -28,15 +32,16 @@ pub record Draft : Type 0 where
   pub moment : Option (List (List (List ℕ)))  -- its moment, where `without` was read
   pub patterns : List (List (List ℕ))  -- the complete patterns of the moment that is being read
   pub pattern : List ℕ  -- the pattern that is being read: its words, each with a blank behind it, and one before the first
+  pub spot : Spot  -- where in a line those words end
 
 abbrev pub nothing_read : Draft
-nothing_read = record { steps = []; times = None; moment = None; patterns = []; pattern = [] }
+nothing_read = record { steps = []; times = None; moment = None; patterns = []; pattern = []; spot = Front }
 
--- a pattern is complete
+-- a pattern is complete. A number alone is none
 unfoldable pub with_pattern : Draft → Option Draft
 with_pattern d =
-    if length d.pattern == 0 then None
-    else Some (record d { patterns = d.patterns ++ pieces_of star d.pattern ∷ []; pattern = [] })
+    if length d.pattern == 0 || is_number d.spot then None
+    else Some (record d { patterns = d.patterns ++ pieces_of star d.pattern ∷ []; pattern = []; spot = Front })
 
 -- a moment is complete, and what must not come before it follows
 abbrev pub before_without : Draft → Option Draft
@@ -49,16 +54,9 @@ abbrev pub step_of : Option (List (List (List ℕ))) → List (List (List ℕ)) 
 step_of None patterns = record { moment = patterns; without = None }
 step_of (Some moment) patterns = record { moment = moment; without = Some patterns }
 
-abbrev pub steps_with : Draft → List Step
-steps_with d = d.steps ++ replicate (unwrap_or d.times 1) (step_of d.moment d.patterns)
-
--- what is left behind a step was taken
-abbrev pub without_step : Draft → Draft
-without_step d = record d { moment = None; patterns = [] }
-
 -- the step that was read stands as often as was said
 abbrev pub with_read : Draft → Draft
-with_read d = record d { steps = steps_with d; times = None; moment = None; patterns = [] }
+with_read d = record d { steps = d.steps ++ replicate (unwrap_or d.times 1) (step_of d.moment d.patterns); times = None; moment = None; patterns = [] }
 
 -- a step is complete
 unfoldable pub with_step : Draft → Option Draft
@@ -77,7 +75,7 @@ times_within n = if nat_le 1 n && nat_le n most_steps then Some n else None
 unfoldable pub with_times : Draft → Option Draft
 with_times d =
     if is_none d.times && is_none d.moment && length d.patterns == 0
-    then option_map (λ n. record d { times = Some n; pattern = [] }) (option_and_then times_within (number_in d.pattern))
+    then option_map (λ n. record d { times = Some n; pattern = []; spot = Front }) (option_and_then times_within (number_in d.pattern))
     else None
 
 -- the pattern with a word more
@@ -94,11 +92,16 @@ abbrev pub limited : Result Draft QuestionFault → Result Draft QuestionFault
 limited (Err fault) = Err fault
 limited (Ok d) = if nat_le (length d.steps) most_steps then Ok d else Err TooLong
 
+-- a word that may stand behind those before it in some line
+abbrev pub at_spot : Draft → List ℕ → Option Spot → Result Draft QuestionFault
+at_spot d word None = Err NoLine
+at_spot d word (Some spot) = Ok (record d { pattern = longer d.pattern word; spot = spot })
+
 -- a word of a pattern
 unfoldable pub with_word : NameLists → Draft → List ℕ → Result Draft QuestionFault
 with_word names d word =
     if list_all (is_fine names) (runs_of word) then
-    (if nat_le (length (longer d.pattern word)) most_pattern then Ok (record d { pattern = longer d.pattern word }) else Err TooLong)
+    (if nat_le (length (longer d.pattern word)) most_pattern then at_spot d word (stepped d.spot (spot_of names word)) else Err TooLong)
     else Err UnknownName
 
 -- the fault, where there is one

@@ -7,7 +7,9 @@ ghost use Rattle.fmp_search_question.specs.Words.{star, is_fine};
 ghost use Rattle.fmp_search_question.specs.Reading as spec;
 
 use crate::fault::{QuestionFault, ReadFault};
+use crate::forms::spot_of;
 use crate::question::{Moment, Pattern, Piece, Question, Step};
+use crate::spot::Spot;
 use crate::words::{are_fine, is_printed};
 use fmp_bytes::{are_digits, cut, magnitude};
 use fmp_names::Names;
@@ -30,6 +32,7 @@ pub(crate) struct Draft {
     moment: Option<Moment>,
     patterns: Vec<Pattern>,
     pattern: Vec<u8>,
+    spot: Spot,
 }
 
 impl Model for Draft {
@@ -37,7 +40,7 @@ impl Model for Draft {
 
     ghost Value = { spec.Draft };
 
-    ghost view = { λ d. record { steps = d.steps.items; times = d.times; moment = d.moment; patterns = d.patterns.items; pattern = d.pattern.items } };
+    ghost view = { λ d. record { steps = d.steps.items; times = d.times; moment = d.moment; patterns = d.patterns.items; pattern = d.pattern.items; spot = d.spot } };
 }
 
 /// The bytes between the stars, in order: one piece more than there are stars, and some may be empty. The error is want of memory.
@@ -87,21 +90,23 @@ impl Draft {
             moment: None,
             patterns: Vec::new(alloc),
             pattern: Vec::new(alloc),
+            spot: Spot::Front,
         }
     }
 
-    /// Puts the pattern behind the others of its moment. False where it has no word yet. The error is want of memory.
+    /// Puts the pattern behind the others of its moment. False where it has no word yet, or is a number alone. The error is want of memory.
     #[tactic(auto, unfolding(crate::specs::Reading::with_pattern))]
     pub(crate) fn end_pattern(&mut self) -> Result<bool, AllocError>
         ensures none { IfOk result (λ done. done ≡ is_some (spec.with_pattern self.old)) }
         ensures done { (d : spec.Draft) → spec.with_pattern self.old ≡ Some d → OnOk result (self.new ≡ d) }
     {
-        if self.pattern.is_empty() {
+        if self.pattern.is_empty() || self.spot.is_number() {
             return Ok(false);
         }
         let pieces = pieces(self.alloc, &self.pattern)?;
         self.patterns.push(Pattern::new(pieces))?;
         self.pattern.clear();
+        self.spot = Spot::Front;
         Ok(true)
     }
 
@@ -137,7 +142,7 @@ impl Draft {
     /// Takes the step out of the draft. Where `without` was read, the patterns behind it are the moment that must not come before the first.
     fn take_step(&mut self) -> Step
         ensures is { result ≡ spec.step_of self.old.moment self.old.patterns }
-        ensures rest { self.new ≡ spec.without_step self.old }
+        ensures rest { self.new ≡ record self.old { moment = None; patterns = [] } }
     {
         let last = Moment::new(mem::replace(&mut self.patterns, Vec::new(self.alloc)));
         match self.moment.take() {
@@ -205,13 +210,26 @@ impl Draft {
             times => {
                 self.times = times;
                 self.pattern.clear();
+                self.spot = Spot::Front;
                 true
             }
         }
     }
 
+    /// Puts a word at the end of the pattern, with a blank on each side. The error is want of memory.
+    fn push_word(&mut self, word: &[u8]) -> Result<(), AllocError>
+        ensures { OnOk result (self.new ≡ record self.old { pattern = spec.longer self.old.pattern word.now }) }
+    {
+        if self.pattern.is_empty() {
+            self.pattern.push(b' ')?;
+        }
+        self.pattern.extend_from_slice(word)?;
+        self.pattern.push(b' ')?;
+        Ok(())
+    }
+
     /// Puts a word at the end of the pattern. The fault is `UnknownName` where a run of it is not fine, else `TooLong` where the pattern would
-    /// have more than 1,024 bytes. The error is want of memory.
+    /// have more than 1,024 bytes, else `NoLine` where it can stand behind those before it in no line. The error is want of memory.
     #[tactic(auto, unfolding(crate::specs::Reading::with_word))]
     fn add_word(&mut self, names: &Names, word: &[u8]) -> Result<Option<QuestionFault>, AllocError>
         ensures told { IfOk result (λ fault. fault ≡ spec.fault_of (spec.with_word names.now self.old word.now)) }
@@ -224,12 +242,14 @@ impl Draft {
         if MOST_PATTERN < self.pattern.len() + word.len() + blanks {
             return Ok(Some(QuestionFault::TooLong));
         }
-        if self.pattern.is_empty() {
-            self.pattern.push(b' ')?;
+        match self.spot.step(spot_of(names, word)) {
+            None => Ok(Some(QuestionFault::NoLine)),
+            Some(spot) => {
+                self.spot = spot;
+                self.push_word(word)?;
+                Ok(None)
+            }
         }
-        self.pattern.extend_from_slice(word)?;
-        self.pattern.push(b' ')?;
-        Ok(None)
     }
 
     /// Ends the step. The fault is `BadForm` where its last pattern has no word yet, and `TooLong` where there are more than 255 steps then.

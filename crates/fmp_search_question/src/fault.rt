@@ -11,6 +11,8 @@ pub enum QuestionFault {
     UnknownName,
     /// More than 255 steps, or a pattern of more than 1,024 bytes.
     TooLong,
+    /// A word that can stand behind those before it in no line of any event.
+    NoLine,
 }
 
 /// Why a question was not read.

@@ -5,11 +5,13 @@
 
 mod draft;
 mod fault;
+mod forms;
 mod lasting;
 mod matching;
 mod parts;
 mod question;
 mod reading;
+mod spot;
 mod stage;
 mod words;
 

@@ -62,7 +62,7 @@ pub(crate) fn is_printed(word: &[u8]) -> bool
 }
 
 /// Whether a run is `P` and the number of a processor of the configuration, in one digit from 1.
-fn is_processor(names: &Names, run: &[u8]) -> bool
+pub(crate) fn is_processor(names: &Names, run: &[u8]) -> bool
     ensures { result ≡ spec.is_processor names.now.processors run.now }
 {
     match run {
@@ -72,14 +72,14 @@ fn is_processor(names: &Names, run: &[u8]) -> bool
 }
 
 /// Whether a run is the name of a code, such as `E_OK`.
-fn is_code(run: &[u8]) -> bool
+pub(crate) fn is_code(run: &[u8]) -> bool
     ensures { result ≡ list_any (λ c. bytes_eq (name_of c) run.now) all_codes }
 {
     Code::ALL.iter().any(|code| code.name().as_bytes() == run)
 }
 
 /// Whether a run is one of these words, byte for byte.
-fn has_word(words: &[&[u8]], run: &[u8]) -> bool
+pub(crate) fn has_word(words: &[&[u8]], run: &[u8]) -> bool
     ensures { result ≡ list_any (λ w. bytes_eq w.now run.now) words.now }
 {
     words.iter().any(|word| *word == run)
@@ -115,7 +115,7 @@ fn begins_with_digit(run: &[u8]) -> bool
 }
 
 /// Whether some byte of a run is a star.
-fn has_star(run: &[u8]) -> bool
+pub(crate) fn has_star(run: &[u8]) -> bool
     ensures { result ≡ list_any (λ b. b == spec.star) run.now }
 {
     run.iter().any(|b| *b == b'*')

@@ -1,0 +1,37 @@
+-- What is told of a word of a question that no line has behind the words before it.
+use Rattle.std.specs.Prelude.{ℕ, Bool, true, false, List, [], ◌∷◌, ◌++◌, Option, Some, None, is_some, map, if◌then◌else◌, codes}
+use Rattle.fmp_bytes.specs.Bytes.{comma, cut_at}
+use Rattle.fmp_calls.specs.Table.{named}
+use Rattle.fmp_cli_hints.specs.Rows.{told_of}
+use Rattle.fmp_cli_hints_question.specs.declared.rows.TheConstants.{LINE_ROWS}
+
+-- what is told of the name of a call without its arguments
+unfoldable pub call_words : List ℕ → List ℕ
+call_words word = codes "  A call has its arguments behind it: write `" ++ word ++ codes "(*)`.\n"
+
+unfoldable pub comma_words : List ℕ
+comma_words = codes "  A blank stands behind each comma, as in `snd_dtq(D1, 1)`.\n"
+
+unfoldable pub star_words : List ℕ
+star_words = codes "  `*` stands for the words between, as in `P1 * tick taken`.\n"
+
+-- a comma stands before other bytes
+abbrev pub goes_on : Option (List ℕ) → Bool
+goes_on None = false
+goes_on (Some []) = false
+goes_on (Some (b ∷ bytes)) = true
+
+abbrev pub is_joined : List ℕ → Bool
+is_joined word = goes_on (cut_at comma word).1
+
+-- what is told of any word
+unfoldable pub form_hint : List ℕ → List ℕ
+form_hint word = if is_some (named word) then call_words word else (if is_joined word then comma_words else star_words)
+
+abbrev pub row_or_form : List ℕ → List ℕ → List ℕ
+row_or_form word [] = form_hint word
+row_or_form word (b ∷ row) = b ∷ row
+
+-- a row of the table, or else what its form tells
+unfoldable pub line_hint : List ℕ → List ℕ
+line_hint word = row_or_form word (told_of (map (λ row. (row.0.now, row.1.now)) LINE_ROWS) word)

@@ -1,0 +1,77 @@
+//! What is told of a word of a question that no line has behind the words before it.
+ghost use Rattle.std.specs.Prelude.{◌≡◌, ◌++◌, OnOk};
+ghost use Rattle.fmp_cli_hints_question.specs.Lines as spec;
+
+use crate::rows::LINE_ROWS;
+use fmp_bytes::cut;
+use fmp_calls::find_call;
+use fmp_cli_hints::told_of;
+use std::alloc::AllocError;
+
+/// Adds what is told of the name of a call without its arguments.
+#[tactic(auto, unfolding(crate::specs::Lines::call_words))]
+fn put_call_words(out: &mut Vec<u8>, word: &[u8]) -> Result<(), AllocError>
+    ensures { OnOk result (out.new.items ≡ out.old.items ++ spec.call_words word.now) }
+{
+    out.extend_from_slice(b"  A call has its arguments behind it: write `")?;
+    out.extend_from_slice(word)?;
+    out.extend_from_slice(b"(*)`.\n")
+}
+
+/// What is told of a word with a comma before other bytes.
+#[tactic(auto, unfolding(crate::specs::Lines::comma_words))]
+fn comma_words() -> &'static [u8]
+    ensures { result.now ≡ spec.comma_words }
+{
+    b"  A blank stands behind each comma, as in `snd_dtq(D1, 1)`.\n"
+}
+
+/// What is told of any word.
+#[tactic(auto, unfolding(crate::specs::Lines::star_words))]
+fn star_words() -> &'static [u8]
+    ensures { result.now ≡ spec.star_words }
+{
+    b"  `*` stands for the words between, as in `P1 * tick taken`.\n"
+}
+
+/// Whether a comma of a word stands before other bytes.
+fn is_joined(word: &[u8]) -> bool
+    ensures { result ≡ spec.is_joined word.now }
+{
+    match cut(b',', word).1 {
+        None | Some([]) => false,
+        Some([_, ..]) => true,
+    }
+}
+
+/// Adds what the form of a word tells.
+#[tactic(auto, unfolding(crate::specs::Lines::form_hint))]
+fn put_form_hint(out: &mut Vec<u8>, word: &[u8]) -> Result<(), AllocError>
+    ensures { OnOk result (out.new.items ≡ out.old.items ++ spec.form_hint word.now) }
+{
+    if find_call(word).is_some() {
+        put_call_words(out, word)
+    } else if is_joined(word) {
+        out.extend_from_slice(comma_words())
+    } else {
+        out.extend_from_slice(star_words())
+    }
+}
+
+/// Adds a row of the table, or without one what the form of the word tells.
+fn put_row_or_form(out: &mut Vec<u8>, word: &[u8], row: &[u8]) -> Result<(), AllocError>
+    ensures { OnOk result (out.new.items ≡ out.old.items ++ spec.row_or_form word.now row.now) }
+{
+    match row {
+        [] => put_form_hint(out, word),
+        [_, ..] => out.extend_from_slice(row),
+    }
+}
+
+/// Adds what is told of a word that no line has behind the words before it.
+#[tactic(auto, unfolding(crate::specs::Lines::line_hint))]
+pub(crate) fn put_line_hint(out: &mut Vec<u8>, word: &[u8]) -> Result<(), AllocError>
+    ensures { OnOk result (out.new.items ≡ out.old.items ++ spec.line_hint word.now) }
+{
+    put_row_or_form(out, word, told_of(&LINE_ROWS, word))
+}
