@@ -26,6 +26,7 @@ searches() {
     takes_each_word
     questions_of_the_pages
     tells_how_far
+    ends_in_time
     # no room for a table of a hundred million places
     memory=400000 run 4 /dev/null "$(as_file echo fmpsim: want of memory)" \
         explore "$folder/machine.cfg" "$folder/scripts.txt" --ticks 0 --turns 100 --find E_PAR --places 100000000
@@ -228,8 +229,8 @@ strays() {
 # Each word of a trace and of a state may stand in a question.
 takes_each_word() {
     local word
-    for word in tick ipi wait spin gone idle held taken none rel lost run ready due locked disabled latch suspended waits slp dly sem flg sdtq rdtq \
-        mpf left stopped pri act wup count pattern values free end TSK_SELF TWF_ANDW TWF_ORW; do
+    for word in tick ipi wait spin gone idle held taken none 'rel=*' 'lost=*' 'run=*' 'ready=*' 'due=*' locked disabled latch suspended waits slp dly sem flg \
+        sdtq rdtq mpf 'left=*' stopped 'pri=*' 'act=*' 'wup=*' 'count=*' 'pattern=*' 'values=*' 'free=*' 'held=*' end '*(TSK_SELF*' '*TWF_ANDW*' '*TWF_ORW*'; do
         play explore "$spin/machine.cfg" "$spin/scripts.txt" --ticks 0 --turns 2 --find "$word"
         case $? in
             0 | 5 | 6) [ ! -s errors ] && count yes explore --find "$word" || count no explore --find "$word" ;;
@@ -238,17 +239,22 @@ takes_each_word() {
     done
 }
 
-# questions_of_the_pages: each question that the help, README and GUIDE show is one, on a machine that has the names in it; and on one that has them not,
-# one with a name is none.
+# named STATEMENT: a machine that has the names of the pages, with this statement for LOG
+named() {
+    local name
+    printf '%s\n' 'PROCESSORS(2);' 'DEF_CLASS(ONE, 1, {1});' 'DEF_CLASS(TWO, 2, {2});' 'CLASS(ONE) {'
+    for name in A B C T T1 T2 COMM LOGGER SERVER WORKER; do
+        echo "CRE_TSK($name, {TA_NULL, 0, main, 10, 4096, NULL});"
+    done
+    printf '%s\n' "$1" 'CRE_SEM(BUS, {TA_NULL, 1, 1});' 'CRE_ALM(ALARM, {TA_NULL, 0, alarm});' 'CRE_SPN(L1, {TA_NULL});' '}'
+}
+
+# questions_of_the_pages: each question that the help, README and GUIDE show is one, on a machine that has the names in it, where LOG is a task or a data
+# queue; and on one that has them not, one with a name is none.
 questions_of_the_pages() {
-    local question well name
-    {
-        printf '%s\n' 'PROCESSORS(2);' 'DEF_CLASS(ONE, 1, {1});' 'DEF_CLASS(TWO, 2, {2});' 'CLASS(ONE) {'
-        for name in A B C T T1 T2 COMM LOG LOGGER SERVER WORKER; do
-            echo "CRE_TSK($name, {TA_NULL, 0, main, 10, 4096, NULL});"
-        done
-        printf '%s\n' 'CRE_SEM(BUS, {TA_NULL, 1, 1});' 'CRE_ALM(ALARM, {TA_NULL, 0, alarm});' 'CRE_SPN(L1, {TA_NULL});' '}'
-    } > named.cfg
+    local question well machine
+    named 'CRE_TSK(LOG, {TA_NULL, 0, main, 10, 4096, NULL});' > named.cfg
+    named 'CRE_DTQ(LOG, {TA_NULL, 1, NULL});' > queue.cfg
     printf 'script main\nend\n' > main.txt
     play explore --help && cp output help.txt
     {
@@ -261,8 +267,10 @@ questions_of_the_pages() {
     count "$well" explore '# questions in the pages'
     while IFS= read -r question; do
         well=no
-        play explore named.cfg main.txt --ticks any --turns 3 --find "$question"
-        case $? in 0 | 5 | 6) well=yes ;; esac
+        for machine in named.cfg queue.cfg; do
+            play explore "$machine" main.txt --ticks any --turns 3 --find "$question"
+            case $? in 0 | 5 | 6) well=yes ;; esac
+        done
         count "$well" explore named.cfg main.txt --ticks any --turns 3 --find "$question"
     done < questions.txt
     run 1 /dev/null "$(as_file echo 'fmpsim: --find: byte 1: E3 unknown name')" explore named.cfg main.txt --ticks any --turns 3 --find 'T9 waits sem'
@@ -305,4 +313,42 @@ tells_how_far() {
     timeout --preserve-status -s INT 3 "$program" "${words[@]}" --progress < /dev/null > output 2> errors
     are_counting 's/^fmpsim: at seed ([0-9]+), ([0-9]+) s$/\1 \2/' && well=yes
     count "$well" "${words[@]}" --progress '# on a pipe'
+}
+
+# A search that ends after two seconds, and not before, says so of the lines that it has gone through, and leaves nothing to go on from. One that is done before says what it says
+# without --seconds.
+ends_in_time() {
+    local folder=$top/examples/explore-philosophers words begun well lines option
+    words=(explore "$folder/machine.cfg" "$folder/scripts.txt" --ticks 900000 --turns 1000000 --places 20000000 --seconds 2)
+    for option in 'lost=*' 'end then P1 * tick taken'; do
+        well=no begun=$SECONDS
+        : > output
+        play "${words[@]}" --find "$option"
+        [ $? = 6 ] && lines=$(sed -n 's/^not within \([0-9]*\)$/\1/p' output) && [ "$(wc -l < output)" = 1 ] && [ "${lines:-1000000}" -lt 1000000 ] \
+            && [ ! -s errors ] && [ $((SECONDS - begun)) -ge 1 ] && [ $((SECONDS - begun)) -lt 60 ] && well=yes
+        count "$well" "${words[@]}" --find "$option"
+    done
+    # of what stays for ever, from a trace, and with a folder for the traces to go on from, of which there are none then
+    well=no
+    play explore "$folder/machine.cfg" "$folder/scripts.txt" --ticks any --drift 1000000 --turns 1000000 --places 20000000 --seconds 2
+    [ $? = 6 ] && grep -qx 'not within [0-9]*' output && well=yes
+    count "$well" explore --seconds 2 '# of what stays for ever'
+    : > begun.trace
+    well=no
+    play "${words[@]}" --find 'lost=*' --from begun.trace
+    [ $? = 6 ] && grep -qx 'not within [0-9]*' output && well=yes
+    count "$well" explore --seconds 2 --from begun.trace
+    well=no
+    play "${words[@]}" --find 'lost=*' --layer ended
+    [ $? = 6 ] && [ -d ended ] && [ -z "$(ls ended)" ] && well=yes
+    count "$well" explore --seconds 2 --layer ended
+    folder=$top/examples/explore-lock-order
+    run 5 "$folder/trace.txt" /dev/null explore "$folder/machine.cfg" "$folder/scripts.txt" --ticks 0 --turns 4 --find 'end & waits sem' --seconds 1000000
+    run 0 "$(as_file echo never)" /dev/null explore "$folder/machine.cfg" "$folder/scripts.txt" --ticks 0 --turns 100 --find E_PAR --seconds 1000
+    for option in 0 1000001 x ''; do
+        well=no
+        play explore "$folder/machine.cfg" "$folder/scripts.txt" --ticks 0 --turns 4 --find E_PAR --seconds "$option"
+        [ $? = 2 ] && grep -q -- '--turns, --drift and --seconds are numbers from 1 to 1000000' errors && well=yes
+        count "$well" explore --seconds "$option"
+    done
 }

@@ -1,4 +1,5 @@
-# The numbers of `smp`: a seed of 64 bits gives its documented order, and all ticks and scripts that are asked for are played.
+# The numbers of `smp`: a seed of 64 bits gives its documented order, and all ticks and scripts that are asked for are played; with --late and --stalls
+# it draws its documented one of all orders, and --seconds ends a search.
 
 seeds() {
     local seed task rest
@@ -30,6 +31,8 @@ seeds() {
     run 0 trace.txt /dev/null smp many.cfg many.txt --ticks 0 --turns 200
     seeds_in_a_row
     seeds_that_show
+    seeds_that_draw
+    seeds_in_time
 }
 
 # Many seeds one after the other. T1 and T2 take two semaphores, each the other one first, T2 after six other calls. They wait for each
@@ -132,4 +135,62 @@ seeds_that_show() {
     run 2 /dev/null "$(as_file echo 'fmpsim: --find: wanted --seeds too, as in --seeds 0..999')" "${words[@]}" 25 --find end
     run 2 /dev/null "$(as_file echo 'fmpsim: --find: wanted --seeds too, as in --seeds 0..999')" "${words[@]}" 25 --seed 3 --find end
     unwritten "${words[@]}" 25 --seeds 0..99 --find "$late"
+}
+
+# Seeds that draw one of all orders, by another program. Of sixty lines the last one is the first at which there were sixty events.
+seeds_that_draw() {
+    local words=(smp late.cfg late.txt --ticks 7 --turns) seed option options question sixty='60 times *'
+    printf 'PROCESSORS(2);\nDEF_CLASS(C1, 1, {1});\nDEF_CLASS(C2, 2, {2});\n' > late.cfg
+    printf 'CLASS(C1) { CRE_TSK(T1, {TA_ACT, 0, one, 5, 4096, NULL}); }\n' >> late.cfg
+    printf 'CLASS(C2) { CRE_TSK(T2, {TA_ACT, 0, two, 5, 4096, NULL}); CRE_TSK(T3, {TA_NULL, 0, three, 1, 4096, NULL}); }\n' >> late.cfg
+    { printf 'script one\nact_tsk(T3)\nend\nscript three\nend\nscript two\n' && yes 'get_pid()' | head -n 200 && echo end; } > late.txt
+    for seed in 0 1 2 3 77 4294967295 18446744073709551615; do
+        for options in late stalls 'late stalls'; do
+            read -ra option <<< "$options"
+            python3 "$top/tests/program/drawn.py" "$seed" 7 60 "${option[@]}" > drawn.txt
+            run 5 drawn.txt "$(as_file echo "fmpsim: seed $seed, line 60")" "${words[@]}" 60 --seeds "$seed..$seed" "${option[@]/#/--}" --find "$sixty"
+            # one line less is allowed, and then the question is not shown
+            run 0 /dev/null /dev/null "${words[@]}" 59 --seeds "$seed..$seed" "${option[@]/#/--}" --find "$sixty"
+        done
+    done
+    # the first seed in whose order T2 makes a call while the request is pending, which no order without --late has
+    question='get_pid() E_OK:2 run=T3'
+    for seed in {0..99}; do
+        python3 "$top/tests/program/drawn.py" "$seed" 7 60 late > drawn.txt
+        ! grep -q 'get_pid() E_OK:2 run=T3' drawn.txt || break
+    done
+    option=$(grep -n 'get_pid() E_OK:2 run=T3' drawn.txt)
+    run 5 "$(as_file head -n "${option%%:*}" drawn.txt)" "$(as_file echo "fmpsim: seed $seed, line ${option%%:*}")" "${words[@]}" 60 --late --seeds 0..99 --find "$question"
+    run 0 /dev/null /dev/null "${words[@]}" 60 --stalls --seeds 0..99 --find "$question"
+    run 0 /dev/null /dev/null "${words[@]}" 60 --seeds 0..99 --find "$question"
+    # without a question: the two tasks that wait for each other, in an order that ends there
+    play smp dead.cfg dead.txt --ticks 0 --turns 25 --seeds 0..999 --late --stalls
+    cp output drawn.trace
+    head -n 1 errors > drawn.seed
+    run 0 "$(as_file echo yes)" /dev/null check dead.cfg drawn.trace
+    run 7 drawn.trace "$(as_file cat drawn.seed dead.waits)" smp dead.cfg dead.txt --ticks 0 --turns 25 --seeds 0..999 --late --stalls
+    run 0 /dev/null /dev/null smp idle.cfg none.txt --ticks 1 --turns 2 --seeds 0..9 --late
+    for option in --late --stalls '--seconds 3'; do
+        read -ra options <<< "$option"
+        run 2 /dev/null "$(as_file echo "fmpsim: ${option%% *}: wanted --seeds too, as in --seeds 0..999")" "${words[@]}" 60 "${options[@]}"
+        run 2 /dev/null "$(as_file echo "fmpsim: ${option%% *}: wanted --seeds too, as in --seeds 0..999")" "${words[@]}" 60 --seed 3 "${options[@]}"
+    done
+    unwritten "${words[@]}" 60 --seeds 0..99 --late --find "$question"
+}
+
+# A search that ends after a second: at least one seed was played, nothing is written, and the last one is told. One that is done before says what it says
+# without --seconds.
+seeds_in_time() {
+    local words=(smp dead.cfg dead.txt --ticks 0 --turns 25 --seeds) last ended well=no
+    : > output
+    play smp wait.cfg wait.txt --ticks 3 --turns 25 --seeds 0..18446744073709551615 --find E_CTX --seconds 1
+    ended=$?
+    last=$(sed -n 's/^fmpsim: ended by --seconds after seed \([0-9]*\)$/\1/p' errors)
+    [ "$ended" = 6 ] && [ ! -s output ] && [ "$(wc -l < errors)" = 1 ] && [ "${last:-0}" -gt 10 ] && well=yes
+    count "$well" smp --seeds --seconds 1
+    run 6 /dev/null "$(as_file echo 'fmpsim: ended by --seconds after seed 22')" "${words[@]}" 22..72 --seconds 0
+    run 0 /dev/null /dev/null "${words[@]}" 22..22 --seconds 0
+    run 7 dead.trace dead.errors "${words[@]}" 21..99 --seconds 0
+    run 7 dead.trace dead.errors "${words[@]}" 0..99 --seconds 1000
+    run 0 /dev/null /dev/null "${words[@]}" 0..20 --seconds 1000
 }

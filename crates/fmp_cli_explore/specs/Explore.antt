@@ -1,5 +1,5 @@
 -- The command line of a search through all orders, and what it gives.
-use Rattle.std.specs.Prelude.{◌≡◌, ◌≤◌, ℕ, Bool, ◌&&◌, ◌||◌, is_some, List, [], ◌∷◌, Option, Some, None, codes, option_map}
+use Rattle.std.specs.Prelude.{◌≡◌, ◌≤◌, ℕ, Bool, ◌&&◌, ◌||◌, is_some, List, [], ◌∷◌, Option, Some, None, codes, option_map, if◌then◌else◌}
 use Rattle.std.specs.Option.{SomeIff}
 use Rattle.std.specs.Str.Parse.{IsNumeral, without_leading_plus}
 use Rattle.clap.specs.Words.{App, Row, Text, first_of, matches_of, one_of}
@@ -14,6 +14,7 @@ abbrev pub explore_line : App
 explore_line = line_of (codes "explore") (
     path_rule (codes "CFG") ∷ path_rule (codes "SCRIPTS") ∷ wanted_rule (codes "ticks") ∷ wanted_rule (codes "turns") ∷ value_rule (codes "find")
     ∷ flag_rule (codes "prompt") ∷ value_rule (codes "drift") ∷ value_rule (codes "places") ∷ value_rule (codes "from") ∷ value_rule (codes "layer")
+    ∷ value_rule (codes "seconds") ∷ value_rule (codes "questions") ∷ flag_rule (codes "tap") ∷ value_rule (codes "junit") ∷ value_rule (codes "traces")
     ∷ flag_rule (codes "progress") ∷ flag_rule (codes "context") ∷ [])
 
 -- what clap finds in the words of that command line, by the ids of the arguments
@@ -31,9 +32,9 @@ IsTicks t None = t ≡ codes "any"
 IsTicks t (Some n) = IsNumberWithin 0 1000000 t (Some n)
 
 -- no limit without a text, or its number
-abbrev pub IsDrift : Option Text → Option ℕ → Type 0
-IsDrift None n = n ≡ None
-IsDrift (Some t) n = (k : ℕ) × (n ≡ Some k) × IsNumberWithin 1 1000000 t (Some k)
+abbrev pub IsBound : Option Text → Option ℕ → Type 0
+IsBound None n = n ≡ None
+IsBound (Some t) n = (k : ℕ) × (n ≡ Some k) × IsNumberWithin 1 1000000 t (Some k)
 
 -- 1,000,000 without a text, or its number
 abbrev pub IsPlaces : Option Text → ℕ → Type 0
@@ -50,17 +51,31 @@ pub record Asks (rows : List Row) (r : ExploreRequest) : Type 0 where
   pub config : r.config.now ≡ text_of (codes "CFG") rows
   pub scripts : r.scripts.now ≡ text_of (codes "SCRIPTS") rows
   pub question : IsQuestion (first_of (codes "find") rows) r.question.now
+  pub find : option_map (λ t. t.now) r.find ≡ first_of (codes "find") rows
   pub ticks : IsTicks (text_of (codes "ticks") rows) r.ticks
   pub prompt : IsFlag (one_of (codes "prompt") rows) r.prompt
-  pub drift : IsDrift (first_of (codes "drift") rows) r.drift
+  pub drift : IsBound (first_of (codes "drift") rows) r.drift
   pub turns : IsNumberWithin 1 1000000 (text_of (codes "turns") rows) (Some r.bounds.turns)
   pub places : IsPlaces (first_of (codes "places") rows) r.bounds.places
   pub from : option_map (λ t. t.now) r.from ≡ first_of (codes "from") rows
   pub layer : option_map (λ t. t.now) r.layer ≡ first_of (codes "layer") rows
+  pub seconds : IsBound (first_of (codes "seconds") rows) r.seconds
+  pub questions : option_map (λ t. t.now) r.questions ≡ first_of (codes "questions") rows
+  pub tap : IsFlag (one_of (codes "tap") rows) r.tap
+  pub junit : option_map (λ t. t.now) r.junit ≡ first_of (codes "junit") rows
+  pub traces : option_map (λ t. t.now) r.traces ≡ first_of (codes "traces") rows
   pub progress : IsFlag (one_of (codes "progress") rows) r.progress
   pub context : IsFlag (one_of (codes "context") rows) r.context
 
--- parts of a request that do not go together: traces to go on from are left of a search from boot alone, and what stays for ever is asked of all orders,
--- which no number of ticks ends
+-- parts of a request with one question that do not go together: there are no answers of many to tell, traces to go on from are left of a search from
+-- boot alone, and what stays for ever is asked of all orders, which no number of ticks ends
+abbrev pub has_conflict_of_one : ExploreRequest → Bool
+has_conflict_of_one r =
+    (r.tap || (is_some r.junit || is_some r.traces))
+    || ((is_some r.from && is_some r.layer) || (is_lasting r.question.now && (is_some r.ticks || (is_some r.from || is_some r.layer))))
+
+-- and of any request: many questions are those of their text, and each is asked of all orders
 abbrev pub has_conflict : ExploreRequest → Bool
-has_conflict r = (is_some r.from && is_some r.layer) || (is_lasting r.question.now && (is_some r.ticks || (is_some r.from || is_some r.layer)))
+has_conflict r =
+    if is_some r.questions then (is_some r.find || (is_some r.from || is_some r.layer))
+    else has_conflict_of_one r

@@ -8,12 +8,12 @@
 ghost use Rattle.std.specs.Prelude.{◌≡◌, false, IfOk, IfSome, Some, codes, is_some, map};
 ghost use Rattle.clap.specs.Words.{app_of, first_of};
 ghost use Rattle.fmp_cli_table.specs.Found.{rows_in, text_of};
-ghost use Rattle.fmp_cli_explore.specs.Explore.{Asks, IsNumberWithin, IsPlaces, explore_line, found_in, has_conflict};
+ghost use Rattle.fmp_cli_explore.specs.Explore.{Asks, IsNumberWithin, IsPlaces, explore_line, found_in, has_conflict, has_conflict_of_one};
 
 mod bounds;
 mod numbers;
 
-use crate::numbers::{drift_in, number_in, places_in, question_in, ticks_in};
+use crate::numbers::{bound_in, number_in, places_in, question_in, ticks_in};
 pub use bounds::Bounds;
 use clap::error::ErrorKind;
 use clap::{ArgMatches, Command, Error};
@@ -66,23 +66,36 @@ goes on from one of them does, by no more lines: so several machines may search,
 of them, and where all say `never`, no order does.
 
 On standard output is the trace of a shortest order that shows it, `never`, or `not within N`: no
-order of at most N lines does.
+order of at most N lines does. With --seconds N the search ends after N seconds and says that.
+
+With `--questions FILE` each question of a text is searched for, one after the other. A line of it is
+`NAME never QUESTION` or `NAME shown QUESTION`, with the answer that is expected; `#` begins a line
+that says nothing. For each there is a line when its answer is known: `ok NAME: never`,
+`not ok NAME: shown in 12 lines`, `not known NAME: not within 30`. --seconds counts for all together.
+With --tap these lines are in the form of TAP. --junit FILE has all of them in one XML text, and
+--traces DIR the trace of each question that was shown, as DIR/NAME.trace.
 
 Exit status:
-  0  never
+  0  never; or each of --questions is ok
   1  a fault in a text, in the question or in TRACE, told on standard error with its place
   2  the command line is wrong
   3  a file could not be read, or the output not be written
   4  want of memory
-  5  an order shows it; its trace was written
-  6  not within so many lines: --turns or --places did not do for more";
+  5  an order shows it, and its trace was written; or one of --questions is not ok
+  6  not within so many lines: --turns, --places or --seconds did not do; or one is not known";
 
 const WRONG_NUMBER: &str =
-    "--ticks is `any` or a number from 0 to 1000000, --turns and --drift are numbers from 1 to 1000000, and --places is one from 1 to 100000000";
+    "--ticks is `any` or a number from 0 to 1000000, --turns, --drift and --seconds are numbers from 1 to 1000000, and --places is one from 1 to 100000000";
 
 const TWO_BEGINNINGS: &str = "--layer writes traces for --from, and does not go with it";
 
-const FEW_TICKS: &str =
+const ONE_QUESTION: &str =
+    "--questions has questions of its own, each of them about all orders: neither --find nor --from nor --layer goes with it";
+
+const NO_QUESTIONS: &str = "--tap, --junit and --traces go with --questions alone";
+
+/// What is told of a question of what stays for ever, where there is a number of ticks.
+pub const FEW_TICKS: &str =
     "what stays for ever, as where there is no --find, is asked with --ticks any: with a number all orders end where it is used up, and what waits there stays so";
 
 const PARTS_OF_ORDERS: &str =
@@ -138,6 +151,31 @@ const PARTS: &[Part<'static>] = &[
         form: Form::Value("DIR"),
         about: "Writes there the traces from which longer orders go on, one a file",
     },
+    Part {
+        id: "seconds",
+        form: Form::Value("N"),
+        about: "After how many seconds the search ends that has found nothing, 1 to 1000000",
+    },
+    Part {
+        id: "questions",
+        form: Form::Value("FILE"),
+        about: "Searches for each question of this text, or of standard input where it is -",
+    },
+    Part {
+        id: "tap",
+        form: Form::Flag,
+        about: "Tells the answers to questions in the form of TAP",
+    },
+    Part {
+        id: "junit",
+        form: Form::Value("FILE"),
+        about: "Writes there the answers to questions as XML for JUnit",
+    },
+    Part {
+        id: "traces",
+        form: Form::Value("DIR"),
+        about: "Writes there the trace of each question that is shown, as NAME.trace",
+    },
     PROGRESS_PART,
     CONTEXT_PART,
 ];
@@ -151,6 +189,8 @@ pub struct ExploreRequest<'a> {
     pub scripts: &'a str,
     /// What is looked for: `deadlock` where nothing is said.
     pub question: &'a str,
+    /// The same, where something is said.
+    pub find: Option<&'a str>,
     /// How many ticks each processor takes at most. Without it any number.
     pub ticks: Option<u32>,
     /// Whether a request that nothing holds back is taken before its processor's next call.
@@ -162,6 +202,16 @@ pub struct ExploreRequest<'a> {
     pub from: Option<&'a str>,
     /// The path of the folder for the traces from which to go on. Without it none are written.
     pub layer: Option<&'a str>,
+    /// After how many seconds the search ends. Without it none is too long.
+    pub seconds: Option<u32>,
+    /// The path of a text with many questions. Without it there is one.
+    pub questions: Option<&'a str>,
+    /// Whether their answers are told in the form of TAP.
+    pub tap: bool,
+    /// The path of the XML text with their answers. Without it none is written.
+    pub junit: Option<&'a str>,
+    /// The path of the folder for their traces. Without it none are written.
+    pub traces: Option<&'a str>,
     /// Whether it is told how far the search has come, where standard error is no terminal, too.
     pub progress: bool,
     /// Whether what stands beside a fault is to be shown.
@@ -191,34 +241,49 @@ fn request_of<'a>(matches: &ArgMatches<'a>) -> Option<ExploreRequest<'a>>
 {
     let config = text_in(matches, "CFG");
     let scripts = text_in(matches, "SCRIPTS");
-    let question = question_in(option_in(matches, "find"));
+    let find = option_in(matches, "find");
+    let question = question_in(find);
     let ticks = ticks_in(text_in(matches, "ticks"))?;
     let prompt = flag_in(matches, "prompt");
-    let drift = drift_in(option_in(matches, "drift"))?;
+    let drift = bound_in(option_in(matches, "drift"))?;
     let bounds = bounds_of(matches)?;
     let from = option_in(matches, "from");
     let layer = option_in(matches, "layer");
+    let seconds = bound_in(option_in(matches, "seconds"))?;
+    let questions = option_in(matches, "questions");
+    let tap = flag_in(matches, "tap");
+    let junit = option_in(matches, "junit");
+    let traces = option_in(matches, "traces");
     let progress = flag_in(matches, "progress");
     let context = flag_in(matches, "context");
     Some(ExploreRequest {
         config,
         scripts,
         question,
+        find,
         ticks,
         prompt,
         drift,
         bounds,
         from,
         layer,
+        seconds,
+        questions,
+        tap,
+        junit,
+        traces,
         progress,
         context,
     })
 }
 
-/// Why two parts of a request do not go together, if they do not.
-fn conflict_in(request: &ExploreRequest<'_>) -> Option<&'static str>
-    ensures { is_some result ≡ has_conflict request.now }
+/// Why two parts of a request with one question do not go together, if they do not.
+fn conflict_of_one(request: &ExploreRequest<'_>) -> Option<&'static str>
+    ensures { is_some result ≡ has_conflict_of_one request.now }
 {
+    if request.tap || request.junit.is_some() || request.traces.is_some() {
+        return Some(NO_QUESTIONS);
+    }
     if request.from.is_some() && request.layer.is_some() {
         return Some(TWO_BEGINNINGS);
     }
@@ -230,6 +295,19 @@ fn conflict_in(request: &ExploreRequest<'_>) -> Option<&'static str>
     }
     if request.from.is_some() || request.layer.is_some() {
         return Some(PARTS_OF_ORDERS);
+    }
+    None
+}
+
+/// Why two parts of a request do not go together, if they do not.
+fn conflict_in(request: &ExploreRequest<'_>) -> Option<&'static str>
+    ensures { is_some result ≡ has_conflict request.now }
+{
+    if request.questions.is_none() {
+        return conflict_of_one(request);
+    }
+    if request.find.is_some() || request.from.is_some() || request.layer.is_some() {
+        return Some(ONE_QUESTION);
     }
     None
 }

@@ -1,6 +1,6 @@
 //! The numbers and the question of the command line, by their texts.
 ghost use Rattle.std.specs.Prelude.{◌≡◌, ◌≤◌, codes, None, IfSome, option_map};
-ghost use Rattle.fmp_cli_explore.specs.Explore.{IsNumberWithin, IsTicks, IsDrift, IsPlaces, IsQuestion};
+ghost use Rattle.fmp_cli_explore.specs.Explore.{IsNumberWithin, IsTicks, IsBound, IsPlaces, IsQuestion};
 
 /// The number from low to high that a text writes, if it is one.
 pub(crate) fn number_in(text: &str, low: u32, high: u32) -> Option<u32>
@@ -22,9 +22,9 @@ pub(crate) fn ticks_in(text: &str) -> Option<Option<u32>>
     Some(Some(number_in(text, 0, 1_000_000)?))
 }
 
-/// How many ticks more than another a processor may have taken. Without a text there is no limit.
-pub(crate) fn drift_in(text: Option<&str>) -> Option<Option<u32>>
-    ensures { IfSome result (IsDrift (option_map (λ t. t.now) text.entry)) }
+/// How many ticks more than another a processor may have taken, or how many seconds a search may take. Without a text there is no limit.
+pub(crate) fn bound_in(text: Option<&str>) -> Option<Option<u32>>
+    ensures { IfSome result (IsBound (option_map (λ t. t.now) text.entry)) }
 {
     match text {
         None => Some(None),

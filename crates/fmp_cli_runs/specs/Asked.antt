@@ -1,9 +1,13 @@
 -- What requests ask for.
-use Rattle.std.specs.Prelude.{ℕ, List, Option, None, Some}
+use Rattle.std.specs.Prelude.{ℕ, Bool, ◌||◌, List, Option, None, Some, option_map, if◌then◌else◌}
+use Rattle.std.specs.Borrow.{Bor}
 use Rattle.fmp_run_texts.specs.declared.fault.RunFault.{RunFault}
 use Rattle.fmp_run_texts.specs.Traces.{FirstTraceFault}
 use Rattle.fmp_search_orders.specs.declared.rules.Rules.{Rules}
 use Rattle.fmp_cli_explore.specs.declared.ExploreRequest.{ExploreRequest}
+use Rattle.fmp_cli_table.specs.declared.SmpRequest.{SmpRequest}
+use Rattle.fmp_run_seeds.specs.declared.orders.SeedOrder.TheVariants.{Drawn, InTurn}
+use Rattle.fmp_run_seeds.specs.declared.orders.SeedRuns.{SeedRuns}
 use Rattle.fmp_run_view.specs.declared.run.PageKind.{PageKind}
 use Rattle.fmp_run_view.specs.declared.run.PageKind.TheVariants as kind
 use Rattle.fmp_cli.specs.declared.Asked.{Asked}
@@ -19,6 +23,18 @@ use Rattle.fmp_run_stream.specs.Runs.{Writing}
 -- which orders are gone through
 abbrev pub rules_of : ExploreRequest → Rules
 rules_of r = record { ticks = r.ticks; prompt = r.prompt; drift = r.drift }
+
+-- which runs seeds make: without `--late` and `--stalls` processors take turns
+abbrev pub runs_of : SmpRequest → SeedRuns
+runs_of r = record {
+  order = if r.late || r.stalls then Drawn (record { late = r.late; stalls = r.stalls }) else InTurn;
+  ticks = r.limits.ticks;
+  turns = r.limits.turns;
+}
+
+-- what is looked for in them, where that is a question
+abbrev pub question_of : SmpRequest → Option (List ℕ)
+question_of r = option_map (λ (text : Bor (List ℕ)). text.now) r.find
 
 -- what is written of each event
 abbrev pub detail_told : Told → Detail

@@ -1,6 +1,6 @@
 //! What the program does of what its command line asks for, over any devices: which run that is, and how it ends the program.
 //!
-//! [`answer`] is `fmpsim calls`, [`judge`] is `check`, `wave` and `view`, [`play`], [`seek`] and [`seek_shown`] are `smp`, [`search`],
+//! [`answer`] is `fmpsim calls`, [`judge`] is `check`, `wave` and `view`, [`play`] and [`seek`] are `smp`, [`search`],
 //! [`search_from`] and [`search_forever`] are `explore`, and [`shrink`] is `shrink`. Each contract says for each request what the run that it
 //! makes says, so that a request is not taken for another. The
 //! program opens files, calls one of them and prints its fault. Where a command line leaves nothing to choose it calls the run itself: `run_life`
@@ -17,6 +17,6 @@ mod traces;
 pub use events::answer;
 pub use forever::search_forever;
 pub use orders::{search, search_from};
-pub use scripts::{Played, play, seek, seek_shown};
+pub use scripts::{Played, play, seek};
 pub use shrinking::shrink;
 pub use traces::judge;

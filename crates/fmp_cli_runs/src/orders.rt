@@ -5,7 +5,7 @@ ghost use Rattle.fmp_run_devices.specs.Devices.{IsKnown, bytes_of};
 ghost use Rattle.fmp_run_texts.specs.Faults.{failed_write, is_thread_fault};
 ghost use Rattle.fmp_run_texts.specs.Texts.{CountsReads};
 ghost use Rattle.fmp_run_explore.specs.Explored as spec;
-ghost use Rattle.fmp_run_explore.specs.Explored.{IsBegun, IsExplored};
+ghost use Rattle.fmp_run_explore.specs.Explored.{IsBegun, IsEndedBy, IsExplored};
 ghost use Rattle.fmp_run_explore.specs.Faults as faults;
 ghost use Rattle.fmp_run_explore.specs.Left.{LeavesLayer};
 ghost use Rattle.fmp_run_explore.specs.declared.finding.Finding.{Finding as AnyFinding};
@@ -47,6 +47,7 @@ pub fn search<R: Source, S: Source, W: Sink, P: Progress>(
     // Both texts were read to their ends, and what is written says what is known of all orders by these rules. None of it is held back.
     ensures explored { IsKnown (R.left config.old) → IsKnown (S.left scripts.old) → IsKnown (W.written output.old)
         → IfOk result (λ o. IsExplored (bytes_of (R.left config.old)) (bytes_of (S.left scripts.old)) request.now.question.now (asked.rules_of request.now) request.now.bounds.turns (request.now.bounds.places - 1) (bytes_of (W.written output.old)) (bytes_of (W.written output.new)) o.finding) }
+    ensures ended { IfOk result (λ o. IsEndedBy (P.over progress.new) o.finding) }
     ensures layer { IsKnown (R.left config.old) → IsKnown (S.left scripts.old)
         → IfOk result (λ o. LeavesLayer (bytes_of (R.left config.old)) (bytes_of (S.left scripts.old)) request.now.question.now (asked.rules_of request.now) request.now.bounds.turns o.finding o.layer) }
     ensures known { IsKnown (W.written output.old) → IsKnown (W.written output.new) }
@@ -97,7 +98,7 @@ pub fn search_from<R: Source, S: Source, W: Sink, P: Progress>(
     // Both texts were read to their ends, and what is written says what is known of all orders by these rules that go on from the
     // trace. None of it is held back.
     ensures explored { IsKnown (R.left config.old) → IsKnown (S.left scripts.old) → IsKnown (W.written output.old)
-        → IfOk result (λ status. (finding : AnyFinding) × (status ≡ spec.status_of finding)
+        → IfOk result (λ status. (finding : AnyFinding) × (status ≡ spec.status_of finding) × IsEndedBy (P.over progress.new) finding
         × IsExploredFrom (bytes_of (R.left config.old)) (bytes_of (S.left scripts.old)) begun.now request.now.question.now (asked.rules_of request.now) request.now.bounds.turns (request.now.bounds.places - 1) (bytes_of (W.written output.old)) (bytes_of (W.written output.new)) finding) }
     ensures known { IsKnown (W.written output.old) → IsKnown (W.written output.new) }
     ensures passed { OnOk result (W.buffered output.new ≡ []) }

@@ -4,18 +4,19 @@ ghost use Rattle.fmp_run_devices.specs.Devices.{IsKnown, bytes_of};
 ghost use Rattle.fmp_run_texts.specs.Faults.{failed_write, is_thread_fault};
 ghost use Rattle.fmp_run_texts.specs.Texts.{CountsReads, FirstConfigFault, FirstScriptFault};
 ghost use Rattle.fmp_run_explore.specs.Faults as faults;
-ghost use Rattle.fmp_run_seeds.specs.Found as shown;
+ghost use Rattle.fmp_run_seeds.specs.Found as seeds;
+ghost use Rattle.fmp_run_seeds.specs.Found.{IsEndedBy, IsSought};
 ghost use Rattle.fmp_run_smp.specs.Scripted as spec;
 ghost use Rattle.fmp_run_smp.specs.Scripted.{IsPlayBegun, IsPlayedToEnd};
-ghost use Rattle.fmp_run_smp.specs.Sought.{IsSeekBegun, IsSought};
+ghost use Rattle.fmp_cli_runs.specs.Asked as asked;
 ghost use Rattle.fmp_world.specs.declared.finishing.Ended.{Ended as AnyEnded};
 
 use fmp_cli_table::SmpRequest;
 use fmp_run_devices::{Sink, Source};
 use fmp_run_events::{RunFault, Status};
 use fmp_run_explore::ExploreFault;
-use fmp_run_seeds::{SeedShown, run_seeds_find};
-use fmp_run_smp::{SeedFound, SeedProgress, run_scripts, run_seeds};
+use fmp_run_seeds::{Drawing, SeedOrder, SeedProgress, SeedRuns, SeedSearch, run_seeds};
+use fmp_run_smp::run_scripts;
 use fmp_smp::Open;
 use std::alloc::Global;
 use std::sync::Wait;
@@ -82,8 +83,28 @@ pub fn play<T: Threads + Wait + Sync, R: Source, S: Source, W: Sink>(
     }
 }
 
-/// Has processors follow scripts in the order of each seed from the first to the last, up to the first whose run ends quiet while a task
-/// waits, tells that one, and writes its trace.
+/// Which runs the seeds of a request make.
+fn runs_of(request: &SmpRequest<'_>) -> SeedRuns
+    ensures { result ≡ asked.runs_of request.now }
+{
+    let drawing = Drawing {
+        late: request.late,
+        stalls: request.stalls,
+    };
+    let order = if request.late || request.stalls {
+        SeedOrder::Drawn(drawing)
+    } else {
+        SeedOrder::InTurn
+    };
+    SeedRuns {
+        order,
+        ticks: request.limits.ticks,
+        turns: request.limits.turns,
+    }
+}
+
+/// Makes the run of each seed from the first to the last, up to the first that is looked for: that shows what the request asks, or else ends quiet
+/// while a task waits. Tells that one, and writes its trace up to there.
 pub fn seek<R: Source, S: Source, W: Sink, P: SeedProgress>(
     alloc: Global,
     config: &mut R,
@@ -93,64 +114,19 @@ pub fn seek<R: Source, S: Source, W: Sink, P: SeedProgress>(
     first: u64,
     last: u64,
     progress: &mut P,
-) -> Result<Option<SeedFound>, RunFault>
+) -> Result<SeedSearch, ExploreFault>
     requires config_calls { R.failures config.old < 2 ^ 64 - 1 }
     requires script_calls { S.failures scripts.old < 2 ^ 64 - 1 }
     requires trace_calls { W.failures trace.old < 2 ^ 64 - 1 }
 
-    // Both texts were read to their ends, and what is told is the first of these seeds whose run ends so, with the limits that were
-    // asked for, and what is written its trace; or there is none such, and nothing is written. None of it is held back.
+    // Both texts were read to their ends, and what is told is the first of these seeds whose run is looked for, by the orders and with the limits that
+    // were asked for, and the line where it is, and what is written its trace up to there; or there is none such, and nothing is written. None of it
+    // is held back.
     ensures sought { IsKnown (R.left config.old) → IsKnown (S.left scripts.old) → IsKnown (W.written trace.old)
-        → IfOk result (IsSought (bytes_of (R.left config.old)) (bytes_of (S.left scripts.old)) request.now.limits.ticks request.now.limits.turns first last (bytes_of (W.written trace.old)) (bytes_of (W.written trace.new))) }
-    ensures known { IsKnown (W.written trace.old) → IsKnown (W.written trace.new) }
-    ensures passed { OnOk result (W.buffered trace.new ≡ []) }
-    ensures config_read { IsKnown (R.left config.old) → OnOk result (bytes_of (R.left config.new) ≡ []) }
-    ensures scripts_read { IsKnown (S.left scripts.old) → OnOk result (bytes_of (S.left scripts.new) ≡ []) }
+        → IfOk result (IsSought (bytes_of (R.left config.old)) (bytes_of (S.left scripts.old)) (asked.question_of request.now) (asked.runs_of request.now) first last (bytes_of (W.written trace.old)) (bytes_of (W.written trace.new))) }
 
-    // A fault of a text is its first one.
-    ensures config_fault { IsKnown (R.left config.old) → IfErr result (FirstConfigFault (bytes_of (R.left config.old))) }
-    ensures text_fault { IsKnown (R.left config.old) → IsKnown (S.left scripts.old) → IfErr result (FirstScriptFault (bytes_of (R.left config.old)) (bytes_of (S.left scripts.old))) }
-
-    // After a failed write or flush a beginning of the trace is out, and after any other fault nothing is.
-    ensures write { IsKnown (R.left config.old) → IsKnown (S.left scripts.old) → IsKnown (W.written trace.old) → (result ≡ Err RunFault.Write)
-        → IsSeekBegun (bytes_of (R.left config.old)) (bytes_of (S.left scripts.old)) request.now.limits.ticks request.now.limits.turns first last (bytes_of (W.written trace.old)) (bytes_of (W.written trace.new)) }
-    ensures unwritten { IsKnown (W.written trace.old) → IfErr result (λ fault. fault ≢ RunFault.Write → bytes_of (W.written trace.new) ≡ bytes_of (W.written trace.old)) }
-
-    // No thread was started.
-    ensures no_thread_fault { IfErr result (λ fault. is_thread_fault fault ≡ false) }
-
-    // Which calls of the devices failed.
-    ensures reads { CountsReads result (R.failures config.old) (R.failures config.new) (S.failures scripts.old) (S.failures scripts.new) }
-    ensures writes { W.failures trace.new ≡ W.failures trace.old + (if failed_write result then 1 else 0) }
-{
-    let ticks = request.limits.ticks;
-    let turns = request.limits.turns;
-    run_seeds(
-        alloc, config, scripts, trace, ticks, turns, first, last, progress,
-    )
-}
-
-/// Has processors follow scripts in the order of each seed from the first to the last, up to the first whose run shows what a question
-/// asks, tells that one with the line that does, and writes its trace up to there.
-pub fn seek_shown<R: Source, S: Source, W: Sink, P: SeedProgress>(
-    alloc: Global,
-    config: &mut R,
-    scripts: &mut S,
-    trace: &mut W,
-    question: &[u8],
-    request: &SmpRequest<'_>,
-    first: u64,
-    last: u64,
-    progress: &mut P,
-) -> Result<Option<SeedShown>, ExploreFault>
-    requires config_calls { R.failures config.old < 2 ^ 64 - 1 }
-    requires script_calls { S.failures scripts.old < 2 ^ 64 - 1 }
-    requires trace_calls { W.failures trace.old < 2 ^ 64 - 1 }
-
-    // Both texts were read to their ends, and what is told is the first of these seeds whose run shows it, with the limits that
-    // were asked for, and the line that does, and what is written its trace up to there; or there is none such, and nothing is written. None of it is held back.
-    ensures sought { IsKnown (R.left config.old) → IsKnown (S.left scripts.old) → IsKnown (W.written trace.old)
-        → IfOk result (shown.IsSought (bytes_of (R.left config.old)) (bytes_of (S.left scripts.old)) question.now request.now.limits.ticks request.now.limits.turns first last (bytes_of (W.written trace.old)) (bytes_of (W.written trace.new))) }
+    // Seeds are left only where the search was ended.
+    ensures ended { IfOk result (IsEndedBy (P.over progress.new)) }
     ensures known { IsKnown (W.written trace.old) → IsKnown (W.written trace.new) }
     ensures passed { OnOk result (W.buffered trace.new ≡ []) }
     ensures config_read { IsKnown (R.left config.old) → OnOk result (bytes_of (R.left config.new) ≡ []) }
@@ -159,11 +135,11 @@ pub fn seek_shown<R: Source, S: Source, W: Sink, P: SeedProgress>(
     // A fault of a text or of the question is its first one.
     ensures config_fault { IsKnown (R.left config.old) → IfErr result (faults.IsConfigFault (bytes_of (R.left config.old))) }
     ensures text_fault { IsKnown (R.left config.old) → IsKnown (S.left scripts.old) → IfErr result (faults.IsScriptFault (bytes_of (R.left config.old)) (bytes_of (S.left scripts.old))) }
-    ensures question_fault { IsKnown (R.left config.old) → IfErr result (faults.IsQuestionFault (bytes_of (R.left config.old)) question.now) }
+    ensures question_fault { IsKnown (R.left config.old) → IfErr result (seeds.IsQuestionFault (bytes_of (R.left config.old)) (asked.question_of request.now)) }
 
     // After a failed write or flush a beginning of the trace is out, and after any other fault nothing is.
     ensures write { IsKnown (R.left config.old) → IsKnown (S.left scripts.old) → IsKnown (W.written trace.old) → (result ≡ Err (ExploreFault.Run RunFault.Write))
-        → shown.IsBegun (bytes_of (R.left config.old)) (bytes_of (S.left scripts.old)) question.now request.now.limits.ticks request.now.limits.turns first last (bytes_of (W.written trace.old)) (bytes_of (W.written trace.new)) }
+        → seeds.IsBegun (bytes_of (R.left config.old)) (bytes_of (S.left scripts.old)) (asked.question_of request.now) (asked.runs_of request.now) first last (bytes_of (W.written trace.old)) (bytes_of (W.written trace.new)) }
     ensures unwritten { IsKnown (W.written trace.old) → IfErr result (λ fault. fault ≢ ExploreFault.Run RunFault.Write → bytes_of (W.written trace.new) ≡ bytes_of (W.written trace.old)) }
 
     // No thread was started.
@@ -173,9 +149,12 @@ pub fn seek_shown<R: Source, S: Source, W: Sink, P: SeedProgress>(
     ensures reads { CountsReads (faults.as_run result) (R.failures config.old) (R.failures config.new) (S.failures scripts.old) (S.failures scripts.new) }
     ensures writes { W.failures trace.new ≡ W.failures trace.old + (if failed_write (faults.as_run result) then 1 else 0) }
 {
-    let ticks = request.limits.ticks;
-    let turns = request.limits.turns;
-    run_seeds_find(
-        alloc, config, scripts, trace, question, ticks, turns, first, last, progress,
+    let question = match request.find {
+        Some(text) => Some(text.as_bytes()),
+        None => None,
+    };
+    let runs = runs_of(request);
+    run_seeds(
+        alloc, config, scripts, trace, question, runs, first, last, progress,
     )
 }

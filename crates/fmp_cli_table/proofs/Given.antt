@@ -56,7 +56,7 @@ fits a id r some not_help not_version = (
 
 module _ (c : Command) (s : IsSmp c) where
   abbrev chain : List Arg
-  chain = s.config ∷ s.scripts ∷ s.ticks ∷ s.turns ∷ s.seed ∷ s.seeds ∷ s.find ∷ s.strict ∷ s.progress ∷ s.context ∷ s.colour ∷ []
+  chain = s.config ∷ s.scripts ∷ s.ticks ∷ s.turns ∷ s.seed ∷ s.seeds ∷ s.find ∷ s.late ∷ s.stalls ∷ s.seconds ∷ s.strict ∷ s.progress ∷ s.context ∷ s.colour ∷ []
 
   all_fit : All FitsChain chain
   all_fit zero d lt = fits s.config (codes "CFG") s.is_config.optional (differs (codes "CFG") [] refl) (differs (codes "CFG") (codes "help") refl) (differs (codes "CFG") (codes "version") refl)
@@ -66,17 +66,20 @@ module _ (c : Command) (s : IsSmp c) where
   all_fit (suc (suc (suc (suc zero)))) d lt = fits s.seed (codes "seed") s.is_seed (differs (codes "seed") [] refl) (differs (codes "seed") (codes "help") refl) (differs (codes "seed") (codes "version") refl)
   all_fit (suc (suc (suc (suc (suc zero))))) d lt = fits s.seeds (codes "seeds") s.is_seeds (differs (codes "seeds") [] refl) (differs (codes "seeds") (codes "help") refl) (differs (codes "seeds") (codes "version") refl)
   all_fit (suc (suc (suc (suc (suc (suc zero)))))) d lt = fits s.find (codes "find") s.is_find (differs (codes "find") [] refl) (differs (codes "find") (codes "help") refl) (differs (codes "find") (codes "version") refl)
-  all_fit (suc (suc (suc (suc (suc (suc (suc zero))))))) d lt = fits s.strict (codes "strict") s.is_strict (differs (codes "strict") [] refl) (differs (codes "strict") (codes "help") refl) (differs (codes "strict") (codes "version") refl)
-  all_fit (suc (suc (suc (suc (suc (suc (suc (suc zero)))))))) d lt = fits s.progress (codes "progress") s.is_progress (differs (codes "progress") [] refl) (differs (codes "progress") (codes "help") refl) (differs (codes "progress") (codes "version") refl)
-  all_fit (suc (suc (suc (suc (suc (suc (suc (suc (suc zero))))))))) d lt = fits s.context (codes "context") s.is_context (differs (codes "context") [] refl) (differs (codes "context") (codes "help") refl) (differs (codes "context") (codes "version") refl)
-  all_fit (suc (suc (suc (suc (suc (suc (suc (suc (suc (suc zero)))))))))) d lt = fits s.colour (codes "color") s.is_colour (differs (codes "color") [] refl) (differs (codes "color") (codes "help") refl) (differs (codes "color") (codes "version") refl)
-  all_fit (suc (suc (suc (suc (suc (suc (suc (suc (suc (suc (suc k))))))))))) d lt = absurd (omega arith)
+  all_fit (suc (suc (suc (suc (suc (suc (suc zero))))))) d lt = fits s.late (codes "late") s.is_late (differs (codes "late") [] refl) (differs (codes "late") (codes "help") refl) (differs (codes "late") (codes "version") refl)
+  all_fit (suc (suc (suc (suc (suc (suc (suc (suc zero)))))))) d lt = fits s.stalls (codes "stalls") s.is_stalls (differs (codes "stalls") [] refl) (differs (codes "stalls") (codes "help") refl) (differs (codes "stalls") (codes "version") refl)
+  all_fit (suc (suc (suc (suc (suc (suc (suc (suc (suc zero))))))))) d lt = fits s.seconds (codes "seconds") s.is_seconds (differs (codes "seconds") [] refl) (differs (codes "seconds") (codes "help") refl) (differs (codes "seconds") (codes "version") refl)
+  all_fit (suc (suc (suc (suc (suc (suc (suc (suc (suc (suc zero)))))))))) d lt = fits s.strict (codes "strict") s.is_strict (differs (codes "strict") [] refl) (differs (codes "strict") (codes "help") refl) (differs (codes "strict") (codes "version") refl)
+  all_fit (suc (suc (suc (suc (suc (suc (suc (suc (suc (suc (suc zero))))))))))) d lt = fits s.progress (codes "progress") s.is_progress (differs (codes "progress") [] refl) (differs (codes "progress") (codes "help") refl) (differs (codes "progress") (codes "version") refl)
+  all_fit (suc (suc (suc (suc (suc (suc (suc (suc (suc (suc (suc (suc zero)))))))))))) d lt = fits s.context (codes "context") s.is_context (differs (codes "context") [] refl) (differs (codes "context") (codes "help") refl) (differs (codes "context") (codes "version") refl)
+  all_fit (suc (suc (suc (suc (suc (suc (suc (suc (suc (suc (suc (suc (suc zero))))))))))))) d lt = fits s.colour (codes "color") s.is_colour (differs (codes "color") [] refl) (differs (codes "color") (codes "help") refl) (differs (codes "color") (codes "version") refl)
+  all_fit (suc (suc (suc (suc (suc (suc (suc (suc (suc (suc (suc (suc (suc (suc k)))))))))))))) d lt = absurd (omega arith)
 
   -- the ids, in order
   abbrev ids : List (List ℕ)
-  ids = codes "CFG" ∷ codes "SCRIPTS" ∷ codes "ticks" ∷ codes "turns" ∷ codes "seed" ∷ codes "seeds" ∷ codes "find" ∷ codes "strict" ∷ codes "progress" ∷ codes "context" ∷ codes "color" ∷ []
+  ids = codes "CFG" ∷ codes "SCRIPTS" ∷ codes "ticks" ∷ codes "turns" ∷ codes "seed" ∷ codes "seeds" ∷ codes "find" ∷ codes "late" ∷ codes "stalls" ∷ codes "seconds" ∷ codes "strict" ∷ codes "progress" ∷ codes "context" ∷ codes "color" ∷ []
 
-  id_at : (k : ℕ) (d : Arg) → k < 11 → (slice_index_or chain k d).id.now ≡ slice_index_or ids k []
+  id_at : (k : ℕ) (d : Arg) → k < 14 → (slice_index_or chain k d).id.now ≡ slice_index_or ids k []
   id_at zero d lt = s.is_config.optional.named
   id_at (suc zero) d lt = s.is_scripts.optional.named
   id_at (suc (suc zero)) d lt = s.is_ticks.required.optional.named
@@ -84,18 +87,21 @@ module _ (c : Command) (s : IsSmp c) where
   id_at (suc (suc (suc (suc zero)))) d lt = s.is_seed.named
   id_at (suc (suc (suc (suc (suc zero))))) d lt = s.is_seeds.named
   id_at (suc (suc (suc (suc (suc (suc zero)))))) d lt = s.is_find.named
-  id_at (suc (suc (suc (suc (suc (suc (suc zero))))))) d lt = s.is_strict.named
-  id_at (suc (suc (suc (suc (suc (suc (suc (suc zero)))))))) d lt = s.is_progress.named
-  id_at (suc (suc (suc (suc (suc (suc (suc (suc (suc zero))))))))) d lt = s.is_context.named
-  id_at (suc (suc (suc (suc (suc (suc (suc (suc (suc (suc zero)))))))))) d lt = s.is_colour.named
-  id_at (suc (suc (suc (suc (suc (suc (suc (suc (suc (suc (suc k))))))))))) d lt = absurd (omega arith)
+  id_at (suc (suc (suc (suc (suc (suc (suc zero))))))) d lt = s.is_late.named
+  id_at (suc (suc (suc (suc (suc (suc (suc (suc zero)))))))) d lt = s.is_stalls.named
+  id_at (suc (suc (suc (suc (suc (suc (suc (suc (suc zero))))))))) d lt = s.is_seconds.named
+  id_at (suc (suc (suc (suc (suc (suc (suc (suc (suc (suc zero)))))))))) d lt = s.is_strict.named
+  id_at (suc (suc (suc (suc (suc (suc (suc (suc (suc (suc (suc zero))))))))))) d lt = s.is_progress.named
+  id_at (suc (suc (suc (suc (suc (suc (suc (suc (suc (suc (suc (suc zero)))))))))))) d lt = s.is_context.named
+  id_at (suc (suc (suc (suc (suc (suc (suc (suc (suc (suc (suc (suc (suc zero))))))))))))) d lt = s.is_colour.named
+  id_at (suc (suc (suc (suc (suc (suc (suc (suc (suc (suc (suc (suc (suc (suc k)))))))))))))) d lt = absurd (omega arith)
 
   distinct : HasDistinctIds chain
   distinct j k d e lj lk same =
       one_place ids refl j k (omega (arith, lj)) (omega (arith, lk))
       (sym (id_at j e (omega (arith, lj))) ∙ ((bytes_eq-Decides _ _).0 same ∙ id_at k d (omega (arith, lk))))
 
-  number : (m : ArgMatches) (k : ℕ) (a : Arg) (id : List ℕ) (low high : ℕ) → IsParsedFrom c m → k < 11 → slice_index_or chain k a ≡ a → IsNumber a id low high → Gives m id low high
+  number : (m : ArgMatches) (k : ℕ) (a : Arg) (id : List ℕ) (low high : ℕ) → IsParsedFrom c m → k < 14 → slice_index_or chain k a ≡ a → IsNumber a id low high → Gives m id low high
   number m k a id low high p lt at is =
       let got = reads_in_chain s.start c chain k a m s.chain s.is_start.no_arguments s.is_start.no_groups s.is_start.no_globals s.is_start.negates_nothing all_fit distinct lt
       (rw at is.required.takes) (parser.Signed (pos low) (pos high)) (ap (λ (x : Arg). x.value_parser) at ∙ is.range) p in
@@ -108,7 +114,7 @@ module _ (c : Command) (s : IsSmp c) where
     turns = number m 3 s.turns (codes "turns") 1 1000000 p (omega arith) refl s.is_turns;
   }
 
-  path : (m : ArgMatches) (k : ℕ) (a : Arg) (id : List ℕ) → IsParsedFrom c m → k < 11 → slice_index_or chain k a ≡ a → IsRequired a id → is_some (first_value (found_of m) id) ≡ true
+  path : (m : ArgMatches) (k : ℕ) (a : Arg) (id : List ℕ) → IsParsedFrom c m → k < 14 → slice_index_or chain k a ≡ a → IsRequired a id → is_some (first_value (found_of m) id) ≡ true
   path m k a id p lt at is =
       let got = required_in_chain s.start c chain k a m s.chain s.is_start.no_arguments s.is_start.no_groups s.is_start.no_globals s.is_start.negates_nothing all_fit distinct lt
       (rw at is.takes) p in

@@ -28,8 +28,8 @@ colour_by (Some word) =
 abbrev pub smp_line : App
 smp_line = line_of (codes "smp") (
     path_rule (codes "CFG") ∷ path_rule (codes "SCRIPTS") ∷ number_rule (codes "ticks") 0 1000000 ∷ number_rule (codes "turns") 1 1000000
-    ∷ seed_rule (codes "seed") ∷ value_rule (codes "seeds") ∷ value_rule (codes "find") ∷ flag_rule (codes "strict") ∷ flag_rule (codes "progress")
-    ∷ flag_rule (codes "context") ∷ value_rule (codes "color") ∷ [])
+    ∷ seed_rule (codes "seed") ∷ value_rule (codes "seeds") ∷ value_rule (codes "find") ∷ flag_rule (codes "late") ∷ flag_rule (codes "stalls")
+    ∷ seed_rule (codes "seconds") ∷ flag_rule (codes "strict") ∷ flag_rule (codes "progress") ∷ flag_rule (codes "context") ∷ value_rule (codes "color") ∷ [])
 
 -- what clap finds in the words of that command line, by the ids of the arguments
 unfoldable pub found_in : List Text → List Row
@@ -39,7 +39,7 @@ found_in words = matches_of smp_line words
 unfoldable pub faults_in : List Text → Kinds
 faults_in words = fault_of smp_line words
 
--- the command line: two paths, two numbers, and seven that may be left out
+-- the command line: two paths, two numbers, and ten that may be left out
 pub record IsSmp (c : Command) : Type 0 where
   pub start : Command
   pub config : Arg
@@ -49,11 +49,14 @@ pub record IsSmp (c : Command) : Type 0 where
   pub seed : Arg
   pub seeds : Arg
   pub find : Arg
+  pub late : Arg
+  pub stalls : Arg
+  pub seconds : Arg
   pub strict : Arg
   pub progress : Arg
   pub context : Arg
   pub colour : Arg
-  pub chain : AddsInTurn AddsArg start (config ∷ scripts ∷ ticks ∷ turns ∷ seed ∷ seeds ∷ find ∷ strict ∷ progress ∷ context ∷ colour ∷ []) c
+  pub chain : AddsInTurn AddsArg start (config ∷ scripts ∷ ticks ∷ turns ∷ seed ∷ seeds ∷ find ∷ late ∷ stalls ∷ seconds ∷ strict ∷ progress ∷ context ∷ colour ∷ []) c
   pub is_start : IsStart (codes "smp") start
   pub is_config : IsRequired config (codes "CFG")
   pub is_scripts : IsRequired scripts (codes "SCRIPTS")
@@ -62,6 +65,9 @@ pub record IsSmp (c : Command) : Type 0 where
   pub is_seed : IsOptional seed (codes "seed")
   pub is_seeds : IsOptional seeds (codes "seeds")
   pub is_find : IsOptional find (codes "find")
+  pub is_late : IsOptional late (codes "late")
+  pub is_stalls : IsOptional stalls (codes "stalls")
+  pub is_seconds : IsOptional seconds (codes "seconds")
   pub is_strict : IsOptional strict (codes "strict")
   pub is_progress : IsOptional progress (codes "progress")
   pub is_context : IsOptional context (codes "context")
@@ -96,6 +102,9 @@ pub record Asks (rows : List Row) (r : SmpRequest) : Type 0 where
   pub seed : IsNumberIn (one_of (codes "seed") rows) r.seed
   pub seeds : AreSeeds (first_of (codes "seeds") rows) r.seeds
   pub find : option_map (λ (text : Bor Text). text.now) r.find ≡ first_of (codes "find") rows
+  pub late : IsFlag (one_of (codes "late") rows) r.late
+  pub stalls : IsFlag (one_of (codes "stalls") rows) r.stalls
+  pub seconds : IsNumberIn (one_of (codes "seconds") rows) r.seconds
   pub strict : IsFlag (one_of (codes "strict") rows) r.strict
   pub progress : IsFlag (one_of (codes "progress") rows) r.progress
   pub context : IsFlag (one_of (codes "context") rows) r.context

@@ -23,7 +23,7 @@ pub use found::{flag_in, matched, option_in, text_in};
 pub use limits::Limits;
 pub use parts::{
     COLOUR_PART, CONFIG_PART, CONTEXT_PART, EVENTS_PART, Form, PROGRESS_PART, Part, SCRIPTS_PART,
-    Title, line,
+    SECONDS_PART, Title, line,
 };
 pub use seeds::Seeds;
 use seeds::seeds_of;
@@ -62,6 +62,11 @@ threads, up to the first at whose end a task waits while nothing is left to do, 
 QUESTION up to the first that shows what QUESTION asks, as `fmpsim explore` has it. Its trace is
 written, and its seed is told before the tasks. Where there is none, nothing is written.
 
+In these orders a request is taken before the next call of its processor. With --late a seed draws
+one of all orders, as those of `fmpsim explore`, in which it may come later, and with --stalls one
+in which now and then a processor stands still while the others go on. With --seconds N the search
+ends after N seconds; the last seed that was played is told on standard error.
+
 Exit status:
   0  all ticks were taken, and no processor had anything left to do; or no seed was found
   1  a fault in a text or in the question, told on standard error with its place
@@ -69,7 +74,7 @@ Exit status:
   3  a file could not be read, or the output not be written
   4  want of memory or of threads
   5  with --find: the order of a seed shows it; its trace was written
-  6  there were as many events as --turns says; their trace was written
+  6  there were as many events as --turns says; their trace was written; or --seconds ended a search
   7  with --strict, or with --seeds and no --find: as 0, but a task waits";
 
 const TITLE: Title<'static> = Title {
@@ -108,6 +113,17 @@ const PARTS: &[Part<'static>] = &[
         about: "What is looked for in the orders of --seeds",
     },
     Part {
+        id: "late",
+        form: Form::Flag,
+        about: "Has --seeds draw orders in which a request may be taken late",
+    },
+    Part {
+        id: "stalls",
+        form: Form::Flag,
+        about: "Has --seeds draw orders in which now and then a processor stands still",
+    },
+    SECONDS_PART,
+    Part {
         id: "strict",
         form: Form::Flag,
         about: "Ends with status 7 where a task waits at the end, and nothing else is left to do",
@@ -131,6 +147,12 @@ pub struct SmpRequest<'a> {
     pub seeds: Seeds,
     /// The question of which one of these is to show what it asks. Without it one is looked for that ends while a task waits.
     pub find: Option<&'a str>,
+    /// Whether seeds draw orders in which a request may be taken after other events of its processor.
+    pub late: bool,
+    /// Whether they draw orders in which now and then a processor stands still.
+    pub stalls: bool,
+    /// After how many seconds a run that goes through many seeds ends.
+    pub seconds: Option<u64>,
     /// Whether it is a status of its own that a task waits at a quiet end.
     pub strict: bool,
     /// Whether it is told how far a run of many seeds has come.
@@ -169,6 +191,9 @@ fn request_of<'a>(matches: &ArgMatches<'a>) -> SmpRequest<'a>
     let seed = matches.get_one::<u64>("seed");
     let seeds = seeds_of(matches);
     let find = option_in(matches, "find");
+    let late = flag_in(matches, "late");
+    let stalls = flag_in(matches, "stalls");
+    let seconds = matches.get_one::<u64>("seconds");
     let strict = flag_in(matches, "strict");
     let progress = flag_in(matches, "progress");
     let context = flag_in(matches, "context");
@@ -180,6 +205,9 @@ fn request_of<'a>(matches: &ArgMatches<'a>) -> SmpRequest<'a>
         seed,
         seeds,
         find,
+        late,
+        stalls,
+        seconds,
         strict,
         progress,
         context,

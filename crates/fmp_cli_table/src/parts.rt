@@ -74,6 +74,13 @@ pub const PROGRESS_PART: Part<'static> = Part {
     about: "Tells on standard error how far it has come, a line a second; at a terminal by itself",
 };
 
+/// The option that ends a search.
+pub const SECONDS_PART: Part<'static> = Part {
+    id: "seconds",
+    form: Form::Seed,
+    about: "After how many seconds a search ends that has found nothing",
+};
+
 /// The option that says when a trace is coloured.
 pub const COLOUR_PART: Part<'static> = Part {
     id: "color",

@@ -1,5 +1,5 @@
 -- What a search through all orders says, and what is written of it.
-use Rattle.std.specs.Prelude.{◌≡◌, ◌≤◌, ◌<◌, ℕ, List, ◌++◌, length, Ok, codes, decimal}
+use Rattle.std.specs.Prelude.{◌≡◌, ◌≤◌, ◌<◌, ℕ, Bool, true, List, ◌++◌, length, Ok, codes, decimal}
 use Rattle.fmp_codes.specs.declared.records.Record.{Record}
 use Rattle.fmp_setup.specs.Setup.{Setup}
 use Rattle.fmp_text_scripts.specs.ScriptGrammar.{SpellsScripts}
@@ -29,13 +29,23 @@ pub record IsShown (c : Setup) (scripts : List Steps) (rules : Rules) (question 
   pub prints : text ≡ lines_from c.names 1 records
   pub answers : PrintsAnswers c text (events_of records)
 
--- what is known of all orders, and the text that tells it. Where that is less than was asked for, the room for places was used up
+-- what is known of all orders, and the text that tells it. Where that is less than was asked for, the room for places was used up,
+-- or the search was ended
 abbrev pub Finds : Setup → List Steps → Rules → List Step → ℕ → ℕ → List ℕ → Finding → Type 0
 Finds c scripts rules question turns room text finding.Shown = IsShown c scripts rules question turns text
 Finds c scripts rules question turns room text finding.Never = NoneShows c scripts rules question × (text ≡ codes "never\n")
 Finds c scripts rules question turns room text (finding.NotWithin n) =
     (n ≤ turns) × NoneShowsWithin c scripts rules question n × (text ≡ codes "not within " ++ decimal n ++ codes "\n")
     × (n < turns → UsedUp after (origin c scripts rules question) n room)
+Finds c scripts rules question turns room text (finding.Ended n) =
+    (n < turns) × NoneShowsWithin c scripts rules question n × (text ≡ codes "not within " ++ decimal n ++ codes "\n")
+
+-- where a search was ended, who may end it did
+abbrev pub IsEndedBy : Bool → Finding → Type 0
+IsEndedBy over finding.Shown = Unit {0}
+IsEndedBy over finding.Never = Unit {0}
+IsEndedBy over (finding.NotWithin n) = Unit {0}
+IsEndedBy over (finding.Ended n) = over ≡ true
 
 -- the output says whether orders of the one text's machine, by the other's scripts, show what the third asks, where there is room for so
 -- many places besides the first
@@ -71,3 +81,4 @@ abbrev pub status_of : Finding → Status
 status_of finding.Shown = Different
 status_of finding.Never = Done
 status_of (finding.NotWithin n) = Limit
+status_of (finding.Ended n) = Limit

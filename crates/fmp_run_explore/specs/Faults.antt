@@ -52,6 +52,7 @@ words_of question.BadWord = codes "E1 bad byte"
 words_of question.BadForm = codes "E2 bad word"
 words_of question.UnknownName = codes "E3 unknown name"
 words_of question.TooLong = codes "E7 too many"
+words_of question.NoLine = codes "E9 no such line"
 
 -- the line that tells it, at the byte of this number
 abbrev pub question_line : QuestionFault → ℕ → List ℕ

@@ -17,6 +17,7 @@ use Rattle.fmp_run_explore.specs.Views.{Layer}
 abbrev pub Leaves : ℕ → Finding → Layer → Type 0
 Leaves turns finding.Shown l = l.histories ≡ []
 Leaves turns finding.Never l = l.histories ≡ []
+Leaves turns (finding.Ended n) l = l.histories ≡ []
 Leaves turns (finding.NotWithin n) l = (n < turns → l.histories ≡ []) × (n ≡ turns → IsLayer l.config l.scripts l.rules l.question turns l.histories)
 
 -- likewise, of this machine, these scripts and this question

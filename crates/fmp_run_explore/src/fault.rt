@@ -43,6 +43,7 @@ fn words_of(fault: QuestionFault) -> &'static str
         QuestionFault::BadForm => "E2 bad word",
         QuestionFault::UnknownName => "E3 unknown name",
         QuestionFault::TooLong => "E7 too many",
+        QuestionFault::NoLine => "E9 no such line",
     }
 }
 

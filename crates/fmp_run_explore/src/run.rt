@@ -3,7 +3,7 @@ ghost use Rattle.std.specs.Prelude.{◌≡◌, ◌≢◌, ◌+◌, ◌-◌, ◌�
 ghost use Rattle.fmp_run_devices.specs.Devices.{IsKnown, bytes_of};
 ghost use Rattle.fmp_run_texts.specs.Faults.{failed_write, is_thread_fault};
 ghost use Rattle.fmp_run_texts.specs.Texts.{CountsReads};
-ghost use Rattle.fmp_run_explore.specs.Explored.{IsBegun, IsExplored};
+ghost use Rattle.fmp_run_explore.specs.Explored.{IsBegun, IsEndedBy, IsExplored};
 ghost use Rattle.fmp_run_explore.specs.Faults as faults;
 ghost use Rattle.fmp_run_explore.specs.Left.{LeavesLayer};
 
@@ -21,7 +21,7 @@ use std::alloc::Global;
 /// what the question asks.
 ///
 /// It looks at orders of at most so many lines, and has room for so many places, each of which takes 24 bytes. Where the room does not do it
-/// says for how many lines it did, and all of it was used. It tells how far it has come.
+/// says for how many lines it did, and all of it was used. It tells `progress` how far it has come, which may end it.
 pub fn run_explore<R: Source, S: Source, W: Sink, P: Progress>(
     alloc: Global,
     config: &mut R,
@@ -46,6 +46,9 @@ pub fn run_explore<R: Source, S: Source, W: Sink, P: Progress>(
     // Beside that it gives the orders from which a search is to go on.
     ensures layer { IsKnown (R.left config.old) → IsKnown (S.left scripts.old)
         → IfOk result (λ o. LeavesLayer (bytes_of (R.left config.old)) (bytes_of (S.left scripts.old)) question.now rules turns o.finding o.layer) }
+
+    // Less is known than was asked for, with room that is left, only where the search was ended.
+    ensures ended { IfOk result (λ o. IsEndedBy (P.over progress.new) o.finding) }
     ensures known { IsKnown (W.written output.old) → IsKnown (W.written output.new) }
     ensures passed { OnOk result (W.buffered output.new ≡ []) }
     ensures config_read { IsKnown (R.left config.old) → OnOk result (bytes_of (R.left config.new) ≡ []) }

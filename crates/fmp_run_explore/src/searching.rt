@@ -1,11 +1,11 @@
 //! The search through all orders of one machine, its scripts and a question.
 ghost use Rattle.std.specs.Prelude.{◌≡◌, ◌≤◌, ◌<◌, ◌^◌, IfOk};
 ghost use Rattle.fmp_text_scripts.specs.Scripts.{AreInBits};
-ghost use Rattle.fmp_search.specs.Answers.{Says};
+ghost use Rattle.fmp_search.specs.Answers.{IsEndedBy as IsAnswerEndedBy, Says};
 ghost use Rattle.fmp_search.specs.Roots.{Leaves as LeavesRoots};
 ghost use Rattle.fmp_search_orders.specs.Laws.{is_seen};
 ghost use Rattle.fmp_search_orders.specs.Places as places;
-ghost use Rattle.fmp_run_explore.specs.Explored.{Finds};
+ghost use Rattle.fmp_run_explore.specs.Explored.{Finds, IsEndedBy};
 ghost use Rattle.fmp_run_explore.specs.Left.{Leaves};
 ghost use Rattle.fmp_run_explore.specs.Views.{layer_of, CanBeMade};
 
@@ -56,6 +56,7 @@ fn explored<W: Space + Drop, P: Progress>(
     requires turns { turns < 2 ^ 31 }
     ensures says { IfOk result (λ r. Says W.after W.wanted (W.origin walkers.0) turns more r.0) }
     ensures leaves { IfOk result (λ r. LeavesRoots W.after W.wanted (W.origin walkers.0) turns r.0 r.1) }
+    ensures ended { IfOk result (λ r. IsAnswerEndedBy (P.over progress.new) r.0) }
 {
     let (mut walker, mut base) = walkers;
     let (mut other, mut trunk) = others;
@@ -85,6 +86,7 @@ fn answered<P: Progress>(
     requires { turns < 2 ^ 31 }
     ensures says { IfOk result (λ r. Says places.after is_seen (places.origin config.now scripts.now rules question.now) turns more r.0) }
     ensures leaves { IfOk result (λ r. LeavesRoots places.after is_seen (places.origin config.now scripts.now rules question.now) turns r.0 r.1) }
+    ensures ended { IfOk result (λ r. IsAnswerEndedBy (P.over progress.new) r.0) }
 {
     let walkers = two_walkers(config, scripts, rules, question)?;
     let others = two_walkers(config, scripts, rules, question)?;
@@ -108,6 +110,7 @@ pub(crate) fn found<P: Progress>(
     ensures finds { IfOk result (λ r. Finds config.now scripts.now rules question.now turns more r.text.items r.finding) }
     ensures leaves { IfOk result (λ r. Leaves turns r.finding (layer_of config.now scripts.now rules question.now r.roots)) }
     ensures made { IfOk result (λ r. CanBeMade (places.origin config.now scripts.now rules question.now) r.roots) }
+    ensures ended { IfOk result (λ r. IsEndedBy (P.over progress.new) r.finding) }
 {
     let names = config.names();
     names.validity();
@@ -132,6 +135,11 @@ pub(crate) fn found<P: Progress>(
         }),
         Answer::NotWithin(turns) => Ok(Report {
             finding: Finding::NotWithin(turns),
+            text: not_within(alloc, turns)?,
+            roots,
+        }),
+        Answer::Ended(turns) => Ok(Report {
+            finding: Finding::Ended(turns),
             text: not_within(alloc, turns)?,
             roots,
         }),

@@ -2,7 +2,7 @@
 ghost use Rattle.std.specs.Prelude.{◌≡◌, ◌+◌, ◌-◌, ◌≤◌, ◌<◌, ◌^◌, [], Err, OnOk, IfOk, if◌then◌else◌};
 ghost use Rattle.fmp_run_devices.specs.Devices.{IsKnown, bytes_of};
 ghost use Rattle.fmp_text_scripts.specs.Scripts.{AreInBits};
-ghost use Rattle.fmp_run_explore.specs.Explored.{IsWritten, IsPartWritten};
+ghost use Rattle.fmp_run_explore.specs.Explored.{IsEndedBy, IsPartWritten, IsWritten};
 ghost use Rattle.fmp_run_explore.specs.Left.{IsLeft};
 ghost use Rattle.fmp_run_explore.specs.Faults as faults;
 
@@ -39,6 +39,7 @@ pub(crate) fn found_written<W: Sink, P: Progress>(
     ensures written { IsKnown (W.written output.old)
         → IfOk result (λ o. IsWritten asked.config asked.scripts rules asked.question turns more (bytes_of (W.written output.old)) (bytes_of (W.written output.new)) o.finding) }
     ensures left { IfOk result (λ o. IsLeft asked.config asked.scripts rules asked.question turns o.finding o.layer) }
+    ensures ended { IfOk result (λ o. IsEndedBy (P.over progress.new) o.finding) }
     ensures known { IsKnown (W.written output.old) → IsKnown (W.written output.new) }
     ensures passed { OnOk result (W.buffered output.new ≡ []) }
     ensures part { IsKnown (W.written output.old) → (result ≡ Err WriteFault.Write)

@@ -4,6 +4,7 @@ ghost use Rattle.fmp_run_devices.specs.Devices.{IsKnown, bytes_of};
 ghost use Rattle.fmp_run_texts.specs.Faults.{failed_write, is_thread_fault};
 ghost use Rattle.fmp_run_texts.specs.Texts.{CountsReads};
 ghost use Rattle.fmp_text.specs.Limits.{most_bytes};
+ghost use Rattle.fmp_run_explore.specs.Explored.{IsEndedBy};
 ghost use Rattle.fmp_run_explore_from.specs.Explored.{IsBegunFrom, IsExploredFrom};
 ghost use Rattle.fmp_run_explore_from.specs.Faults as faults;
 
@@ -45,6 +46,9 @@ pub fn run_explore_from<R: Source, S: Source, W: Sink, P: Progress>(
     // Both texts were read to their ends, and what is written says what is known of all orders that go on from the trace. None of it is held back.
     ensures explored { IsKnown (R.left config.old) → IsKnown (S.left scripts.old) → IsKnown (W.written output.old)
         → IfOk result (IsExploredFrom (bytes_of (R.left config.old)) (bytes_of (S.left scripts.old)) begun.now question.now rules turns (places - 1) (bytes_of (W.written output.old)) (bytes_of (W.written output.new))) }
+
+    // Less is known than was asked for, with room that is left, only where the search was ended.
+    ensures ended { IfOk result (IsEndedBy (P.over progress.new)) }
     ensures known { IsKnown (W.written output.old) → IsKnown (W.written output.new) }
     ensures passed { OnOk result (W.buffered output.new ≡ []) }
     ensures config_read { IsKnown (R.left config.old) → OnOk result (bytes_of (R.left config.new) ≡ []) }

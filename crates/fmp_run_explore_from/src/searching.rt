@@ -3,11 +3,13 @@ ghost use Rattle.std.specs.Prelude.{◌≡◌, ◌≤◌, ◌<◌, ◌^◌, leng
 ghost use Rattle.fmp_codes.specs.declared.records.Record.{Record as AnyRecord};
 ghost use Rattle.fmp_text_scripts.specs.Scripts.{AreInBits};
 ghost use Rattle.fmp_text.specs.Limits.{most_bytes};
+ghost use Rattle.fmp_search.specs.Answers.{IsEndedBy as IsAnswerEndedBy};
 ghost use Rattle.fmp_search.specs.Guides.{SaysAlong};
 ghost use Rattle.fmp_search_orders.specs.Begun.{choices_of};
 ghost use Rattle.fmp_search_orders.specs.Laws.{is_seen};
 ghost use Rattle.fmp_search_orders.specs.Orders.{IsOrder};
 ghost use Rattle.fmp_search_orders.specs.Places as places;
+ghost use Rattle.fmp_run_explore.specs.Explored.{IsEndedBy};
 ghost use Rattle.fmp_run_explore_from.specs.Explored.{FindsFrom, IsFoundFrom};
 ghost use Rattle.fmp_run_explore_from.specs.Strays.{IsBegunFault};
 
@@ -33,7 +35,8 @@ fn explored_along<W: Space + Drop, P: Progress>(
 ) -> Result<Answer, AllocError>
     requires origins { (W.origin walkers.1 ≡ W.origin walkers.0) × (W.origin others.0 ≡ W.origin walkers.0) × (W.origin others.1 ≡ W.origin walkers.0) }
     requires turns { turns < 2 ^ 31 }
-    ensures { IfOk result (λ answer. SaysAlong W.after W.wanted (W.origin walkers.0) choices.now turns more answer) }
+    ensures says { IfOk result (λ answer. SaysAlong W.after W.wanted (W.origin walkers.0) choices.now turns more answer) }
+    ensures ended { IfOk result (IsAnswerEndedBy (P.over progress.new)) }
 {
     let (walker, base) = walkers;
     let (other, trunk) = others;
@@ -55,7 +58,8 @@ fn answered_along<P: Progress>(
     more: u32,
 ) -> Result<Answer, AllocError>
     requires { turns < 2 ^ 31 }
-    ensures { IfOk result (λ answer. SaysAlong places.after is_seen (places.origin config.now scripts.now rules question.now) choices.now turns more answer) }
+    ensures ended { IfOk result (IsAnswerEndedBy (P.over progress.new)) }
+    ensures says { IfOk result (λ answer. SaysAlong places.after is_seen (places.origin config.now scripts.now rules question.now) choices.now turns more answer) }
 {
     let walkers = two_walkers(config, scripts, rules, question)?;
     let others = two_walkers(config, scripts, rules, question)?;
@@ -77,7 +81,8 @@ fn told_from<P: Progress>(
 ) -> Result<(Finding, Vec<u8>), AllocError>
     requires turns { turns ≤ 1000000 }
     requires in_bits { AreInBits scripts.now }
-    ensures { (begun : List AnyRecord) → IsOrder config.now scripts.now rules begun → choices.now ≡ choices_of begun
+    ensures ended { IfOk result (λ r. IsEndedBy (P.over progress.new) r.0) }
+    ensures finds { (begun : List AnyRecord) → IsOrder config.now scripts.now rules begun → choices.now ≡ choices_of begun
         → IfOk result (λ r. FindsFrom config.now scripts.now rules question.now begun turns more r.1.items r.0) }
 {
     let names = config.names();
@@ -92,6 +97,7 @@ fn told_from<P: Progress>(
         }
         Answer::Never => Ok((Finding::Never, never(alloc)?)),
         Answer::NotWithin(turns) => Ok((Finding::NotWithin(turns), not_within(alloc, turns)?)),
+        Answer::Ended(turns) => Ok((Finding::Ended(turns), not_within(alloc, turns)?)),
     }
 }
 
@@ -111,6 +117,7 @@ pub(crate) fn found_from<P: Progress>(
     requires in_bits { AreInBits scripts.now }
     requires short { length begun.now ≤ most_bytes }
     ensures found { IfOk result (λ r. IsFoundFrom config.now scripts.now rules begun.now question.now turns more r.1.items r.0) }
+    ensures ended { IfOk result (λ r. IsEndedBy (P.over progress.new) r.0) }
     ensures fault { IfErr result (IsBegunFault config.now scripts.now rules begun.now) }
 {
     let choices = begun_choices(alloc, config, scripts, rules, begun)?;

@@ -1,9 +1,10 @@
--- What the run in the order of one seed comes to, and those of many.
-use Rattle.std.proofs.Common.{◌≡◌, ◌≤◌, ◌<◌, ◌+◌, ◌^◌, inl, inr, ℕ, List, Option, Some, None, length, take, ap, sym, subst, arith, Ok}
+-- What the run of one seed comes to, and those of many.
+use Rattle.std.proofs.Common.{◌≡◌, ◌∙◌, ◌≤◌, ◌<◌, ◌+◌, ◌^◌, ◌==◌, ◌⊎◌, inl, inr, ℕ, Bool, true, false, cond, List, [], Option, Some, None, length, take, ap, sym, subst, refl, arith, Ok}
+use Rattle.std.specs.Option.{IfSome}
 use Rattle.std.specs.Global.{Vec}
 use Rattle.std.specs.List.{All}
 use Rattle.std.proofs.lemmas.Bool.{cases_lt}
-use Rattle.std.proofs.lemmas.List.{length-map, length-take-le}
+use Rattle.std.proofs.lemmas.List.{length-map, length-take-le, take_all}
 use Rattle.std.proofs.lemmas.List.Elements.{All-take}
 use Rattle.fmp_calls.specs.Arguments.{EventInBits}
 use Rattle.fmp_codes.specs.Records.{AreOn, processor_of}
@@ -16,98 +17,170 @@ use Rattle.fmp_setup.specs.Setup.{Setup}
 use Rattle.fmp_setup.specs.Valid.{IsValid}
 use Rattle.fmp_rules.specs.Arrivals.{numbered}
 use Rattle.fmp_rules.specs.Boot.{booted}
-use Rattle.fmp_rules.specs.Step.{answers, replay}
+use Rattle.fmp_rules.specs.Step.{answers}
 use Rattle.fmp_trace.specs.Lines.{lines_from}
+use Rattle.fmp_trace_check.specs.Checking.{PrintsAnswers}
 use Rattle.fmp_search_question.specs.declared.question.Step.{Step}
-use Rattle.fmp_search_question.specs.Reading.{question_in}
-use Rattle.fmp_search_orders.specs.declared.rules.Rules.{Rules}
-use Rattle.fmp_search_showing.specs.Seen.{IsShownAt}
-use Rattle.fmp_show_state.specs.Waits.{waiting_lines}
+use Rattle.fmp_search_orders.proofs.Bits.{order_fits}
+use Rattle.fmp_search_random.specs.Drawn as drawn
+use Rattle.fmp_search_showing.proofs.Short.{question_short}
+use Rattle.fmp_smp_histories.specs.Histories.{events_of}
+use Rattle.fmp_world.specs.declared.finishing.Ended.{Ended}
 use Rattle.fmp_run_texts.proofs.Yes.{own_trace}
 use Rattle.fmp_run_texts.specs.Texts.{SaysConfig}
-use Rattle.fmp_run_seeds.specs.declared.seeking.SeedShown.{SeedShown}
-use Rattle.fmp_run_seeds.specs.Found.{AreOfSeed, ArePassed, IsFound, IsPassed, Seeks, Sought, Tries, rules_of}
+use Rattle.fmp_run_seeds.specs.declared.orders.SeedOrder.{SeedOrder}
+use Rattle.fmp_run_seeds.specs.declared.orders.SeedOrder.TheVariants.{InTurn, Drawn}
+use Rattle.fmp_run_seeds.specs.declared.orders.SeedRuns.{SeedRuns}
+use Rattle.fmp_run_seeds.specs.declared.seeking.SeedFound.{SeedFound}
+use Rattle.fmp_run_seeds.specs.declared.seeking.SeedSearch.{SeedSearch}
+use Rattle.fmp_run_seeds.specs.declared.seeking.SeedSearch.TheVariants as search
+use Rattle.fmp_run_seeds.specs.Orders.{AreOfSeed, IsRunOfSeed, is_quiet}
+use Rattle.fmp_run_seeds.specs.Found.{ArePassed, AsksFor, Comes, IsFound, IsPassed, Reaches, Seeks, Sought, Tries, is_stuck, waiting_after}
 
-module _ (seed ticks turns : ℕ) (c : Setup) (scripts : List Steps) (es : List Event) (run : AreOfSeed seed c scripts ticks turns es) (few_turns : turns ≤ 1000000) where
-  -- the events of a run are on its processors, and few
-  pub events_on : AreOn c.processors es
-  events_on = subst (AreOn c.processors) (sym run.3) run.2.run.run.on
+module _ (seed ticks turns : ℕ) (c : Setup) (scripts : List Steps) (es : List Event) (quiet : Bool) where
+  -- the events of a run are on its processors, as many as there may be at most, and within the bits of their kinds where the scripts' calls are
+  pub events_on : (order : SeedOrder) → AreOfSeed order seed c scripts ticks turns es quiet → AreOn c.processors es
+  events_on InTurn run = subst (AreOn c.processors) (sym run.3) run.2.run.run.on
+  events_on (Drawn drawing) run = subst (AreOn c.processors) (sym run.events_are) run.order.run.on
 
-  few : length es ≤ 1000000
-  few =
+  pub few : (order : SeedOrder) → AreOfSeed order seed c scripts ticks turns es quiet → length es ≤ turns
+  few InTurn run =
       let long = ap (λ (l : List Event). length l) run.3 in
       let within = run.2.run.within in
-      omega (arith, long, length-map run.0 (λ (r : Record). r.event), within, few_turns)
+      omega (arith, long, length-map run.0 (λ (r : Record). r.event), within)
+  few (Drawn drawing) run = run.within
 
-  pub few_events : length es < 2 ^ 32
-  few_events = let most = few in omega (arith, most)
+  pub fitting : (order : SeedOrder) → AreOfSeed order seed c scripts ticks turns es quiet → AreInBits scripts → All EventInBits es
+  fitting InTurn run fit = subst (All EventInBits) (sym run.3) (run.2.run.in_bits fit)
+  fitting (Drawn drawing) run fit =
+      subst (All EventInBits) (sym run.events_are) (order_fits c scripts (drawn.rules_of drawing ticks) fit run.records run.order.in_order)
 
-  fitting : AreInBits scripts → All EventInBits es
-  fitting fit = subst (All EventInBits) (sym run.3) (run.2.run.in_bits fit)
+module _ (runs : SeedRuns) (c : Setup) (scripts : List Steps) (asked : Option (List Step)) (seed : ℕ) (es : List Event) (at : Option ℕ) (comes : Comes runs c scripts asked seed es at)
+    (few_turns : runs.turns ≤ 1000000) where
+  comes_few : length es ≤ 1000000
+  comes_few = let short = few seed runs.ticks runs.turns c scripts es comes.quiet runs.order comes.run in omega (arith, short, few_turns)
 
-  -- so are the first of them
-  pub first_on : (n : ℕ) → AreOn c.processors (take n es)
-  first_on n = All-take (λ (e : Event). (processor_of e).number ≤ c.processors) n es events_on
+  comes_on : AreOn c.processors es
+  comes_on = events_on seed runs.ticks runs.turns c scripts es comes.quiet runs.order comes.run
 
-  first_few : (n : ℕ) → n ≤ length es → length (take n es) ≤ 1000000
-  first_few n within = let most = few in let long = length-take-le n es within in omega (arith, most, long, within)
+  comes_fitting : AreInBits scripts → All EventInBits es
+  comes_fitting = fitting seed runs.ticks runs.turns c scripts es comes.quiet runs.order comes.run
 
-  pub few_first : (n : ℕ) → n ≤ length es → length (take n es) < 2 ^ 32
-  few_first n within = let most = first_few n within in omega (arith, most)
+  module _ (n : ℕ) (within : n ≤ length es) where
+    -- so are the first of them
+    pub first_on : AreOn c.processors (take n es)
+    first_on = All-take (λ (e : Event). (processor_of e).number ≤ c.processors) n es comes_on
 
-  module _ (question : List Step) where
-    pub passed_by : IsShownAt c (rules_of ticks) question es None → IsPassed c scripts ticks turns question seed
-    passed_by never = (es, run, never)
+    pub first_few : length (take n es) ≤ 1000000
+    first_few = let most = comes_few in let long = length-take-le n es within in omega (arith, most, long)
 
-    pub found_by : (line : ℕ) (waiting text : List ℕ) → IsShownAt c (rules_of ticks) question es (Some line) → IsValid c → AreValid c.names → AreInBits scripts
-        → text ≡ lines_from c.names 1 (answers numbered (booted c) (take line es)) → waiting ≡ waiting_lines c.names (replay numbered (booted c) (take line es))
-        → IsFound c scripts ticks turns question text seed line waiting
-    found_by line waiting text shown valid names_valid fit prints tells = record {
-      events = es;
-      run = run;
-      shown = shown;
-      answers = own_trace c text (take line es) valid names_valid (first_on line) (All-take EventInBits line es (fitting fit)) (first_few line shown.0) prints;
-      tells = tells;
-    }
+    -- the trace of the first of them
+    pub first_trace : (text : List ℕ) → IsValid c → AreValid c.names → AreInBits scripts → text ≡ lines_from c.names 1 (answers numbered (booted c) (take n es))
+        → PrintsAnswers c text (take n es)
+    first_trace text valid names_valid fit prints =
+        own_trace c text (take n es) valid names_valid first_on (All-take EventInBits n es (comes_fitting fit)) first_few prints
 
--- what was found, by the same rules
-pub shown_here : (c : Setup) (rules rules' : Rules) (question : List Step) (es : List Event) (found found' : Option ℕ) → rules ≡ rules' → found ≡ found'
-    → IsShownAt c rules question es found → IsShownAt c rules' question es found'
-shown_here c rules rules' question es found found' same is shown =
-    subst (IsShownAt c rules' question es) is (subst (λ (r : Rules). IsShownAt c r question es found) same shown)
+-- ---- a run in turn
 
--- one seed more whose run does not show it
-pub one_more : (c : Setup) (scripts : List Steps) (ticks turns : ℕ) (question : List Step) (first next : ℕ) → ArePassed c scripts ticks turns question first next
-    → IsPassed c scripts ticks turns question next → ArePassed c scripts ticks turns question first (next + 1)
-one_more c scripts ticks turns question first next before is seed least small = elim (cases_lt seed next) [
+-- it is not what is looked for where something is left to do or nobody waits
+pub not_stuck : (quiet : Bool) (waiting : List ℕ) → (quiet ≡ false) ⊎ ((length waiting == 0) ≡ true) → is_stuck quiet waiting ≡ false
+not_stuck false waiting free = refl
+not_stuck true waiting (inl is) = cc
+not_stuck true waiting (inr is) = rw is refl
+
+pub stuck_so : (quiet : Bool) (waiting : List ℕ) → quiet ≡ true → (length waiting == 0) ≡ false → is_stuck quiet waiting ≡ true
+stuck_so quiet waiting is some = rw (is, some) refl
+
+module _ (runs : SeedRuns) (c : Setup) (scripts : List Steps) (seed : ℕ) (in_turn : runs.order ≡ InTurn) (h : List Record) (ended : Ended)
+    (run : IsRunOfSeed seed c scripts runs.ticks runs.turns h ended) (waiting : List ℕ) (tells : waiting ≡ waiting_after c (events_of h)) where
+  of_turn : AreOfSeed runs.order seed c scripts runs.ticks runs.turns (events_of h) (is_quiet ended)
+  of_turn =
+      subst (λ (o : SeedOrder). AreOfSeed o seed c scripts runs.ticks runs.turns (events_of h) (is_quiet ended)) (sym in_turn) (h, ended, run, refl, refl)
+
+  at_so : (b : Bool) → is_stuck (is_quiet ended) waiting ≡ b
+      → cond b (Some (length (events_of h))) None ≡ cond (is_stuck (is_quiet ended) (waiting_after c (events_of h))) (Some (length (events_of h))) None
+  at_so b is = ap (λ (x : Bool). cond x (Some (length (events_of h))) None) (sym is ∙ ap (is_stuck (is_quiet ended)) tells)
+
+  pub turn_passes : is_stuck (is_quiet ended) waiting ≡ false → IsPassed runs c scripts None seed
+  turn_passes free = (events_of h, record { quiet = is_quiet ended; run = of_turn; is_at = at_so false free })
+
+  pub turn_reaches : (front : Vec Event) → front.items ≡ events_of h → is_stuck (is_quiet ended) waiting ≡ true → Reaches runs c scripts None seed (Some front)
+  turn_reaches front is stuck = (
+    events_of h,
+    length (events_of h),
+    record { quiet = is_quiet ended; run = of_turn; is_at = at_so true stuck },
+    omega arith,
+    is ∙ sym (take_all (length (events_of h)) (events_of h) (omega arith)),
+  )
+
+-- a question that was read is short
+pub asked_short : (names : NameLists) (text : Option (List ℕ)) (asked : Option (List Step)) → AsksFor names text asked → IfSome asked (λ q. length q ≤ 255)
+asked_short names None None asks = tt
+asked_short names None (Some question) asks = absurd asks
+asked_short names (Some text) None asks = absurd asks
+asked_short names (Some text) (Some question) asks = question_short names text question asks
+
+-- the front of a run that comes to what is looked for: on the processors, few, and with its trace and its waiting tasks what was found
+module _ (runs : SeedRuns) (c : Setup) (scripts : List Steps) (asked : Option (List Step)) (seed : ℕ) (front : Vec Event) (reaches : Reaches runs c scripts asked seed (Some front))
+    (few_turns : runs.turns ≤ 1000000) where
+  is_front : front.items ≡ take reaches.1 reaches.0
+  is_front = reaches.4
+
+  pub front_on : AreOn c.processors front.items
+  front_on = subst (AreOn c.processors) (sym is_front) (first_on runs c scripts asked seed reaches.0 (Some reaches.1) reaches.2 few_turns reaches.1 reaches.3)
+
+  pub front_few : length front.items < 2 ^ 32
+  front_few =
+      let most = subst (λ (l : List Event). length l ≤ 1000000) (sym is_front) (first_few runs c scripts asked seed reaches.0 (Some reaches.1) reaches.2 few_turns reaches.1 reaches.3) in
+      omega (arith, most)
+
+  pub front_found : (text waiting : List ℕ) (line : ℕ) → line ≡ length front.items → IsValid c → AreValid c.names → AreInBits scripts
+      → text ≡ lines_from c.names 1 (answers numbered (booted c) front.items) → waiting ≡ waiting_after c front.items
+      → IsFound runs c scripts asked text seed line waiting
+  front_found text waiting line is valid names_valid fit prints tells =
+      let at : line ≡ reaches.1 = is ∙ ap (λ (l : List Event). length l) is_front ∙ length-take-le reaches.1 reaches.0 reaches.3 in
+      subst (λ (n : ℕ). IsFound runs c scripts asked text seed n waiting) (sym at)
+      (record {
+        events = reaches.0;
+        comes = reaches.2;
+        within = reaches.3;
+        answers = first_trace runs c scripts asked seed reaches.0 (Some reaches.1) reaches.2 few_turns reaches.1 reaches.3 text valid names_valid fit
+            (prints ∙ ap (λ (l : List Event). lines_from c.names 1 (answers numbered (booted c) l)) is_front);
+        tells = tells ∙ ap (waiting_after c) is_front;
+      })
+
+-- one seed more whose run is not looked for
+pub one_more : (runs : SeedRuns) (c : Setup) (scripts : List Steps) (asked : Option (List Step)) (first next : ℕ) → ArePassed runs c scripts asked first next
+    → IsPassed runs c scripts asked next → ArePassed runs c scripts asked first (next + 1)
+one_more runs c scripts asked first next before is seed least small = elim (cases_lt seed next) [
   | inl less ↦ before seed least less
   | inr past ↦
       let same : next ≡ seed = omega arith in
-      subst (IsPassed c scripts ticks turns question) same is
+      subst (IsPassed runs c scripts asked) same is
 ]
 
 -- what was read, and what is written of it
-pub sought_by : (c : Setup) (scripts : List Steps) (config_text script_text question_text : List ℕ) (names : NameLists) (question : List Step) (ticks turns first last : ℕ)
-    (output : List ℕ) (found : Option SeedShown) → SaysConfig config_text c → SpellsScripts c.names script_text scripts → names ≡ c.names
-    → question_in names question_text ≡ Ok question → Seeks c scripts ticks turns question first last output found
-    → Sought config_text script_text question_text ticks turns first last output found
-sought_by c scripts config_text script_text question_text names question ticks turns first last output found says spells same asks seeks = record {
+pub sought_by : (c : Setup) (scripts : List Steps) (config_text script_text : List ℕ) (question_text : Option (List ℕ)) (names : NameLists) (asked : Option (List Step)) (runs : SeedRuns)
+    (first last : ℕ) (output : List ℕ) (found : SeedSearch) → SaysConfig config_text c → SpellsScripts c.names script_text scripts → names ≡ c.names
+    → AsksFor names question_text asked → Seeks runs c scripts asked first last output found
+    → Sought config_text script_text question_text runs first last output found
+sought_by c scripts config_text script_text question_text names asked runs first last output found says spells same asks seeks = record {
   config = c;
   scripts = scripts;
-  question = question;
+  asked = asked;
   says = says;
   spells = spells;
-  asks = subst (λ (l : NameLists). question_in l question_text ≡ Ok question) same asks;
+  asks = subst (λ (l : NameLists). AsksFor l question_text asked) same asks;
   seeks = seeks;
 }
 
--- the run of this seed is such a one, and those before it are not
-pub is_first : (c : Setup) (scripts : List Steps) (ticks turns : ℕ) (question : List Step) (first last seed : ℕ) (found : SeedShown × Vec ℕ)
-    → Tries c scripts ticks turns question seed (Some found) → first ≤ seed → seed ≤ last → ArePassed c scripts ticks turns question first seed
-    → Seeks c scripts ticks turns question first last found.1.items (Some found.0)
-is_first c scripts ticks turns question first last seed found (is, same) low high before = (
-  subst (λ (s : ℕ). IsFound c scripts ticks turns question found.1.items s found.0.line found.0.waiting.items) (sym same) is,
+-- the run of this seed is looked for, and those before it are not
+pub is_first : (runs : SeedRuns) (c : Setup) (scripts : List Steps) (asked : Option (List Step)) (first last seed : ℕ) (found : SeedFound × Vec ℕ)
+    → Tries runs c scripts asked seed (Some found) → first ≤ seed → seed ≤ last → ArePassed runs c scripts asked first seed
+    → Seeks runs c scripts asked first last found.1.items (search.Found found.0)
+is_first runs c scripts asked first last seed found (is, same) low high before = (
+  subst (λ (s : ℕ). IsFound runs c scripts asked found.1.items s found.0.line found.0.waiting.items) (sym same) is,
   omega (arith, same, low),
   omega (arith, same, high),
-  subst (ArePassed c scripts ticks turns question first) (sym same) before,
+  subst (ArePassed runs c scripts asked first) (sym same) before,
 )

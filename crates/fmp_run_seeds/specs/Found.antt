@@ -1,8 +1,9 @@
--- What the runs in the orders of seeds come to, one seed after the other, where one is looked for that shows what a question asks.
-use Rattle.std.specs.Prelude.{◌≡◌, ℕ, ◌+◌, ◌≤◌, ◌<◌, true, List, [], ◌++◌, take, Option, None, Some, Ok}
+-- What the runs of seeds come to, one seed after the other, where one is looked for: one that shows what a question asks, or else one at whose end
+-- nothing is left to do and a task waits.
+use Rattle.std.specs.Prelude.{◌≡◌, ◌==◌, ℕ, ◌+◌, ◌≤◌, ◌<◌, Bool, true, false, not, ◌&&◌, List, [], ◌++◌, length, take, Option, None, Some, Ok, if◌then◌else◌}
 use Rattle.std.specs.Global.{Vec}
 use Rattle.fmp_codes.specs.declared.records.Event.{Event}
-use Rattle.fmp_codes.specs.declared.records.Record.{Record}
+use Rattle.fmp_names.specs.Names.{NameLists}
 use Rattle.fmp_setup.specs.Setup.{Setup}
 use Rattle.fmp_rules.specs.Arrivals.{numbered}
 use Rattle.fmp_rules.specs.Boot.{booted}
@@ -10,82 +11,127 @@ use Rattle.fmp_rules.specs.Step.{replay}
 use Rattle.fmp_text_scripts.specs.ScriptGrammar.{SpellsScripts}
 use Rattle.fmp_text_scripts.specs.Scripts.{Steps}
 use Rattle.fmp_trace_check.specs.Checking.{PrintsAnswers}
-use Rattle.fmp_world.specs.declared.finishing.Ended.{Ended}
-use Rattle.fmp_smp_histories.specs.Histories.{events_of}
 use Rattle.fmp_run_devices.specs.Devices.{BeginsWith}
 use Rattle.fmp_search_question.specs.declared.question.Step.{Step}
 use Rattle.fmp_search_question.specs.Reading.{question_in}
-use Rattle.fmp_search_orders.specs.declared.rules.Rules.{Rules}
 use Rattle.fmp_search_showing.specs.Seen.{IsShownAt}
 use Rattle.fmp_show_state.specs.Waits.{waiting_lines}
 use Rattle.fmp_run_texts.specs.declared.status.Status.{Status}
-use Rattle.fmp_run_texts.specs.declared.status.Status.TheVariants.{Done, Different}
+use Rattle.fmp_run_texts.specs.declared.status.Status.TheVariants.{Done, Different, Limit, Waiting}
 use Rattle.fmp_run_texts.specs.Texts.{SaysConfig}
-use Rattle.fmp_run_smp.specs.Sought.{IsRunOfSeed}
-use Rattle.fmp_run_seeds.specs.declared.seeking.SeedShown.{SeedShown}
+use Rattle.fmp_run_explore.specs.declared.fault.ExploreFault.{ExploreFault}
+use Rattle.fmp_run_explore.specs.declared.fault.ExploreFault.TheVariants.{Run, Question}
+use Rattle.fmp_run_explore.specs.Faults as faults
+use Rattle.fmp_run_seeds.specs.declared.orders.SeedRuns.{SeedRuns}
+use Rattle.fmp_run_seeds.specs.declared.seeking.SeedFound.{SeedFound}
+use Rattle.fmp_run_seeds.specs.declared.seeking.SeedSearch.{SeedSearch}
+use Rattle.fmp_run_seeds.specs.declared.seeking.SeedSearch.TheVariants as search
+use Rattle.fmp_run_seeds.specs.Orders.{AreOfSeed, rules_of}
 
--- how processors follow scripts: each takes so many ticks, and a request before its next call
-abbrev pub rules_of : ℕ → Rules
-rules_of ticks = record { ticks = Some ticks; prompt = true; drift = None }
+-- the lines of the tasks that wait after these events
+abbrev pub waiting_after : Setup → List Event → List ℕ
+waiting_after c events = waiting_lines c.names (replay numbered (booted c) events)
 
--- these are the events of a run by the scripts in the order of a seed
-abbrev pub AreOfSeed : ℕ → Setup → List Steps → ℕ → ℕ → List Event → Type 0
-AreOfSeed seed c scripts ticks turns events = (h : List Record) × (ended : Ended) × IsRunOfSeed seed c scripts ticks turns h ended × (events ≡ events_of h)
+-- nothing is left to do, and these lines tell of a task that waits
+abbrev pub is_stuck : Bool → List ℕ → Bool
+is_stuck quiet waiting = quiet && not (length waiting == 0)
 
--- what is answered in the run of this seed does not show what is asked
-abbrev pub IsPassed : Setup → List Steps → ℕ → ℕ → List Step → ℕ → Type 0
-IsPassed c scripts ticks turns question seed =
-    (events : List Event) × AreOfSeed seed c scripts ticks turns events × IsShownAt c (rules_of ticks) question events None
+-- after how many events of a run it is what is looked for: after the fewest whose answers show the question, or else after all of them
+abbrev pub IsAt : SeedRuns → Setup → Option (List Step) → List Event → Bool → Option ℕ → Type 0
+IsAt runs c (Some question) events quiet at = IsShownAt c (rules_of runs.order runs.ticks) question events at
+IsAt runs c None events quiet at = at ≡ (if is_stuck quiet (waiting_after c events) then Some (length events) else None)
 
--- nor do those of the seeds from the first one up to this
-abbrev pub ArePassed : Setup → List Steps → ℕ → ℕ → List Step → ℕ → ℕ → Type 0
-ArePassed c scripts ticks turns question first end = (seed : ℕ) → first ≤ seed → seed < end → IsPassed c scripts ticks turns question seed
+-- the run of a seed, and after how many of its events it is what is looked for
+pub record Comes (runs : SeedRuns) (c : Setup) (scripts : List Steps) (asked : Option (List Step)) (seed : ℕ) (events : List Event) (at : Option ℕ) : Type 0 where
+  pub quiet : Bool
+  pub run : AreOfSeed runs.order seed c scripts runs.ticks runs.turns events quiet
+  pub is_at : IsAt runs c asked events quiet at
 
--- the run of this seed shows what is asked at this line for the first time, the text is the trace of this machine's answers up to
--- that line, and within the limits of texts, and these lines tell the tasks that wait behind it
-pub record IsFound (c : Setup) (scripts : List Steps) (ticks turns : ℕ) (question : List Step) (text : List ℕ) (seed line : ℕ) (waiting : List ℕ) : Type 0 where
+-- the run of this seed is not what is looked for
+abbrev pub IsPassed : SeedRuns → Setup → List Steps → Option (List Step) → ℕ → Type 0
+IsPassed runs c scripts asked seed = (events : List Event) × Comes runs c scripts asked seed events None
+
+-- nor are those of the seeds from the first one up to this
+abbrev pub ArePassed : SeedRuns → Setup → List Steps → Option (List Step) → ℕ → ℕ → Type 0
+ArePassed runs c scripts asked first end = (seed : ℕ) → first ≤ seed → seed < end → IsPassed runs c scripts asked seed
+
+-- the events of the run of this seed up to where it is what is looked for, or it is not
+abbrev pub Reaches : SeedRuns → Setup → List Steps → Option (List Step) → ℕ → Option (Vec Event) → Type 0
+Reaches runs c scripts asked seed None = IsPassed runs c scripts asked seed
+Reaches runs c scripts asked seed (Some front) =
+    (events : List Event) × (at : ℕ) × Comes runs c scripts asked seed events (Some at) × (at ≤ length events) × (front.items ≡ take at events)
+
+-- the run of this seed is what is looked for after so many lines, the text is the trace of this machine's answers up to there, and within the
+-- limits of texts, and these lines tell the tasks that wait there
+pub record IsFound (runs : SeedRuns) (c : Setup) (scripts : List Steps) (asked : Option (List Step)) (text : List ℕ) (seed line : ℕ) (waiting : List ℕ) : Type 0 where
   pub events : List Event
-  pub run : AreOfSeed seed c scripts ticks turns events
-  pub shown : IsShownAt c (rules_of ticks) question events (Some line)
+  pub comes : Comes runs c scripts asked seed events (Some line)
+  pub within : line ≤ length events
   pub answers : PrintsAnswers c text (take line events)
-  pub tells : waiting ≡ waiting_lines c.names (replay numbered (booted c) (take line events))
+  pub tells : waiting ≡ waiting_after c (take line events)
 
--- the run of a seed is such a one, of which this is told and written, or it does not show what is asked
-abbrev pub Tries : Setup → List Steps → ℕ → ℕ → List Step → ℕ → Option (SeedShown × Vec ℕ) → Type 0
-Tries c scripts ticks turns question seed None = IsPassed c scripts ticks turns question seed
-Tries c scripts ticks turns question seed (Some found) =
-    IsFound c scripts ticks turns question found.1.items seed found.0.line found.0.waiting.items × (found.0.seed ≡ seed)
+-- the run of a seed is such a one, of which this is told and written, or it is not
+abbrev pub Tries : SeedRuns → Setup → List Steps → Option (List Step) → ℕ → Option (SeedFound × Vec ℕ) → Type 0
+Tries runs c scripts asked seed None = IsPassed runs c scripts asked seed
+Tries runs c scripts asked seed (Some found) =
+    IsFound runs c scripts asked found.1.items seed found.0.line found.0.waiting.items × (found.0.seed ≡ seed)
 
--- what is known of the seeds from the first to the last, both included, and the text that is written of it: the first whose run shows what
--- is asked is this one, or there is none
-abbrev pub Seeks : Setup → List Steps → ℕ → ℕ → List Step → ℕ → ℕ → List ℕ → Option SeedShown → Type 0
-Seeks c scripts ticks turns question first last text None = ArePassed c scripts ticks turns question first (last + 1) × (text ≡ [])
-Seeks c scripts ticks turns question first last text (Some found) =
-    IsFound c scripts ticks turns question text found.seed found.line found.waiting.items × (first ≤ found.seed) × (found.seed ≤ last)
-    × ArePassed c scripts ticks turns question first found.seed
+-- what is known of the seeds from the first to the last, both included, and the text that is written of it: the first whose run is what is
+-- looked for is this one, there is none, or there is none up to the one after which the search was ended
+abbrev pub Seeks : SeedRuns → Setup → List Steps → Option (List Step) → ℕ → ℕ → List ℕ → SeedSearch → Type 0
+Seeks runs c scripts asked first last text (search.Found found) =
+    IsFound runs c scripts asked text found.seed found.line found.waiting.items × (first ≤ found.seed) × (found.seed ≤ last)
+    × ArePassed runs c scripts asked first found.seed
+Seeks runs c scripts asked first last text search.Passed = ArePassed runs c scripts asked first (last + 1) × (text ≡ [])
+Seeks runs c scripts asked first last text (search.Ended seed) =
+    ArePassed runs c scripts asked first (seed + 1) × (first ≤ seed) × (seed < last) × (text ≡ [])
+
+-- where the search was ended, who may end it did
+abbrev pub IsEndedBy : Bool → SeedSearch → Type 0
+IsEndedBy over (search.Found found) = Unit {0}
+IsEndedBy over search.Passed = Unit {0}
+IsEndedBy over (search.Ended seed) = over ≡ true
+
+-- what a text asks, where there is one
+abbrev pub AsksFor : NameLists → Option (List ℕ) → Option (List Step) → Type 0
+AsksFor names None None = Unit {0}
+AsksFor names None (Some question) = ⊥
+AsksFor names (Some text) None = ⊥
+AsksFor names (Some text) (Some question) = question_in names text ≡ Ok question
+
+-- a question was not read: it has this first fault for these names, or memory ran out
+abbrev pub IsNoQuestion : NameLists → Option (List ℕ) → ExploreFault → Type 0
+IsNoQuestion names (Some text) fault = faults.IsNoQuestion names text fault
+IsNoQuestion names None fault = ⊥
+
+-- a fault of the question is its first one, and there is none without a question
+abbrev pub IsQuestionFault : List ℕ → Option (List ℕ) → ExploreFault → Type 0
+IsQuestionFault config_text (Some text) fault = faults.IsQuestionFault config_text text fault
+IsQuestionFault config_text None (Run fault) = Unit {0}
+IsQuestionFault config_text None (Question fault place) = ⊥
 
 -- the same of the one text's machine by the other's scripts, and what the third asks
-pub record Sought (config_text script_text question_text : List ℕ) (ticks turns first last : ℕ) (output : List ℕ) (found : Option SeedShown) : Type 0 where
+pub record Sought (config_text script_text : List ℕ) (question_text : Option (List ℕ)) (runs : SeedRuns) (first last : ℕ) (output : List ℕ) (found : SeedSearch) : Type 0 where
   pub config : Setup
   pub scripts : List Steps
-  pub question : List Step
+  pub asked : Option (List Step)
   pub says : SaysConfig config_text config
   pub spells : SpellsScripts config.names script_text scripts
-  pub asks : question_in config.names question_text ≡ Ok question
-  pub seeks : Seeks config scripts ticks turns question first last output found
+  pub asks : AsksFor config.names question_text asked
+  pub seeks : Seeks runs config scripts asked first last output found
 
 -- the output was written after old, all of it
-abbrev pub IsSought : List ℕ → List ℕ → List ℕ → ℕ → ℕ → ℕ → ℕ → List ℕ → List ℕ → Option SeedShown → Type 0
-IsSought config_text script_text question_text ticks turns first last old new found =
-    (output : List ℕ) × Sought config_text script_text question_text ticks turns first last output found × (new ≡ old ++ output)
+abbrev pub IsSought : List ℕ → List ℕ → Option (List ℕ) → SeedRuns → ℕ → ℕ → List ℕ → List ℕ → SeedSearch → Type 0
+IsSought config_text script_text question_text runs first last old new found =
+    (output : List ℕ) × Sought config_text script_text question_text runs first last output found × (new ≡ old ++ output)
 
 -- a beginning of such an output was written after old
-abbrev pub IsBegun : List ℕ → List ℕ → List ℕ → ℕ → ℕ → ℕ → ℕ → List ℕ → List ℕ → Type 0
-IsBegun config_text script_text question_text ticks turns first last old new =
-    (output : List ℕ) × (found : Option SeedShown) × Sought config_text script_text question_text ticks turns first last output found
-    × BeginsWith old output new
+abbrev pub IsBegun : List ℕ → List ℕ → Option (List ℕ) → SeedRuns → ℕ → ℕ → List ℕ → List ℕ → Type 0
+IsBegun config_text script_text question_text runs first last old new =
+    (output : List ℕ) × (found : SeedSearch) × Sought config_text script_text question_text runs first last output found × BeginsWith old output new
 
--- how the program ends after it
-abbrev pub status_of_found : Option SeedShown → Status
-status_of_found None = Done
-status_of_found (Some found) = Different
+-- how the program ends after it, where a question was asked or was not
+abbrev pub status_of : Bool → SeedSearch → Status
+status_of asked (search.Found found) = if asked then Different else Waiting
+status_of asked search.Passed = Done
+status_of asked (search.Ended seed) = Limit

@@ -1,1 +1,2 @@
-pub mod Found  -- What the runs in the orders of seeds come to, where one is looked for that shows what a question asks.
+pub mod Orders  -- The runs of seeds: processors take turns as a seed says, or a seed draws one of all orders.
+pub mod Found  -- What the runs of seeds come to, where one is looked for.

@@ -1,14 +1,19 @@
-//! The runs in the orders of seeds, one after the other, up to the first that shows what a question asks.
+//! The runs of seeds, one after the other, up to the first that is looked for: that shows what a question asks, or else at whose end nothing is left
+//! to do and a task waits.
 //!
-//! [`run_seeds_find`] reads a configuration, scripts and the question, and writes the trace of the run that it found. What is known of it and of
-//! the seeds before it is `Sought` in `specs/Found`: begin there. When a run shows a question is in `fmp_search_orders`, and what the run of a
-//! seed is in `fmp_smp`.
+//! [`run_seeds`] reads a configuration, scripts and the question, and writes the trace of the run that it found. What is known of it and of
+//! the seeds before it is `Sought` in `specs/Found`: begin there. What the run of a seed is stands in `specs/Orders`, and when a run shows a question in
+//! `fmp_search_orders`.
 #![tactic(auto)]
 
+mod orders;
+mod progress;
 mod run;
 mod seeking;
 
 pub use fmp_run_explore::{ExploreFault, QuestionLine};
-pub use fmp_run_smp::SeedProgress;
-pub use run::{run_seeds_find, status_of_found};
-pub use seeking::SeedShown;
+pub use fmp_search_random::Drawing;
+pub use orders::{SeedOrder, SeedRuns};
+pub use progress::SeedProgress;
+pub use run::run_seeds;
+pub use seeking::{SeedFound, SeedSearch};

@@ -1,93 +1,167 @@
-//! One seed after the other, up to the first whose run shows what is asked.
-ghost use Rattle.std.specs.Prelude.{◌≡◌, ◌≤◌, ◌<◌, ◌^◌, length, IfOk};
+//! One seed after the other, up to the first whose run is looked for.
+ghost use Rattle.std.specs.Prelude.{◌≡◌, ◌≤◌, ◌<◌, ◌^◌, ◌&&◌, ◌==◌, not, None, List, length, IfOk, IfSome, OnOk};
 ghost use Rattle.fmp_codes.specs.Records.{AreOn};
 ghost use Rattle.fmp_rules.specs.Arrivals.{numbered};
 ghost use Rattle.fmp_rules.specs.Boot.{booted};
-ghost use Rattle.fmp_rules.specs.Step.{answers, replay};
-ghost use Rattle.fmp_show_state.specs.Waits.{waiting_lines};
+ghost use Rattle.fmp_rules.specs.Step.{answers};
+ghost use Rattle.fmp_search_question.specs.declared.question.Step.{Step};
 ghost use Rattle.fmp_trace.specs.Lines.{lines_from};
-ghost use Rattle.fmp_smp_histories.specs.Histories as histories;
 ghost use Rattle.fmp_text_scripts.specs.Scripts.{AreInBits};
 ghost use Rattle.fmp_run_seeds.specs.Found as spec;
-ghost use Rattle.fmp_run_seeds.specs.Found.{Seeks};
+ghost use Rattle.fmp_run_seeds.specs.Found.{IsAt, IsEndedBy, Seeks};
 
+use crate::orders::{SeedOrder, SeedRuns, events_of, is_quiet, run_of_seed};
+use crate::progress::SeedProgress;
 use fmp_codes::{Answer, Event, Proc, Record};
 use fmp_kernel::Kernel;
 use fmp_rules::Config;
-use fmp_run_smp::SeedProgress;
-use fmp_search_orders::Rules;
+use fmp_run_texts::Status;
 use fmp_search_question::Question;
 use fmp_search_showing::shown_at;
 use fmp_show_state::put_waiting;
 use fmp_smp::run_seeded;
 use fmp_text_scripts::Scripts;
 use fmp_trace::put_line;
-use fmp_world::History;
 use std::alloc::{AllocError, Global};
 
-/// A seed whose run shows what is asked.
+/// A seed whose run is looked for.
 #[derive(Drop)]
-pub struct SeedShown {
+pub struct SeedFound {
     pub seed: u64,
-    /// The line of its trace that shows it.
+    /// The line of its trace that shows what is asked, and without a question its last one.
     pub line: usize,
-    /// A line for each task that waits behind that line.
+    /// A line for each task that waits after that line.
     pub waiting: Vec<u8>,
 }
 
-/// How processors follow scripts: each takes so many ticks, and a request before its next call.
-fn rules_of(ticks: u32) -> Rules
-    ensures { result ≡ spec.rules_of ticks }
-{
-    Rules {
-        ticks: Some(ticks),
-        prompt: true,
-        drift: None,
+/// What came of the runs of seeds.
+#[derive(Drop)]
+pub enum SeedSearch {
+    /// The run of this seed is looked for, and no earlier one's.
+    Found(SeedFound),
+    /// No run of these seeds is.
+    Passed,
+    /// The search was ended after the run of this seed. None is up to it.
+    Ended(u64),
+}
+
+impl SeedSearch {
+    ghost use Rattle.std.specs.Prelude.{◌≡◌};
+    ghost use Rattle.fmp_run_seeds.specs.Found as spec;
+
+    /// How the program ends after it, where a question was asked or was not.
+    pub fn status(&self, asked: bool) -> Status
+        ensures { result ≡ spec.status_of asked self.now }
+    {
+        match self {
+            SeedSearch::Found(_) if asked => Status::Different,
+            SeedSearch::Found(_) => Status::Waiting,
+            SeedSearch::Passed => Status::Done,
+            SeedSearch::Ended(_) => Status::Limit,
+        }
     }
 }
 
-/// The events of a history, whose records are made again one after the other. The error is want of memory.
-fn events_of(alloc: Global, history: &History<'_>) -> Result<Vec<Event>, AllocError>
-    ensures { IfOk result (λ v. v.items ≡ histories.events_of history.now.records) }
+/// A line for each task that waits after these events. The error is want of memory.
+fn waiting_after(alloc: Global, config: &Config, events: &[Event]) -> Result<Vec<u8>, AllocError>
+    requires { AreOn config.now.processors events.now }
+    ensures { IfOk result (λ v. v.items ≡ spec.waiting_after config.now events.now) }
 {
-    let mut replay = history.replay(alloc)?;
+    let mut kernel = Kernel::boot(config)?;
     let mut told = Record::answer(Event::Tick(Proc::new(1)), None, Answer::Nothing);
-    let mut events = Vec::new(alloc);
-    while replay.next(&mut told) {
-        events.push(told.event)?;
+    for event in events {
+        kernel.step_into(*event, &mut told);
     }
-    Ok(events)
+    let mut waiting = Vec::new(alloc);
+    put_waiting(&mut waiting, config.names(), &kernel)?;
+    Ok(waiting)
 }
 
-/// The events of the run in the order of a seed. The error is want of memory.
-fn seeded_events(
+/// After how many events a run is what is looked for. The error is want of memory.
+fn place_in(
+    alloc: Global,
+    config: &Config,
+    question: &Option<Question>,
+    runs: SeedRuns,
+    events: &[Event],
+    is_quiet: bool,
+) -> Result<Option<usize>, AllocError>
+    requires short { IfSome question.now (λ q. length q ≤ 255) }
+    requires on { AreOn config.now.processors events.now }
+    requires few { length events.now < 2 ^ 32 }
+    ensures { IfOk result (IsAt runs config.now question.now events.now is_quiet) }
+{
+    if let Some(question) = question {
+        return shown_at(config, runs.rules(), question, events);
+    }
+    if !is_quiet {
+        return Ok(None);
+    }
+    let waiting = waiting_after(alloc, config, events)?;
+    if waiting.is_empty() {
+        Ok(None)
+    } else {
+        Ok(Some(events.len()))
+    }
+}
+
+/// The events of the run of a seed in which processors take turns, if it ends quiet while a task waits. The error is want of memory.
+fn stuck_in_turn(
     alloc: Global,
     config: &Config,
     scripts: &Scripts,
-    ticks: u32,
-    turns: u32,
+    runs: SeedRuns,
     seed: u64,
-) -> Result<Vec<Event>, AllocError>
-    requires ticks { ticks ≤ 1000000 }
-    requires least { 1 ≤ turns }
-    requires most { turns ≤ 1000000 }
-    ensures { IfOk result (λ v. spec.AreOfSeed seed config.now scripts.now ticks turns v.items) }
+) -> Result<Option<Vec<Event>>, AllocError>
+    requires in_turn { runs.order ≡ SeedOrder.InTurn }
+    requires ticks { runs.ticks ≤ 1000000 }
+    requires least { 1 ≤ runs.turns }
+    requires most { runs.turns ≤ 1000000 }
+    ensures { IfOk result (spec.Reaches runs config.now scripts.now None seed) }
 {
-    let run = run_seeded(alloc, config, scripts, ticks, turns, seed)?;
-    let events = events_of(alloc, &run.history)?;
-    Ok(events)
+    let run = run_seeded(alloc, config, scripts, runs.ticks, runs.turns, seed)?;
+    let mut waiting = Vec::new(alloc);
+    put_waiting(&mut waiting, config.names(), run.history.last())?;
+    let lines = waiting.as_slice();
+    if !is_quiet(run.ended) || lines.is_empty() {
+        return Ok(None);
+    }
+    Ok(Some(events_of(alloc, &run.history)?))
 }
 
-/// The trace of what the machine answers to these events, and a line for each task that waits behind them. The error is want of memory.
-fn traced(
+/// The events of the run of a seed up to where it is what is looked for, if it is. The error is want of memory.
+fn reached(
     alloc: Global,
     config: &Config,
-    events: &[Event],
-) -> Result<(Vec<u8>, Vec<u8>), AllocError>
+    scripts: &Scripts,
+    question: &Option<Question>,
+    runs: SeedRuns,
+    seed: u64,
+) -> Result<Option<Vec<Event>>, AllocError>
+    requires ticks { runs.ticks ≤ 1000000 }
+    requires least { 1 ≤ runs.turns }
+    requires most { runs.turns ≤ 1000000 }
+    requires short { IfSome question.now (λ q. length q ≤ 255) }
+    ensures { IfOk result (spec.Reaches runs config.now scripts.now question.now seed) }
+{
+    if let (None, SeedOrder::InTurn) = (question, runs.order) {
+        return stuck_in_turn(alloc, config, scripts, runs, seed);
+    }
+    let mut run = run_of_seed(alloc, config, scripts, runs, seed)?;
+    let events = run.events.as_slice();
+    let found = place_in(alloc, config, question, runs, events, run.is_quiet)?;
+    let Some(at) = found else {
+        return Ok(None);
+    };
+    run.events.truncate(at);
+    Ok(Some(run.events))
+}
+
+/// The trace of what the machine answers to these events. The error is want of memory.
+fn traced(alloc: Global, config: &Config, events: &[Event]) -> Result<Vec<u8>, AllocError>
     requires on { AreOn config.now.processors events.now }
     requires few { length events.now < 2 ^ 32 }
-    ensures text { IfOk result (λ r. r.0.items ≡ lines_from config.now.names 1 (answers numbered (booted config.now) events.now)) }
-    ensures waiting { IfOk result (λ r. r.1.items ≡ waiting_lines config.now.names (replay numbered (booted config.now) events.now)) }
+    ensures { IfOk result (λ v. v.items ≡ lines_from config.now.names 1 (answers numbered (booted config.now) events.now)) }
 {
     let names = config.names();
     let mut kernel = Kernel::boot(config)?;
@@ -99,40 +173,36 @@ fn traced(
         n += 1;
         put_line(&mut text, names, n, &told)?;
     }
-    let mut waiting = Vec::new(alloc);
-    put_waiting(&mut waiting, names, &kernel)?;
-    Ok((text, waiting))
+    Ok(text)
 }
 
-/// What the run in the order of a seed comes to: if it shows what is asked, that, and its trace up to the line that shows it. The error is want of
-/// memory.
+/// What the run of a seed comes to: if it is looked for, that, and its trace up to there. The error is want of memory.
 fn found_by(
     alloc: Global,
     config: &Config,
     scripts: &Scripts,
-    question: &Question,
-    ticks: u32,
-    turns: u32,
+    question: &Option<Question>,
+    runs: SeedRuns,
     seed: u64,
-) -> Result<Option<(SeedShown, Vec<u8>)>, AllocError>
-    requires short { length question.now ≤ 255 }
-    requires ticks { ticks ≤ 1000000 }
-    requires least { 1 ≤ turns }
-    requires most { turns ≤ 1000000 }
+) -> Result<Option<(SeedFound, Vec<u8>)>, AllocError>
+    requires ticks { runs.ticks ≤ 1000000 }
+    requires least { 1 ≤ runs.turns }
+    requires most { runs.turns ≤ 1000000 }
+    requires short { IfSome question.now (λ q. length q ≤ 255) }
     requires in_bits { AreInBits scripts.now }
-    ensures { IfOk result (spec.Tries config.now scripts.now ticks turns question.now seed) }
+    ensures { IfOk result (spec.Tries runs config.now scripts.now question.now seed) }
 {
     let names = config.names();
     names.validity();
-    let run = seeded_events(alloc, config, scripts, ticks, turns, seed)?;
-    let events = run.as_slice();
-    let shown = shown_at(config, rules_of(ticks), question, events)?;
-    let Some(line) = shown else {
+    let Some(front) = reached(alloc, config, scripts, question, runs, seed)? else {
         return Ok(None);
     };
-    let (text, waiting) = traced(alloc, config, &events[..line])?;
+    let events = front.as_slice();
+    let text = traced(alloc, config, events)?;
+    let waiting = waiting_after(alloc, config, events)?;
+    let line = events.len();
     Ok(Some((
-        SeedShown {
+        SeedFound {
             seed,
             line,
             waiting,
@@ -141,39 +211,41 @@ fn found_by(
     )))
 }
 
-/// The first of the seeds whose run shows what is asked, if there is one, and what is written of it. The error is want of memory.
+/// The first of the seeds whose run is looked for, if there is one, and what is written of it. At least the first is played. The error is want of
+/// memory.
 pub(crate) fn sought<P: SeedProgress>(
     alloc: Global,
     config: &Config,
     scripts: &Scripts,
-    question: &Question,
-    ticks: u32,
-    turns: u32,
+    question: &Option<Question>,
+    runs: SeedRuns,
     first: u64,
     last: u64,
     progress: &mut P,
-) -> Result<(Option<SeedShown>, Vec<u8>), AllocError>
-    requires short { length question.now ≤ 255 }
-    requires ticks { ticks ≤ 1000000 }
-    requires least { 1 ≤ turns }
-    requires most { turns ≤ 1000000 }
+) -> Result<(SeedSearch, Vec<u8>), AllocError>
+    requires ticks { runs.ticks ≤ 1000000 }
+    requires least { 1 ≤ runs.turns }
+    requires most { runs.turns ≤ 1000000 }
+    requires short { IfSome question.now (λ q. length q ≤ 255) }
     requires in_bits { AreInBits scripts.now }
-    ensures { IfOk result (λ r. Seeks config.now scripts.now ticks turns question.now first last r.1.items r.0) }
+    ensures seeks { IfOk result (λ r. Seeks runs config.now scripts.now question.now first last r.1.items r.0) }
+    ensures ended { IfOk result (λ r. IsEndedBy (P.over progress.new) r.0) }
 {
     if last < first {
-        return Ok((None, Vec::new(alloc)));
+        return Ok((SeedSearch::Passed, Vec::new(alloc)));
     }
     for seed in first..last {
         progress.tell(seed);
-        let tried = found_by(alloc, config, scripts, question, ticks, turns, seed)?;
-        if let Some((found, text)) = tried {
-            return Ok((Some(found), text));
+        if let Some((found, text)) = found_by(alloc, config, scripts, question, runs, seed)? {
+            return Ok((SeedSearch::Found(found), text));
+        }
+        if progress.is_over() {
+            return Ok((SeedSearch::Ended(seed), Vec::new(alloc)));
         }
     }
     progress.tell(last);
-    let tried = found_by(alloc, config, scripts, question, ticks, turns, last)?;
-    match tried {
-        Some((found, text)) => Ok((Some(found), text)),
-        None => Ok((None, Vec::new(alloc))),
+    match found_by(alloc, config, scripts, question, runs, last)? {
+        Some((found, text)) => Ok((SeedSearch::Found(found), text)),
+        None => Ok((SeedSearch::Passed, Vec::new(alloc))),
     }
 }

@@ -61,7 +61,7 @@ impl SmpEnd {
 }
 
 /// A line for each task that waits at the end of a history.
-pub fn waiting_at_end(
+fn waiting_at_end(
     alloc: Global,
     names: &Names,
     history: &History<'_>,
@@ -74,11 +74,7 @@ pub fn waiting_at_end(
 }
 
 /// The trace of a history, whose records are made again one after the other.
-pub fn history_text(
-    alloc: Global,
-    history: &History<'_>,
-    names: &Names,
-) -> Result<Vec<u8>, AllocError>
+fn history_text(alloc: Global, history: &History<'_>, names: &Names) -> Result<Vec<u8>, AllocError>
     requires { length history.now.records < 2 ^ 32 }
     ensures { IfOk result (λ v. v.items ≡ lines_from names.now 1 history.now.records) }
 {

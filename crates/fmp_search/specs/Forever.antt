@@ -152,6 +152,7 @@ abbrev pub Surveyed : {P : Type 0} → (P → ℕ → Option P) → (P → Bool)
 Surveyed after wanted q turns (survey.Done found) =
     (n : ℕ) × (n ≤ turns) × (found.turns ≤ turns) × Explored after wanted q found.store.nodes.items n (length found.store.nodes.items + 1) found.opened
 Surveyed after wanted q turns (survey.Full n) = n ≤ turns
+Surveyed after wanted q turns (survey.Over n) = n ≤ turns
 
 -- an edge is of a step between two places, and tells what it passes
 pub record IsTrueEdge {P : Type 0} (after : P → ℕ → Option P) (passes : P → ℕ → ℕ) (q : P) (nodes : List Node) (e : Edge) : Type 0 where

@@ -50,3 +50,4 @@ abbrev pub Leaves : {P : Type 0} → (P → ℕ → Option P) → (P → Bool) �
 Leaves after wanted q most (answer.Found steps) roots = roots ≡ []
 Leaves after wanted q most answer.Never roots = roots ≡ []
 Leaves after wanted q most (answer.NotWithin n) roots = (n < most → roots ≡ []) × (n ≡ most → AreRoots after wanted q most roots)
+Leaves after wanted q most (answer.Ended n) roots = roots ≡ []

@@ -1,10 +1,11 @@
 //! The steps between places that were found, and what is so of each place.
-ghost use Rattle.std.specs.Prelude.{◌≡◌, ◌≤◌, ◌<◌, ◌+◌, ◌^◌, ℕ, true, false, length, IfOk, OnOk};
+ghost use Rattle.std.specs.Prelude.{◌≡◌, ◌≤◌, ◌<◌, ◌+◌, ◌^◌, ℕ, true, false, length, IfOk, IfSome, OnOk};
 ghost use Rattle.fmp_search.specs.Trees.{found_at, IsTree, StandsAt};
 ghost use Rattle.fmp_search.specs.Forever.{AreTrue, IsCharted, IsJoined};
 
 use crate::marks::Edge;
 use crate::nodes::stand_at;
+use crate::progress::Progress;
 use crate::space::Space;
 use crate::store::Store;
 use crate::surveying::Places;
@@ -135,26 +136,30 @@ fn chart_place<W: Space>(
     Ok(!joined)
 }
 
-/// The steps between places that were found, and which of these are open. The error is want of memory.
-pub(crate) fn chart_places<W: Space>(
+/// The steps between places that were found, and which of these are open, unless the search is ended before. The error is want of memory.
+pub(crate) fn chart_places<W: Space, P: Progress>(
     alloc: Global,
     walker: &mut W,
     base: &mut W,
     other: &mut W,
     trunk: &mut W,
+    progress: &mut P,
     found: &Places,
-) -> Result<Chart, AllocError>
+) -> Result<Option<Chart>, AllocError>
     requires tree { IsTree W.after (W.origin walker.old) found.now.store.nodes.items }
     requires depths { (i : ℕ) → i ≤ length found.now.store.nodes.items → (found_at W.after (W.origin walker.old) found.now.store.nodes.items i).depth < 2 ^ 31 }
     requires origins { (W.origin base.old ≡ W.origin walker.old) × (W.origin other.old ≡ W.origin walker.old) × (W.origin trunk.old ≡ W.origin walker.old) }
-    ensures charted { IfOk result (λ c. IsCharted W.after W.passes (W.origin walker.old) found.now.store.nodes.items c) }
+    ensures charted { IfOk result (λ o. IfSome o (IsCharted W.after W.passes (W.origin walker.old) found.now.store.nodes.items)) }
     ensures walker_origin { W.origin walker.new ≡ W.origin walker.old }
 {
     trunk.restart()?;
     let mut edges = Vec::new(alloc);
     let mut open = Vec::new(alloc);
     for at in 0..found.store.count() {
+        if progress.is_over() {
+            return Ok(None);
+        }
         open.push(chart_place(alloc, walker, base, other, trunk, found, &mut edges, at)?)?;
     }
-    Ok(Chart { edges, open })
+    Ok(Some(Chart { edges, open }))
 }

@@ -1,6 +1,6 @@
 //! All runs.
 ghost use Rattle.std.specs.Prelude.{◌≡◌, ◌≤◌, ◌<◌, ◌^◌, length, IfOk};
-ghost use Rattle.fmp_search.specs.Answers.{Says};
+ghost use Rattle.fmp_search.specs.Answers.{IsEndedBy, Says};
 ghost use Rattle.fmp_search.specs.Roots.{Leaves};
 ghost use Rattle.fmp_search.specs.Trees.{found_at, IsTree, StandsAt};
 
@@ -21,6 +21,8 @@ pub enum Answer {
     Never,
     /// No run of at most so many steps does.
     NotWithin(u32),
+    /// Likewise, where the search was ended before more is known.
+    Ended(u32),
 }
 
 /// Makes `trunk` stand at the place where a layer begins, if that is the only one there: all places that are found behind it are made again from
@@ -54,7 +56,7 @@ pub(crate) fn move_trunk<W: Space>(
 /// walkers stand at places of the same graph: one is made to stand at a place and is copied for each step from there, one makes that step,
 /// one looks at what was found before, and one stands at the last place through which all runs lead that are gone on from.
 ///
-/// Where the room does not do, `NotWithin` says for how many steps it did, and then all of it was used. Where it did, and not all is known, the
+/// Where the room does not do, `NotWithin` says for how many steps it did, and then all of it was used. `Ended` is the answer only where `progress` ends the search. Where it did, and not all is known, the
 /// places that were found last are given beside that, to go on from. The error is want of memory.
 pub fn explore<W: Space, P: Progress>(
     alloc: Global,
@@ -70,6 +72,7 @@ pub fn explore<W: Space, P: Progress>(
     requires turns { turns < 2 ^ 31 }
     ensures says { IfOk result (λ r. Says W.after W.wanted (W.origin walker.old) turns most r.0) }
     ensures leaves { IfOk result (λ r. Leaves W.after W.wanted (W.origin walker.old) turns r.0 r.1) }
+    ensures ended { IfOk result (λ r. IsEndedBy (P.over progress.new) r.0) }
 {
     trunk.restart()?;
     if trunk.is_wanted() {
@@ -90,6 +93,7 @@ pub fn explore<W: Space, P: Progress>(
         )? {
             Layer::Found(steps) => return Ok((Answer::Found(steps), Roots::none(alloc))),
             Layer::Full => return Ok((Answer::NotWithin(depth), Roots::none(alloc))),
+            Layer::Over => return Ok((Answer::Ended(depth), Roots::none(alloc))),
             Layer::Done => {}
         }
         begin = end;

@@ -1,5 +1,6 @@
 //! Runs whose first steps are given.
 ghost use Rattle.std.specs.Prelude.{◌≡◌, ◌+◌, ◌<◌, ◌^◌, drop, nat_lt, IfOk, if◌then◌else◌};
+ghost use Rattle.fmp_search.specs.Answers.{IsEndedBy};
 ghost use Rattle.fmp_search.specs.Guides.{Guide, SaysAlong, guided_after, guided_wanted, is_empty, is_of, may_choose};
 
 use crate::exploring::{Answer, explore};
@@ -142,7 +143,8 @@ pub fn explore_along<W: Space + Drop, P: Progress>(
 ) -> Result<Answer, AllocError>
     requires origins { (W.origin base ≡ W.origin walker) × (W.origin other ≡ W.origin walker) × (W.origin trunk ≡ W.origin walker) }
     requires turns { turns < 2 ^ 31 }
-    ensures { IfOk result (λ a. SaysAlong W.after W.wanted (W.origin walker) choices.now turns most a) }
+    ensures says { IfOk result (λ a. SaysAlong W.after W.wanted (W.origin walker) choices.now turns most a) }
+    ensures ended { IfOk result (IsEndedBy (P.over progress.new)) }
 {
     let mut walker = Guided {
         walker,

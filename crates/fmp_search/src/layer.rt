@@ -2,7 +2,7 @@
 ghost use Rattle.std.specs.Prelude.{◌≡◌, ◌≤◌, ◌<◌, ◌+◌, ◌^◌, length, IfOk};
 ghost use Rattle.fmp_search.specs.Trees.{found_at, StandsAt};
 ghost use Rattle.fmp_search.specs.Answers.{Explored};
-ghost use Rattle.fmp_search.specs.Growth.{AreBefore, Fills, Opens, Steps};
+ghost use Rattle.fmp_search.specs.Growth.{AreBefore, Fills, IsNotOver, IsOverBy, Opens, Steps};
 
 use crate::nodes::{Node, stand_at, steps_to};
 use crate::progress::Progress;
@@ -17,6 +17,8 @@ pub(crate) enum Layer {
     Found(Vec<u8>),
     /// There is no room for another place.
     Full,
+    /// The search was ended before.
+    Over,
     Done,
 }
 
@@ -54,6 +56,7 @@ fn try_step<W: Space>(
     ensures room { store.new.most ≡ store.old.most }
     ensures trunk { IfOk result (λ how. StandsAt W.after (W.origin walker.old) store.new.nodes.items front.stem (W.place trunk.now) (W.room trunk.now)) }
     ensures steps { IfOk result (λ how. Steps W.after W.wanted (W.origin walker.old) store.old.nodes.items front.depth front.end at step how store.new.nodes.items) }
+    ensures goes_on { IfOk result IsNotOver }
     ensures walker_origin { W.origin walker.new ≡ W.origin walker.old }
     ensures other_origin { W.origin other.new ≡ W.origin other.old }
 {
@@ -107,6 +110,7 @@ fn open_place<W: Space>(
     ensures room { store.new.most ≡ store.old.most }
     ensures trunk { IfOk result (λ how. StandsAt W.after (W.origin walker.old) store.new.nodes.items front.stem (W.place trunk.now) (W.room trunk.now)) }
     ensures opens { IfOk result (λ how. Opens W.after W.wanted (W.origin walker.old) front.depth front.end (at + 1) how store.new.nodes.items) }
+    ensures goes_on { IfOk result IsNotOver }
     ensures walker_origin { W.origin walker.new ≡ W.origin walker.old }
     ensures base_origin { W.origin base.new ≡ W.origin base.old }
     ensures other_origin { W.origin other.new ≡ W.origin other.old }
@@ -116,14 +120,13 @@ fn open_place<W: Space>(
     for step in 0..steps {
         match try_step(alloc, walker, base, other, trunk, store, front, at, step)? {
             Layer::Done => {}
-            Layer::Full => return Ok(Layer::Full),
-            Layer::Found(steps) => return Ok(Layer::Found(steps)),
+            how => return Ok(how),
         }
     }
     Ok(Layer::Done)
 }
 
-/// All steps from the places of a layer, which begins with a number.
+/// All steps from the places of a layer, which begins with a number, unless the search is ended before.
 pub(crate) fn open_layer<W: Space, P: Progress>(
     alloc: Global,
     walker: &mut W,
@@ -145,16 +148,19 @@ pub(crate) fn open_layer<W: Space, P: Progress>(
     ensures room { store.new.most ≡ store.old.most }
     ensures trunk { IfOk result (λ how. StandsAt W.after (W.origin walker.old) store.new.nodes.items front.stem (W.place trunk.now) (W.room trunk.now)) }
     ensures opens { IfOk result (λ how. Opens W.after W.wanted (W.origin walker.old) front.depth front.end front.end how store.new.nodes.items) }
+    ensures over { IfOk result (IsOverBy (P.over progress.new)) }
     ensures walker_origin { W.origin walker.new ≡ W.origin walker.old }
     ensures base_origin { W.origin base.new ≡ W.origin base.old }
     ensures other_origin { W.origin other.new ≡ W.origin other.old }
 {
     for at in begin..front.end {
         progress.tell(store.count(), front.depth);
+        if progress.is_over() {
+            return Ok(Layer::Over);
+        }
         match open_place(alloc, walker, base, other, trunk, store, front, at)? {
             Layer::Done => {}
-            Layer::Full => return Ok(Layer::Full),
-            Layer::Found(steps) => return Ok(Layer::Found(steps)),
+            how => return Ok(how),
         }
     }
     Ok(Layer::Done)

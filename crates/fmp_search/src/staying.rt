@@ -254,10 +254,10 @@ fn surveyed<W: Space, P: Progress>(
     ensures trunk_origin { W.origin trunk.new ≡ W.origin trunk.old }
 {
     match survey_places(alloc, walker, base, other, trunk, progress, turns, most)? {
-        Survey::Done(places) => Ok(Survey::Done(places)),
         Survey::Full(depth) => {
             survey_places(alloc, walker, base, other, trunk, progress, depth, most)
         }
+        survey => Ok(survey),
     }
 }
 
@@ -280,9 +280,12 @@ pub fn for_ever<W: Space, P: Progress>(
     ensures { IfOk result (λ s. SaysForEver W.after W.passes (W.origin walker.old) tests turns s) }
 {
     match surveyed(alloc, walker, base, other, trunk, progress, turns, most)? {
-        Survey::Full(depth) => Ok(Stay::NotKnown(depth)),
+        Survey::Full(depth) | Survey::Over(depth) => Ok(Stay::NotKnown(depth)),
         Survey::Done(places) => {
-            let chart = chart_places(alloc, walker, base, other, trunk, &places)?;
+            let charted = chart_places(alloc, walker, base, other, trunk, progress, &places)?;
+            let Some(chart) = charted else {
+                return Ok(Stay::NotKnown(places.turns));
+            };
             told_of(
                 alloc,
                 walker,

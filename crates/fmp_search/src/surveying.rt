@@ -25,6 +25,8 @@ pub(crate) enum Survey {
     Done(Places),
     /// The room did for so many steps.
     Full(u32),
+    /// The search was ended when so many steps were made.
+    Over(u32),
 }
 
 /// Goes through all places, the nearest first, up to so many steps from where all runs begin, and with room for so many. The error is want of memory.
@@ -64,6 +66,7 @@ pub(crate) fn survey_places<W: Space, P: Progress>(
             alloc, walker, base, other, trunk, progress, &mut store, front, begin,
         )? {
             Layer::Found(_) | Layer::Full => return Ok(Survey::Full(depth)),
+            Layer::Over => return Ok(Survey::Over(depth)),
             Layer::Done => {}
         }
         begin = end;

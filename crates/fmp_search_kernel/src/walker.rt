@@ -162,7 +162,7 @@ impl<'a> Walker<'a> {
 
     /// The event of a step. Each processor has six in a row: its three events without a mark, then the same with one. None where there is no
     /// such processor or its event cannot happen here.
-    pub(crate) fn event_of(&self, step: u8) -> Option<Event>
+    pub fn event_of(&self, step: u8) -> Option<Event>
         ensures is { result ≡ places.event_of self.now.place step }
         ensures on { IfSome result (λ e. (processor_of e).number ≤ self.now.place.config.processors) }
     {

@@ -77,7 +77,7 @@ nobody_drawn w r number none = none_drawn (movers w.config w.scripts w.records r
 -- ---- the event of a mover
 
 -- a call or an interrupt, or a tick that was left
-abbrev IsMade : Rounds → Event → Type 0
+abbrev pub IsMade : Rounds → Event → Type 0
 IsMade r e = ((is_tick e ≡ false) × ((n : ℕ) → is_tick_of n e ≡ false)) ⊎ ((e ≡ event.Tick (next_of r)) × (is_over r ≡ false))
 
 made_by : (w : History) (r : Rounds) (m : Mover) (e : Event) → CanMove w r m → event_of w.config w.scripts w.records r (Some m) ≡ Some e
@@ -86,7 +86,7 @@ made_by w r (Cpu p) e can does = let own = choice_own w.config w.scripts w.recor
 made_by w r Clock e can does = let is : e ≡ event.Tick (next_of r) = cc in (rw is can.1, inr (is, can.0))
 
 -- the record of a tick that was taken, or of anything else
-abbrev Counts : Rounds → Record → Type 0
+abbrev pub Counts : Rounds → Record → Type 0
 Counts r made =
     ((is_taken_tick made ≡ false) × ((n : ℕ) → history.is_taken_tick n made ≡ false))
     ⊎ ((is_taken_tick made ≡ true) × ((n : ℕ) → history.is_taken_tick n made ≡ ((next_of r).number == n)) × (is_over r ≡ false))
@@ -95,15 +95,17 @@ and_true : (b c : Bool) → c ≡ true → (b && c) ≡ b
 and_true true c is = is
 and_true false c is = refl
 
-counts : (w : History) (r : Rounds) (e : Event) → IsMade r e → Counts r (told_after w e)
-counts w r e (inl other) = let is = told_event w e in inl (rw (is, other.0) refl, λ n. rw (is, other.1 n) refl)
-counts w r e (inr tick) =
-    let made = told_after w e in
-    let is : made.event ≡ event.Tick (next_of r) = told_event w e ∙ tick.0 in
+pub counts_of : (r : Rounds) (e : Event) (made : Record) → made.event ≡ e → IsMade r e → Counts r made
+counts_of r e made is (inl other) = inl (rw (is, other.0) refl, λ n. rw (is, other.1 n) refl)
+counts_of r e made same (inr tick) =
+    let is : made.event ≡ event.Tick (next_of r) = same ∙ tick.0 in
     elim (cases_Bool (is_taken made.answer)) [
       | inl took ↦ inr (rw is took, (λ n. rw is (and_true ((next_of r).number == n) (is_taken made.answer) took)), tick.1)
       | inr held ↦ inl (rw is held, λ n. rw is (and_right ((next_of r).number == n) (is_taken made.answer) held))
     ]
+
+counts : (w : History) (r : Rounds) (e : Event) → IsMade r e → Counts r (told_after w e)
+counts w r e made = counts_of r e (told_after w e) (told_event w e) made
 
 -- ---- between two records
 
@@ -134,13 +136,13 @@ unfolding ticks_taken
 ticks_more h r = sum_by_push (λ x. cond (is_taken_tick x) 1 0) h r
 
 -- what the rounds are after one more record, how many ticks were taken, and of these each processor's
-abbrev CountsOn : Setup → ℕ → List Record → Rounds → Type 0
+abbrev pub CountsOn : Setup → ℕ → List Record → Rounds → Type 0
 CountsOn c ticks h r =
     (r ≡ rounds_of c ticks (ticks_taken h))
     × (ticks_taken h ≤ ticks * ticked c.timer c.processors)
     × ((n : ℕ) → taken n h ≡ share (first_ticked c.timer) (ticked c.timer c.processors) n (ticks_taken h))
 
-counts_on : (c : Setup) (ticks : ℕ) (h : List Record) (made : Record) → CountsOn c ticks h (rounds_of c ticks (ticks_taken h)) → Counts (rounds_of c ticks (ticks_taken h)) made
+pub counts_on : (c : Setup) (ticks : ℕ) (h : List Record) (made : Record) → CountsOn c ticks h (rounds_of c ticks (ticks_taken h)) → Counts (rounds_of c ticks (ticks_taken h)) made
     → CountsOn c ticks (h ++ made ∷ []) (after_record (rounds_of c ticks (ticks_taken h)) made)
 unfolding share
 counts_on c ticks h made so (inl other) =

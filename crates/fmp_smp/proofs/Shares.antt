@@ -10,7 +10,7 @@ unfoldable pub share : ℕ → ℕ → ℕ → ℕ → ℕ
 share first count n zero = 0
 share first count n (suc g) = share first count n g + cond ((as_proc (first + g % count)).number == n) 1 0
 
-share_hit : (first count n g : ℕ) → (as_proc (first + g % count)).number ≡ n → share first count n (suc g) ≡ share first count n g + 1
+pub share_hit : (first count n g : ℕ) → (as_proc (first + g % count)).number ≡ n → share first count n (suc g) ≡ share first count n g + 1
 unfolding share
 share_hit first count n g is = ap (λ b. share first count n g + cond b 1 0) (eq-eqb (as_proc (first + g % count)).number n is)
 
@@ -28,7 +28,7 @@ in_round count k j small =
 
 module _ (first count : ℕ) (least : 1 ≤ first) (most : first + count ≤ 9) (some : 1 ≤ count) where
   -- the number of the processor at a place of a round
-  number_of : (k j : ℕ) → j < count → (as_proc (first + (k * count + j) % count)).number ≡ first + j
+  pub number_of : (k j : ℕ) → j < count → (as_proc (first + (k * count + j) % count)).number ≡ first + j
   number_of k j small = rw (in_round count k j small) (omega (arith, least, most, small))
 
   -- a processor before the first or behind the last has none
@@ -77,7 +77,7 @@ module _ (first count : ℕ) (least : 1 ≤ first) (most : first + count ≤ 9) 
         let before = whole_rounds k in
         ap (share first count (first + i)) round ∙ omega (arith, last, before)
 
-  share_grows : (n g d : ℕ) → share first count n g ≤ share first count n (g + d)
+  pub share_grows : (n g d : ℕ) → share first count n g ≤ share first count n (g + d)
   unfolding share
   share_grows n g zero = let same : g + 0 ≡ g = omega arith in rw same (omega arith)
   share_grows n g (suc d) =

@@ -99,10 +99,10 @@ nobody c scripts h r none =
 -- ---- all ticks are taken
 
 -- the processors whose ticks count are those of a round
-abbrev AreRounds : Timer → ℕ → Type 0
+abbrev pub AreRounds : Timer → ℕ → Type 0
 AreRounds timer n = (1 ≤ first_ticked timer) × (first_ticked timer + ticked timer n ≤ 9) × (1 ≤ ticked timer n)
 
-are_rounds : (timer : Timer) (n : ℕ) → 1 ≤ n → n ≤ 8 → AreRounds timer n
+pub are_rounds : (timer : Timer) (n : ℕ) → 1 ≤ n → n ≤ 8 → AreRounds timer n
 are_rounds Local n least most = (omega arith, omega (arith, most), least)
 are_rounds (Global master) n least most = (master.least, let few = master.most in omega (arith, few), omega arith)
 

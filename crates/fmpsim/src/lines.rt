@@ -1,7 +1,7 @@
 //! The lines that tell faults, in this program's own form or in that of compilers.
 use fmp_cli::{Asked, Paths};
 use fmp_cli_diagnostics::{Diagnostic, LineForm, Spot};
-use fmp_cli_hints_question::question_kind;
+use fmp_cli_hints_question::{question_code, question_words};
 use fmp_run_events::{FaultLine, RunFault, Status};
 use fmp_run_explore::QuestionLine;
 use fmp_search_question::QuestionFault;
@@ -79,13 +79,60 @@ pub fn tell_question<R: Eprint>(rt: &R, form: LineForm, fault: QuestionFault, pl
         let _ = eprintln!(rt; "{line}");
         return;
     }
-    let kind = question_kind(fault);
     let line = Diagnostic {
         path: "--find",
         spot: Spot::Column(1, number),
-        code: kind.code(),
-        words: kind.words(),
+        code: question_code(fault),
+        words: question_words(fault),
         word: "",
     };
     let _ = eprintln!(rt; "{line}");
+}
+
+/// Tells what is wrong with a line of a text of questions.
+pub fn tell_row<R: Eprint>(rt: &R, form: LineForm, path: &str, line: usize, words: &str) {
+    let _ = match form {
+        LineForm::Gcc => eprintln!(rt; "{path}:{line}: error: {words}"),
+        _ => eprintln!(rt; "fmpsim: {path}: line {line}: {words}"),
+    };
+}
+
+/// A line of a text of questions.
+#[derive(Clone, Copy)]
+pub struct AskedLine<'a> {
+    /// The path of the text.
+    pub path: &'a str,
+    /// The number of the line, from 1.
+    pub line: usize,
+    /// At which of its bytes, from 0, its question begins, where that is known.
+    pub column: Option<usize>,
+}
+
+/// Tells the fault of the question of a line, which begins at this byte of the question, counted from 0.
+pub fn tell_asked<R: Eprint>(
+    rt: &R,
+    form: LineForm,
+    asked: AskedLine<'_>,
+    fault: QuestionFault,
+    place: usize,
+) {
+    let (code, words) = (question_code(fault), question_words(fault));
+    let AskedLine { path, line, column } = asked;
+    let number = place.saturating_add(1);
+    if form != LineForm::Gcc {
+        let _ = eprintln!(rt; "fmpsim: {path}: line {line}: byte {number}: {code} {words}");
+        return;
+    }
+    let spot = match column {
+        Some(column) => Spot::Column(line, column.saturating_add(number)),
+        None => Spot::Line(line),
+    };
+    let told = Diagnostic {
+        path,
+        spot,
+        code,
+        words,
+        word: "",
+    };
+    let _ = eprintln!(rt; "{told}");
 }

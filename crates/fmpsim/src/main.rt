@@ -10,6 +10,7 @@ mod layer;
 mod lines;
 mod output;
 mod progress;
+mod questions;
 mod scripts;
 mod staying;
 mod texts;
@@ -30,7 +31,7 @@ use fmp_cli_table::SmpRequest;
 use fmp_run_events::{MemSource, ReadSource, RunFault, Status, WriteSink, run_life};
 use fmp_run_explore::Progress;
 use fmp_run_list::run_list;
-use fmp_run_smp::SeedProgress;
+use fmp_run_seeds::SeedProgress;
 use fmp_run_wave::run_save;
 use fmp_search_question::is_lasting;
 use fmp_trace_check::Verdict;
@@ -295,7 +296,7 @@ fn replied<R: Files + Eprint + AllocGlobal>(
     }
 }
 
-/// Tells what is wrong with the trace, at this path, with which a search was to begin.
+/// Tells what is wrong with the trace with which a search was to begin, at this path, or that many questions cannot be read there.
 fn tell_begun<R: Files + Eprint>(rt: &R, path: &str, line: LineForm, run: &Result<Status, Ending>) {
     match run {
         Err(Ending::NoTrace) => {
@@ -327,16 +328,23 @@ fn explored<R: Files + Input + Print + Eprint + Clock + AllocGlobal>(
         text: TextForm::Scripts,
     };
     let told = ProgressForm::at(is_terminal, request.progress);
-    let mut progress = ProgressLine::new(rt, told);
-    let run = match request.from {
-        Some(begun) => explore_from(rt, &paths, request, begun, &mut progress),
-        None if is_lasting(request.question.as_bytes()) => {
+    let seconds = request.seconds.map(u64::from);
+    let mut progress = ProgressLine::new(rt, told, seconds);
+    let run = match (request.questions, request.from) {
+        (Some(file), _) => questions::asked(rt, &paths, telling, request, file, &mut progress),
+        (None, Some(begun)) => explore_from(rt, &paths, request, begun, &mut progress),
+        (None, None) if is_lasting(request.question.as_bytes()) => {
             explore_forever(rt, &paths, request, &mut progress)
         }
-        None => explore(rt, &paths, request, &mut progress),
+        (None, None) => explore(rt, &paths, request, &mut progress),
     };
     Progress::end(&mut progress);
-    tell_begun(rt, request.from.unwrap_or(""), line, &run);
+    tell_begun(
+        rt,
+        request.questions.or(request.from).unwrap_or(""),
+        line,
+        &run,
+    );
     replied(rt, &paths, telling, request.question, run)
 }
 
@@ -569,7 +577,7 @@ fn scripted<R: Env + Files + Input + Print + Eprint + Clock + AllocGlobal + Thre
         text: TextForm::Scripts,
     };
     let told = ProgressForm::at(is_told_at_terminal, request.progress);
-    let mut progress = ProgressLine::new(rt, told);
+    let mut progress = ProgressLine::new(rt, told, request.seconds);
     let run = scripts::smp(rt, &paths, request, coloured, line, &mut progress);
     SeedProgress::end(&mut progress);
     replied(rt, &paths, telling, request.find.unwrap_or(""), run)

@@ -1,6 +1,8 @@
-//! How far a long run has come, on standard error.
+//! How far a long run has come, on standard error, and whether its time is over.
+ghost use Rattle.std.specs.Prelude.{◌≡◌, Bool};
+
 use fmp_run_explore::Progress;
-use fmp_run_smp::SeedProgress;
+use fmp_run_seeds::SeedProgress;
 use std::rt::Clock;
 use std::time::Instant;
 
@@ -41,31 +43,35 @@ impl ProgressForm {
 pub struct ProgressLine<'a, R> {
     rt: &'a R,
     form: ProgressForm,
-    /// When the run began, where it is told of.
+    /// When the run began.
     begun: Option<Instant>,
     /// When it is told next, in tenths of a second from then.
     next: u128,
     is_shown: bool,
+    /// After how many seconds the run is to end, if it is.
+    limit: Option<u64>,
+    is_over: bool,
 }
 
 impl<'a, R: Eprint + Clock> ProgressLine<'a, R> {
-    /// That of a run that begins.
-    pub fn new(rt: &'a R, form: ProgressForm) -> ProgressLine<'a, R> {
-        let begun = match form {
-            ProgressForm::Hidden => None,
-            _ => Instant::now(rt).ok(),
-        };
+    /// That of a run that begins, and may take so many seconds.
+    pub fn new(rt: &'a R, form: ProgressForm, limit: Option<u64>) -> ProgressLine<'a, R> {
         ProgressLine {
             rt,
             form,
-            begun,
+            begun: Instant::now(rt).ok(),
             next: FIRST,
             is_shown: false,
+            limit,
+            is_over: false,
         }
     }
 
     /// How many seconds the run takes already, where it is time to tell of it.
     fn seconds_due(&mut self) -> Option<u64> {
+        if self.form == ProgressForm::Hidden {
+            return None;
+        }
         let past = self.begun?.elapsed(self.rt).ok()?;
         let tenths = past.as_millis() / 100;
         if tenths < self.next {
@@ -75,8 +81,31 @@ impl<'a, R: Eprint + Clock> ProgressLine<'a, R> {
         Some(past.as_secs())
     }
 
+    /// Whether the run has taken as long as it may.
+    fn has_ended(&mut self) -> bool
+        ensures { result ≡ self.new.is_over }
+    {
+        if let Some(limit) = self.limit {
+            self.is_over = self.has_taken(limit);
+        }
+        self.is_over
+    }
+
+    /// Whether the run takes so many seconds already. Where the clock says nothing it does not.
+    fn has_taken(&self, seconds: u64) -> bool {
+        let Some(begun) = self.begun else {
+            return false;
+        };
+        match begun.elapsed(self.rt) {
+            Ok(past) => past.as_secs() >= seconds,
+            Err(_) => false,
+        }
+    }
+
     /// Takes the line of a terminal away.
-    fn erase(&mut self) {
+    fn erase(&mut self)
+        ensures { self.new.is_over ≡ self.old.is_over }
+    {
         if self.is_shown {
             let _ = eprint!(self.rt; "\r\x1b[K");
             self.is_shown = false;
@@ -85,6 +114,12 @@ impl<'a, R: Eprint + Clock> ProgressLine<'a, R> {
 }
 
 impl<'a, R: Eprint + Clock> Progress for ProgressLine<'a, R> {
+    ghost over = { λ line. line.is_over };
+
+    fn is_over(&mut self) -> bool {
+        self.has_ended()
+    }
+
     fn tell(&mut self, places: usize, depth: u32) {
         let Some(seconds) = self.seconds_due() else {
             return;
@@ -103,6 +138,12 @@ impl<'a, R: Eprint + Clock> Progress for ProgressLine<'a, R> {
 }
 
 impl<'a, R: Eprint + Clock> SeedProgress for ProgressLine<'a, R> {
+    ghost over = { λ line. line.is_over };
+
+    fn is_over(&mut self) -> bool {
+        self.has_ended()
+    }
+
     fn tell(&mut self, seed: u64) {
         let Some(seconds) = self.seconds_due() else {
             return;

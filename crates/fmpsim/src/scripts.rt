@@ -8,12 +8,11 @@ use crate::waiting::Waiting;
 use fmp_cli::Paths;
 use fmp_cli_colour::ColourSink;
 use fmp_cli_diagnostics::LineForm;
-use fmp_cli_runs::{Played, play, seek, seek_shown};
+use fmp_cli_runs::{Played, play, seek};
 use fmp_cli_table::{Seeds, SmpRequest};
 use fmp_run_events::{MemSource, ReadSource, Sink, Source, Status, WriteSink};
 use fmp_run_explore::ExploreFault;
-use fmp_run_seeds::{SeedShown, status_of_found as status_of_shown};
-use fmp_run_smp::{SeedFound, SeedProgress, status_of_found};
+use fmp_run_seeds::{SeedProgress, SeedSearch};
 use std::alloc::Global;
 use std::io;
 use std::io::{Input, Read};
@@ -25,12 +24,21 @@ use std::thread::Threads;
 #[derive(Drop)]
 struct Outcome {
     status: Status,
-    /// The seed that was found.
-    seed: Option<u64>,
-    /// The line of its trace that shows what is asked.
-    line: Option<usize>,
+    seed: SeedTold,
     /// A line for each task that waits at the end of what is written.
     waiting: Vec<u8>,
+}
+
+/// What is told of seeds.
+#[derive(Clone, Copy)]
+enum SeedTold {
+    Nothing,
+    /// This one was found.
+    Found(u64),
+    /// This one was found, and shows at this line what is asked.
+    Shown(u64, usize),
+    /// The search was ended after this one.
+    Ended(u64),
 }
 
 impl Outcome {
@@ -38,45 +46,26 @@ impl Outcome {
     fn of_run(played: Played) -> Outcome {
         Outcome {
             status: played.status,
-            seed: None,
-            line: None,
+            seed: SeedTold::Nothing,
             waiting: played.waiting,
         }
     }
 
-    /// That of the runs of many seeds, none of which was looked for, which end the program so.
-    fn of_none(alloc: Global, status: Status) -> Outcome {
+    /// That of the runs of many seeds, where a question was asked or was not.
+    fn of_seeds(alloc: Global, search: SeedSearch, asked: bool) -> Outcome {
+        let status = search.status(asked);
+        let (seed, waiting) = match search {
+            SeedSearch::Found(found) if asked => {
+                (SeedTold::Shown(found.seed, found.line), found.waiting)
+            }
+            SeedSearch::Found(found) => (SeedTold::Found(found.seed), found.waiting),
+            SeedSearch::Passed => (SeedTold::Nothing, Vec::new(alloc)),
+            SeedSearch::Ended(seed) => (SeedTold::Ended(seed), Vec::new(alloc)),
+        };
         Outcome {
             status,
-            seed: None,
-            line: None,
-            waiting: Vec::new(alloc),
-        }
-    }
-
-    /// That of the runs of many seeds up to one that ends while a task waits.
-    fn of_seeds(alloc: Global, found: Option<SeedFound>, status: Status) -> Outcome {
-        match found {
-            Some(found) => Outcome {
-                status,
-                seed: Some(found.seed),
-                line: None,
-                waiting: found.waiting,
-            },
-            None => Outcome::of_none(alloc, status),
-        }
-    }
-
-    /// That of the runs of many seeds up to one that shows what is asked.
-    fn of_shown(alloc: Global, found: Option<SeedShown>, status: Status) -> Outcome {
-        match found {
-            Some(found) => Outcome {
-                status,
-                seed: Some(found.seed),
-                line: Some(found.line),
-                waiting: found.waiting,
-            },
-            None => Outcome::of_none(alloc, status),
+            seed,
+            waiting,
         }
     }
 
@@ -88,10 +77,13 @@ impl Outcome {
         form: LineForm,
         config: &[u8],
     ) {
-        let _ = match (self.seed, self.line) {
-            (Some(seed), Some(line)) => eprintln!(rt; "fmpsim: seed {seed}, line {line}"),
-            (Some(seed), None) => eprintln!(rt; "fmpsim: seed {seed}"),
-            (None, _) => Ok(()),
+        let _ = match self.seed {
+            SeedTold::Nothing => Ok(()),
+            SeedTold::Found(seed) => eprintln!(rt; "fmpsim: seed {seed}"),
+            SeedTold::Shown(seed, line) => eprintln!(rt; "fmpsim: seed {seed}, line {line}"),
+            SeedTold::Ended(seed) => {
+                eprintln!(rt; "fmpsim: ended by --seconds after seed {seed}")
+            }
         };
         let lines = str::from_utf8(self.waiting.as_slice()).unwrap_or("");
         let status = self.status;
@@ -111,6 +103,8 @@ pub enum Misfit {
     Seeds,
     /// A question is asked, and no seeds are given.
     Question,
+    /// So is one of the options for the runs of seeds.
+    Option(&'static str),
 }
 
 impl Misfit {
@@ -118,9 +112,22 @@ impl Misfit {
     pub fn of_request(request: &SmpRequest<'_>) -> Option<Misfit> {
         match request.seeds {
             Seeds::Range(_, _) if request.seed.is_none() => None,
-            Seeds::Unasked if request.find.is_none() => None,
-            Seeds::Unasked => Some(Misfit::Question),
+            Seeds::Unasked if request.find.is_some() => Some(Misfit::Question),
+            Seeds::Unasked => Misfit::option_of(request),
             Seeds::Range(_, _) | Seeds::Other => Some(Misfit::Seeds),
+        }
+    }
+
+    /// That of a request without seeds which has an option for them.
+    fn option_of(request: &SmpRequest<'_>) -> Option<Misfit> {
+        if request.late {
+            Some(Misfit::Option("--late"))
+        } else if request.stalls {
+            Some(Misfit::Option("--stalls"))
+        } else if request.seconds.is_some() {
+            Some(Misfit::Option("--seconds"))
+        } else {
+            None
         }
     }
 
@@ -132,6 +139,9 @@ impl Misfit {
             ),
             Misfit::Question => eprintln!(rt;
                 "fmpsim: --find: wanted --seeds too, as in --seeds 0..999"
+            ),
+            Misfit::Option(option) => eprintln!(rt;
+                "fmpsim: {option}: wanted --seeds too, as in --seeds 0..999"
             ),
         };
         Status::Usage
@@ -153,19 +163,10 @@ fn sought<R: Source, S: Source, W: Sink, P: SeedProgress>(
     requires script_calls { S.failures scripts.old < 2 ^ 64 - 1 }
     requires trace_calls { W.failures trace.old < 2 ^ 64 - 1 }
 {
-    if let Some(question) = request.find {
-        let question = question.as_bytes();
-        let found = seek_shown(
-            alloc, config, scripts, trace, question, request, first, last, progress,
-        )?;
-        let status = status_of_shown(&found);
-        return Ok(Outcome::of_shown(alloc, found, status));
-    }
-    let found = seek(
+    let search = seek(
         alloc, config, scripts, trace, request, first, last, progress,
     )?;
-    let status = status_of_found(&found);
-    Ok(Outcome::of_seeds(alloc, found, status))
+    Ok(Outcome::of_seeds(alloc, search, request.find.is_some()))
 }
 
 /// Writes the trace of what is asked for: of one run, or of the first of many that is looked for.

@@ -45,6 +45,14 @@ fn config_read<R: AllocGlobal, T: Read + Drop>(rt: &R, text: T) -> Result<Vec<u8
     }
 }
 
+/// Another text, read to its end, or beyond its greatest length.
+pub fn text_read<R: AllocGlobal, T: Read + Drop>(rt: &R, text: T) -> Result<Vec<u8>, RunFault> {
+    match read_up_to(rt.alloc(), &mut ReadSource::new(text), MOST_BYTES) {
+        Ok(text) => Ok(text),
+        Err(fault) => Err(RunFault::from(fault)),
+    }
+}
+
 /// The configuration, read where no other text is.
 pub fn config_alone<R: Files + Input + AllocGlobal>(
     rt: &R,
@@ -56,14 +64,14 @@ pub fn config_alone<R: Files + Input + AllocGlobal>(
     }
 }
 
-/// The trace with which a search begins, read to its end, or beyond its greatest length.
+/// The trace with which a search begins, or the text of many questions, read to its end, or beyond its greatest length.
 pub fn trace_read<R: Files + Input + AllocGlobal>(rt: &R, path: &str) -> Result<Vec<u8>, Ending> {
     let Ok(text) = opened(rt, path) else {
         return Err(Ending::NoTrace);
     };
-    match read_up_to(rt.alloc(), &mut ReadSource::new(text), MOST_BYTES) {
+    match text_read(rt, text) {
         Ok(text) => Ok(text),
-        Err(fault) => Err(Ending::of_trace(RunFault::from(fault))),
+        Err(fault) => Err(Ending::of_trace(fault)),
     }
 }
 

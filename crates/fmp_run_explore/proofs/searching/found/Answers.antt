@@ -81,3 +81,20 @@ returns-in_ok-not_within-in-NotWithin-clause-made g c =
     let says = subst (λ a. Says after is_seen begin c.args.turns c.args.more a) c.in-NotWithin.is c.in_ok-answer.ensures.says in
     let leaves = subst (λ a. LeavesRoots after is_seen begin c.args.turns a c.in_ok-answer.roots) c.in-NotWithin.is c.in_ok-answer.ensures.leaves in
     made_within begin c.in-NotWithin.turns c.args.turns c.in_ok-answer.roots says.0 c.requires.turns leaves.0 leaves.1
+
+pub returns-in_ok-not_within-in-Ended-clause-finds : goal.returns-in_ok-not_within-in-Ended-clause-finds
+returns-in_ok-not_within-in-Ended-clause-finds g c =
+    let begin = origin c.args.config.now c.args.scripts.now c.args.rules c.args.question.now in
+    let law = c.places_answer.ensures c.args.config.now c.args.scripts.now c.args.rules c.args.question.now c.names-names.ensures.valid in
+    let says = subst (λ a. Says after is_seen begin c.args.turns c.args.more a) c.in-Ended.is c.in_ok-answer.ensures.says in
+    (says.0, law.within c.in-Ended.turns says.1, c.in_ok-not_within-in-Ended.ensures)
+
+pub returns-in_ok-not_within-in-Ended-clause-leaves : goal.returns-in_ok-not_within-in-Ended-clause-leaves
+returns-in_ok-not_within-in-Ended-clause-leaves g c =
+    let begin = origin c.args.config.now c.args.scripts.now c.args.rules c.args.question.now in
+    none_told begin c.in_ok-answer.roots (subst (λ a. LeavesRoots after is_seen begin c.args.turns a c.in_ok-answer.roots) c.in-Ended.is c.in_ok-answer.ensures.leaves)
+
+pub returns-in_ok-not_within-in-Ended-clause-made : goal.returns-in_ok-not_within-in-Ended-clause-made
+returns-in_ok-not_within-in-Ended-clause-made g c =
+    let begin = origin c.args.config.now c.args.scripts.now c.args.rules c.args.question.now in
+    made_none begin c.in_ok-answer.roots (subst (λ a. LeavesRoots after is_seen begin c.args.turns a c.in_ok-answer.roots) c.in-Ended.is c.in_ok-answer.ensures.leaves)

@@ -13,7 +13,7 @@ explored_along-requires-clause-origins g c = (
   ap origin_of (c.in_ok-others.ensures.second ∙ sym c.in_ok-walkers.ensures.first),
 )
 
-pub returns : goal.returns
-returns g c =
+pub returns-clause-says : goal.returns-clause-says
+returns-clause-says g c =
     subst (λ (w : Place). IfOk c.explored_along.result (λ answer. SaysAlong after is_seen w c.args.choices.now c.args.turns c.args.more answer)) (ap origin_of c.in_ok-walkers.ensures.first)
-    c.explored_along.ensures
+    c.explored_along.ensures.says

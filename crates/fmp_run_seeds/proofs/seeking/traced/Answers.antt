@@ -8,7 +8,6 @@ use Rattle.fmp_rules.specs.Boot.{booted}
 use Rattle.fmp_rules.specs.Step.{answers, replay, step}
 use Rattle.fmp_rules.proofs.Replays.{answers_more, length-answers, replay_more}
 use Rattle.fmp_law_lists.specs.Stands.{Stands}
-use Rattle.fmp_show_state.specs.Waits.{waiting_lines}
 use Rattle.fmp_trace.specs.Lines.{line_text, lines_from}
 use Rattle.fmp_run_seeds.proofs.Printed.{line_more}
 use Rattle.fmp_run_seeds.proofs.seeking.traced.Goals as goal
@@ -44,21 +43,10 @@ loop-event-preserved c =
       count = ap (λ (n : ℕ). n + 1) count;
     }
 
-pub returns-clause-text : goal.returns-clause-text
-returns-clause-text c =
+pub returns : goal.returns
+returns c =
     let config = c.args.config.now in
     let events = c.args.events.now in
     let all : take c.loop-event.event-index events ≡ events = take_all c.loop-event.event-index events (omega (arith, c.loop-event-test.false)) in
     c.loop-event.invariant.made ∙ ap (λ (es : List Event). lines_from c.names-names.result.now 1 (answers numbered (booted config) es)) all
     ∙ ap (λ (lists : NameLists). lines_from lists 1 (answers numbered (booted config) events)) c.names-names.ensures.value
-
-pub returns-clause-waiting : goal.returns-clause-waiting
-returns-clause-waiting c =
-    let config = c.args.config.now in
-    let names = c.names-names.result.now in
-    let events = c.args.events.now in
-    let all : take c.loop-event.event-index events ≡ events = take_all c.loop-event.event-index events (omega (arith, c.loop-event-test.false)) in
-    let m = replay numbered (booted config) (take c.loop-event.event-index events) in
-    c.in_ok-put_waiting.ensures.model m c.loop-event.invariant.stands ∙ ap (λ (x : List ℕ). x ++ waiting_lines names m) c.new-waiting.ensures.items
-    ∙ ap (λ (es : List Event). waiting_lines names (replay numbered (booted config) es)) all
-    ∙ ap (λ (lists : NameLists). waiting_lines lists (replay numbered (booted config) events)) c.names-names.ensures.value

@@ -76,6 +76,13 @@ returns-in-Full-clause-says g c =
       λ lt. subst (λ n. UsedUp after q c.loop-depth.depth n) c.loop-depth.invariant.6 used,
     )
 
+pub returns-in-Over-clause-says : goal.returns-in-Over-clause-says
+returns-in-Over-clause-says g c = (
+  omega (arith, c.loop-depth-test.true),
+  none-within g.W.Space.after g.W.Space.wanted (g.W.Space.origin c.args.walker.now) c.loop-depth.store.nodes.items c.loop-depth.depth
+      (length c.loop-depth.store.nodes.items + 1) c.loop-depth.begin c.loop-depth.invariant.0,
+)
+
 pub open_layer-requires-clause-before : goal.open_layer-requires-clause-before
 open_layer-requires-clause-before g c = c.loop-depth.invariant.5
 

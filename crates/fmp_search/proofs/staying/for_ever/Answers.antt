@@ -1,11 +1,13 @@
 use Rattle.std.proofs.Common.{◌≤◌, ◌∙◌, ◌+◌, ℕ, List, Option, length, Result, Ok, Err, sym, subst, arith}
 use Rattle.std.specs.Result.{IfOk}
+use Rattle.std.specs.Option.{IfSome}
+use Rattle.fmp_search.specs.declared.charting.Chart.{Chart}
 use Rattle.fmp_search.specs.declared.nodes.Node.{Node}
 use Rattle.fmp_search.specs.declared.staying.Stay.{Stay}
 use Rattle.fmp_search.specs.declared.staying.Stay.TheVariants as stay
 use Rattle.fmp_search.specs.declared.surveying.Survey.{Survey}
 use Rattle.fmp_search.specs.Answers.{Explored}
-use Rattle.fmp_search.specs.Forever.{AreNearest, SaysForEver, Surveyed}
+use Rattle.fmp_search.specs.Forever.{AreNearest, IsCharted, SaysForEver, Surveyed}
 use Rattle.fmp_search.proofs.Covered.{nearest_by}
 use Rattle.fmp_search.proofs.staying.for_ever.Goals as goal
 
@@ -27,13 +29,14 @@ told_of-requires-clause-nearest g c =
     let same = c.surveyed.ensures.walker_origin in
     let done = subst (λ (s : Survey). Surveyed after wanted (g.W.Space.origin c.args.walker.now) c.args.turns s) c.in-Done.is c.in_ok-depth.ensures.surveyed in
     let explored = subst (λ q. Explored after wanted q nodes done.0 (length nodes + 1) c.in-Done.places.opened) (sym same) done.3 in
+    let charted = subst (λ (o : Option Chart). IfSome o (IsCharted after g.W.Space.passes (g.W.Space.origin c.surveyed.new.walker) nodes)) c.in-Some.is c.in_ok-charted-in-Done.ensures.charted in
     λ whole.
-    let near = nearest_by after g.W.Space.passes (g.W.Space.origin c.surveyed.new.walker) nodes c.in_ok-chart-in-Done.chart c.in_ok-chart-in-Done.ensures.charted whole wanted done.0 c.in-Done.places.opened explored in
+    let near = nearest_by after g.W.Space.passes (g.W.Space.origin c.surveyed.new.walker) nodes c.in-Some.chart charted whole wanted done.0 c.in-Done.places.opened explored in
     subst (λ (ns : List Node). AreNearest after (g.W.Space.origin c.chart_places.new.walker) ns) (sym c.deref.ensures.value)
     (subst (λ q. AreNearest after q nodes) (sym c.chart_places.ensures.walker_origin) near)
 
-pub returns-in_ok-chart-in-Done : goal.returns-in_ok-chart-in-Done
-returns-in_ok-chart-in-Done g c =
+pub returns-in-Some : goal.returns-in-Some
+returns-in-Some g c =
     let after = g.W.Space.after in
     let passes = g.W.Space.passes in
     let q = g.W.Space.origin c.args.walker.now in

@@ -1,0 +1,1 @@
+pub mod EachLine  -- One line of a text of questions after the other.

@@ -1,0 +1,1 @@
+pub mod Runs  -- Runs by a seed, and the orders that they are among.

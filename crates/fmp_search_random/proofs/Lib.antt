@@ -1,0 +1,1 @@
+pub mod Following  -- How far an order was followed, and where it ends.
