@@ -3,6 +3,7 @@
 
 questions() {
     answers_in_lines
+    lines_beside_never
     answers_in_other_forms
     answers_not_known
     answers_in_time
@@ -23,12 +24,14 @@ is_file() {
 answers_in_lines() {
     local folder=$top/examples/explore-deadlock words ci=$top/examples/explore-timeout
     words=(explore "$folder/machine.cfg" "$folder/scripts.txt" --ticks any --turns 1000 --questions asked.txt)
+    # a cyclic handler goes on for ever
+    printf '%s\n' "fmpsim: ends: no event of any order has 'end'" "fmpsim: ends: an event of some order has 'waits sem'" > beside.txt
     # blanks and tabs of any number, carriage returns, and no line feed at the end
     printf '# what is asked\n\n  \t\nstuck shown deadlock\r\n\r\n#\n \tends\tnever  \tend & waits sem \t\r\n_2 shown E_OK for ever\nno.1-b   never not LOG sig_sem(*) * for ever' > asked.txt
     printf '%s\n' 'ok stuck: shown in 6 lines' 'ok ends: never' 'not ok _2: never' 'not ok no.1-b: shown in 5 lines' > answers.txt
     rm -rf traces
-    run 5 answers.txt /dev/null "${words[@]}"
-    run 5 answers.txt /dev/null "${words[@]}" --traces traces/new
+    run 5 answers.txt beside.txt "${words[@]}"
+    run 5 answers.txt beside.txt "${words[@]}" --traces traces/new
     [ "$(ls traces/new)" = "$(printf 'no.1-b.trace\nstuck.trace')" ]
     count "$([ $? = 0 ] && echo yes || echo no)" '# a trace is left of each question that was shown'
     is_file traces/new/stuck.trace "$folder/trace.txt"
@@ -36,16 +39,37 @@ answers_in_lines() {
     # files that are there are written over, and others stay
     seq 1000 > traces/new/stuck.trace
     echo mine > traces/new/ends.trace
-    run 5 answers.txt /dev/null "${words[@]}" --traces traces/new
+    run 5 answers.txt beside.txt "${words[@]}" --traces traces/new
     is_file traces/new/stuck.trace "$folder/trace.txt"
     is_file traces/new/ends.trace "$(as_file echo mine)"
     # the same from standard input
-    from=asked.txt run 5 answers.txt /dev/null "${words[@]::${#words[@]}-1}" -
+    from=asked.txt run 5 answers.txt beside.txt "${words[@]::${#words[@]}-1}" -
     # all as expected, and a text without a question
     printf '%s\n' 'ok given-back-twice: never' 'ok asks-again: shown in 11 lines' > answers.txt
     run 0 answers.txt /dev/null explore "$ci/machine.cfg" "$ci/mended.txt" --ticks any --turns 100 --questions "$ci/ci.questions"
     : > empty.txt
     run 0 /dev/null /dev/null "${words[@]/asked.txt/empty.txt}"
+}
+
+# What is told beside `never`, after all answers, with the name of its question. Of one pattern `never` says everything.
+lines_beside_never() {
+    local folder=$top/examples/explore-lost-update words
+    words=(explore "$folder/machine.cfg" "$folder/mended.txt" --ticks 0 --turns 100 --questions asked.txt)
+    printf '%s\n' 'twice never 2 times set_flg(COUNT, 1) E_OK' 'plain never E_PAR' 'well shown set_flg(COUNT, 3) E_OK' 'missed shown E_PAR then end' \
+        'stays never E_PAR & E_PAR' > asked.txt
+    printf '%s\n' 'ok twice: never' 'ok plain: never' 'ok well: shown in 7 lines' 'not ok missed: never' 'ok stays: never' > answers.txt
+    printf 'fmpsim: %s\n' 'twice: some order has step 1 of 2, and none has step 2 after it' "twice: an event of some order has 'set_flg(COUNT, 1) E_OK'" \
+        'missed: no order has step 1 of 2' "missed: no event of any order has 'E_PAR'" "stays: no event of any order has 'E_PAR'" > beside.txt
+    run 5 answers.txt beside.txt "${words[@]}"
+    run 5 answers.txt beside.txt "${words[@]}" --seconds 1000
+    "$program" "${words[@]}" > output 2>&1
+    cat answers.txt beside.txt | cmp -s - output
+    count "$([ $? = 0 ] && echo yes || echo no)" "${words[@]}" '# after all answers'
+    { printf '%s\n' 'TAP version 13' 1..5 && sed -E '=;s/^(ok|not ok) /\1 N - /' answers.txt | sed 'N;s/\(.*\)\n\(.*\) N /\2 \1 /'; } > answers.tap
+    run 5 answers.tap beside.txt "${words[@]}" --tap
+    # what stays for ever and is not found has none
+    printf '%s\n' 'ever never E_OK & E_OK for ever' > asked.txt
+    run 0 "$(as_file echo 'ok ever: never')" /dev/null explore "$folder/machine.cfg" "$folder/mended.txt" --ticks any --turns 100 --questions asked.txt
 }
 
 # The form of TAP, and XML for JUnit, which is written beside either form. A question has each byte that has a name in XML.

@@ -23,6 +23,7 @@ searches() {
     stays
     begins_behind
     leaves_traces
+    tells_beside_never
     takes_each_word
     questions_of_the_pages
     tells_how_far
@@ -33,7 +34,7 @@ searches() {
 }
 
 # asks FOLDER: each question of the folder is answered as its line says: those of questions.txt about scripts.txt, and those of NAME-questions.txt
-# about NAME.txt.
+# about NAME.txt. A line has the answer, the options, and what is told beside `never`.
 asks() {
     local file scripts
     for file in "$1"/*questions.txt; do
@@ -43,14 +44,19 @@ asks() {
     done
 }
 
+# lines_beside LINES: the path of a file with what is told beside `never`, where a `|` is between two lines.
+lines_beside() {
+    tr '|' '\n' <<< "$1" | sed '/^$/d; s/^/fmpsim: question: /' | as_file
+}
+
 # asks_of FOLDER SCRIPTS QUESTIONS
 asks_of() {
-    local right options words well errors
-    while IFS=$'\t' read -r right options; do
+    local right options beside words well errors
+    while IFS=$'\t' read -r right options beside; do
         eval "options=($options)"
         words=(explore "$1/machine.cfg" "$2" "${options[@]}")
         case $right in
-            never) run 0 "$(as_file echo never)" /dev/null "${words[@]}" ;;
+            never) run 0 "$(as_file echo never)" "$(lines_beside "$beside")" "${words[@]}" ;;
             not\ within\ *) run 6 "$(as_file echo "$right")" /dev/null "${words[@]}" ;;
             *.txt)
                 errors=$1/${right%.txt}.errors
@@ -220,6 +226,32 @@ left_traces() {
     count "$well" '# a trace is left:' "${@:3}"
 }
 
+# tells_beside_never: how much of a question comes that no order shows, on standard error, whatever becomes of that. It is not told of the orders that go on from a trace,
+# and not where it is not found in the seconds that are left: ten, or as many as the answer took.
+tells_beside_never() {
+    local folder=$top/examples/explore-lost-update words begun well
+    words=(explore "$folder/machine.cfg" "$folder/mended.txt" --ticks 0 --turns 100 --find '2 times set_flg(COUNT, 1) E_OK')
+    printf 'fmpsim: question: %s\n' 'some order has step 1 of 2, and none has step 2 after it' "an event of some order has 'set_flg(COUNT, 1) E_OK'" > beside.txt
+    echo never > never.txt
+    run 0 never.txt beside.txt "${words[@]}"
+    run 0 never.txt beside.txt "${words[@]}" --seconds 1000 --diagnostics=gcc
+    run 0 never.txt beside.txt "${words[@]}" --layer beside
+    count "$([ -d beside ] && [ -z "$(ls beside)" ] && echo yes || echo no)" '# nothing is left where no order shows it'
+    run 0 never.txt /dev/null "${words[@]}" --from /dev/null
+    well=no
+    "$program" "${words[@]}" > output 2> /dev/full && cmp -s output never.txt && well=yes
+    count "$well" "${words[@]}" '# to a standard error that is full'
+    # no event may come before it, so there is one place, and without that there are more than any time
+    folder=$top/examples/explore-philosophers
+    words=(explore "$folder/machine.cfg" "$folder/scripts.txt" --ticks 900000 --turns 1000000 --places 20000000 --find 'lost=* without P*')
+    begun=$SECONDS
+    run 0 never.txt /dev/null "${words[@]}" --seconds 2
+    count "$([ $((SECONDS - begun)) -ge 1 ] && [ $((SECONDS - begun)) -lt 60 ] && echo yes || echo no)" '# two seconds'
+    begun=$SECONDS
+    run 0 never.txt /dev/null "${words[@]}"
+    count "$([ $((SECONDS - begun)) -ge 9 ] && [ $((SECONDS - begun)) -lt 90 ] && echo yes || echo no)" '# ten seconds'
+}
+
 # strays LINE WORD..: the trace on standard input has this line, and no order of the scripts has it there.
 strays() {
     cat > stray.txt
@@ -348,7 +380,7 @@ ends_in_time() {
     for option in 0 1000001 x ''; do
         well=no
         play explore "$folder/machine.cfg" "$folder/scripts.txt" --ticks 0 --turns 4 --find E_PAR --seconds "$option"
-        [ $? = 2 ] && grep -q -- '--turns, --drift and --seconds are numbers from 1 to 1000000' errors && well=yes
+        [ $? = 2 ] && grep -q -- '--turns, --drift, --pace and --seconds are numbers from 1 to 1000000' errors && well=yes
         count "$well" explore --seconds "$option"
     done
 }

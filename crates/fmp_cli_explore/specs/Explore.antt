@@ -13,8 +13,9 @@ use Rattle.fmp_cli_explore.specs.declared.ExploreRequest.{ExploreRequest}
 abbrev pub explore_line : App
 explore_line = line_of (codes "explore") (
     path_rule (codes "CFG") ∷ path_rule (codes "SCRIPTS") ∷ wanted_rule (codes "ticks") ∷ wanted_rule (codes "turns") ∷ value_rule (codes "find")
-    ∷ flag_rule (codes "prompt") ∷ value_rule (codes "drift") ∷ value_rule (codes "places") ∷ value_rule (codes "from") ∷ value_rule (codes "layer")
-    ∷ value_rule (codes "seconds") ∷ value_rule (codes "questions") ∷ flag_rule (codes "tap") ∷ value_rule (codes "junit") ∷ value_rule (codes "traces")
+    ∷ flag_rule (codes "prompt") ∷ value_rule (codes "drift") ∷ value_rule (codes "pace") ∷ flag_rule (codes "spurious")
+    ∷ value_rule (codes "places") ∷ value_rule (codes "from") ∷ value_rule (codes "layer") ∷ value_rule (codes "seconds")
+    ∷ value_rule (codes "questions") ∷ flag_rule (codes "tap") ∷ value_rule (codes "junit") ∷ value_rule (codes "traces")
     ∷ flag_rule (codes "progress") ∷ flag_rule (codes "context") ∷ [])
 
 -- what clap finds in the words of that command line, by the ids of the arguments
@@ -55,6 +56,8 @@ pub record Asks (rows : List Row) (r : ExploreRequest) : Type 0 where
   pub ticks : IsTicks (text_of (codes "ticks") rows) r.ticks
   pub prompt : IsFlag (one_of (codes "prompt") rows) r.prompt
   pub drift : IsBound (first_of (codes "drift") rows) r.drift
+  pub pace : IsBound (first_of (codes "pace") rows) r.pace
+  pub spurious : IsFlag (one_of (codes "spurious") rows) r.spurious
   pub turns : IsNumberWithin 1 1000000 (text_of (codes "turns") rows) (Some r.bounds.turns)
   pub places : IsPlaces (first_of (codes "places") rows) r.bounds.places
   pub from : option_map (λ t. t.now) r.from ≡ first_of (codes "from") rows

@@ -40,6 +40,7 @@ of these is gone through, the shortest first, until one shows what QUESTION asks
   can T be kept from running for good     --find 'not run=T for ever'
   can a value be lost                     --find 'lost=*'
   can a call answer an error              --find 'LOGGER snd_dtq(LOG, *) E_CTX'
+  can any be refused, but for a timeout   --find 'refused & not E_TMOUT'
   can A come before B                     --find 'A without B'
   can B come after A with no C between    --find 'A then B without C'
   can it take three ticks                 --find 'A then 3 times P1 * tick taken without B'
@@ -47,14 +48,16 @@ of these is gone through, the shortest first, until one shows what QUESTION asks
 A pattern is words that stand one behind the other in one line of an event: its line of the trace
 without the number, the lines that `fmpsim calls --state` writes below it, and `end` where nothing
 can change any more. In a word * is any number of bytes. `&` stands between patterns that have to
-be there at one event.
+be there at one event, `or` between those of which one has to be, and `not` before one that must not
+be. `refused` stands in the place of a pattern: a code is there that is not E_OK.
 
 `M for ever` asks for an event that has M from which on, in every order that goes on, every event has
 M; `or` stands between several, and `not` before a pattern. `deadlock` asks it of `waits` of each
 task. It is asked with `--ticks any`, and the line from which on it is so is told on standard error.
 
 With `--ticks any` there is no limit and no count, so that there are fewer places: try it first.
-Where it says `never`, no order of any length shows it.
+Where it says `never`, no order of any length shows it. Standard error says then how many steps of
+QUESTION come, and whether an event of any order has the patterns of the next one.
 
 With `--from TRACE` only the orders are gone through that go on from those lines of a trace, which
 have to be lines of an order of these scripts. Lines count from 1 with those of TRACE, also for
@@ -85,7 +88,7 @@ Exit status:
   6  not within so many lines: --turns, --places or --seconds did not do; or one is not known";
 
 const WRONG_NUMBER: &str =
-    "--ticks is `any` or a number from 0 to 1000000, --turns, --drift and --seconds are numbers from 1 to 1000000, and --places is one from 1 to 100000000";
+    "--ticks is `any` or a number from 0 to 1000000, --turns, --drift, --pace and --seconds are numbers from 1 to 1000000, and --places is one from 1 to 100000000";
 
 const TWO_BEGINNINGS: &str = "--layer writes traces for --from, and does not go with it";
 
@@ -135,6 +138,16 @@ const PARTS: &[Part<'static>] = &[
         id: "drift",
         form: Form::Value("N"),
         about: "How many ticks more than another a processor may have taken, 1 to 1000000",
+    },
+    Part {
+        id: "pace",
+        form: Form::Value("N"),
+        about: "How many ticks a processor takes at most before it does what it can, 1 to 1000000",
+    },
+    Part {
+        id: "spurious",
+        form: Form::Flag,
+        about: "Lets interrupts come also where no request is pending, or where it is held",
     },
     Part {
         id: "places",
@@ -197,6 +210,10 @@ pub struct ExploreRequest<'a> {
     pub prompt: bool,
     /// How many ticks more than another a processor may have taken. Without it any number.
     pub drift: Option<u32>,
+    /// How many ticks a processor may take in a row while it has something to do. Without it any number.
+    pub pace: Option<u32>,
+    /// Whether interrupts come also where no request is pending, or where it is held.
+    pub spurious: bool,
     pub bounds: Bounds,
     /// The path of the trace where the orders begin. Without it they begin at boot.
     pub from: Option<&'a str>,
@@ -246,6 +263,8 @@ fn request_of<'a>(matches: &ArgMatches<'a>) -> Option<ExploreRequest<'a>>
     let ticks = ticks_in(text_in(matches, "ticks"))?;
     let prompt = flag_in(matches, "prompt");
     let drift = bound_in(option_in(matches, "drift"))?;
+    let pace = bound_in(option_in(matches, "pace"))?;
+    let spurious = flag_in(matches, "spurious");
     let bounds = bounds_of(matches)?;
     let from = option_in(matches, "from");
     let layer = option_in(matches, "layer");
@@ -264,6 +283,8 @@ fn request_of<'a>(matches: &ArgMatches<'a>) -> Option<ExploreRequest<'a>>
         ticks,
         prompt,
         drift,
+        pace,
+        spurious,
         bounds,
         from,
         layer,

@@ -1,6 +1,7 @@
 -- What stands beside a fault of a question.
-use Rattle.std.specs.Prelude.{ℕ, Bool, List, [], ◌∷◌, ◌++◌, length, drop, min, ◌==◌, if◌then◌else◌, codes}
-use Rattle.std.specs.List.{list_any}
+use Rattle.std.specs.Prelude.{ℕ, Bool, ◌||◌, List, [], ◌∷◌, ◌++◌, length, take, drop, min, ◌==◌, if◌then◌else◌, codes}
+use Rattle.std.specs.List.{ends_with, list_any}
+use Rattle.std.specs.Str.{bytes_eq}
 use Rattle.fmp_bytes.specs.Bytes.{cut_at, space}
 use Rattle.fmp_names.specs.Names.{NameLists}
 use Rattle.fmp_search_question.specs.declared.fault.QuestionFault.{QuestionFault}
@@ -15,7 +16,7 @@ use Rattle.fmp_cli_hints.specs.Wanted.{label}
 abbrev pub words : QuestionFault → List ℕ
 words question.BadWord = codes "a word of printed bytes, with one blank between two words\n"
 words question.BadForm =
-    codes "a pattern, before and behind each `then`, `without` and `&`; a number from 1 to 255 at the front of a step before `times`\n"
+    codes "a pattern, before and after each `then`, `without`, `or` and `&`, and after `not`; a number from 1 to 255 at the front of a step before `times`\n"
 words question.UnknownName =
     codes "a name of the configuration, a processor, a call, a code, a word of a trace or of a state, or a `*` in the word\n"
 words question.TooLong = codes "at most 255 steps, and at most 1024 bytes in a pattern\n"
@@ -54,12 +55,28 @@ word_hint names word = if has_sign word then sign_words else run_hints names wor
 unfoldable pub order_hint : List ℕ → List ℕ
 order_hint word = if has_sign word then sign_words else line_hint word
 
--- with such a fault, in a text that goes on so from it on
-unfoldable pub hint : NameLists → QuestionFault → List ℕ → List ℕ
-hint names question.BadWord text = word_hint names (cut_at space text).0
-hint names question.UnknownName text = word_hint names (cut_at space text).0
-hint names question.NoLine text = order_hint (cut_at space text).0
-hint names fault text = []
+unfoldable pub refused_words : List ℕ
+refused_words = codes "  `refused` is a pattern by itself: `&` comes between it and another, as in `refused & act_tsk(*)`.\n"
+
+-- the last word of a text that ends with a blank is `refused`
+abbrev pub has_refused : List ℕ → Bool
+has_refused text = bytes_eq text (codes "refused ") || ends_with ◌==◌ text (codes " refused ")
+
+-- what is told of a word that no line has after those before it
+abbrev pub line_or_refused : List ℕ → List ℕ → List ℕ
+line_or_refused before word = if has_refused before then refused_words else order_hint word
+
+-- what is told of a word that has no place there
+abbrev pub form_or_refused : List ℕ → List ℕ
+form_or_refused word = if bytes_eq word (codes "refused") then refused_words else []
+
+-- with such a fault, where the text goes on so after the words before it
+unfoldable pub hint : NameLists → QuestionFault → List ℕ → List ℕ → List ℕ
+hint names question.BadWord before text = word_hint names (cut_at space text).0
+hint names question.UnknownName before text = word_hint names (cut_at space text).0
+hint names question.NoLine before text = line_or_refused before (cut_at space text).0
+hint names question.BadForm before text = form_or_refused (cut_at space text).0
+hint names question.TooLong before text = []
 
 abbrev pub empty_words : List ℕ → List ℕ
 empty_words [] = codes "  The question is empty.\n"
@@ -68,4 +85,4 @@ empty_words (b ∷ bytes) = []
 -- the question, a caret under the byte at which the fault begins, what is wanted there, and what is told of the word
 unfoldable pub question_context : NameLists → List ℕ → QuestionFault → ℕ → List ℕ
 question_context names text fault place =
-    excerpt text (min place (length text)) ++ label ++ words fault ++ empty_words text ++ hint names fault (drop (min place (length text)) text)
+    excerpt text (min place (length text)) ++ label ++ words fault ++ empty_words text ++ hint names fault (take (min place (length text)) text) (drop (min place (length text)) text)

@@ -17,7 +17,7 @@ fn wanted_at(fault: QuestionFault) -> &'static [u8]
     match fault {
         QuestionFault::BadWord => b"a word of printed bytes, with one blank between two words\n",
         QuestionFault::BadForm => {
-            b"a pattern, before and behind each `then`, `without` and `&`; a number from 1 to 255 at the front of a step before `times`\n"
+            b"a pattern, before and after each `then`, `without`, `or` and `&`, and after `not`; a number from 1 to 255 at the front of a step before `times`\n"
         }
         QuestionFault::UnknownName => {
             b"a name of the configuration, a processor, a call, a code, a word of a trace or of a state, or a `*` in the word\n"
@@ -109,24 +109,63 @@ fn put_order_hint(out: &mut Vec<u8>, word: &[u8]) -> Result<(), AllocError>
     }
 }
 
-/// Adds what is told of a question with this fault, whose text goes on so from the word at fault on.
+/// What is told of `refused` beside a word.
+#[tactic(auto, unfolding(crate::specs::Questions::refused_words))]
+fn refused_words() -> &'static [u8]
+    ensures { result.now ≡ spec.refused_words }
+{
+    b"  `refused` is a pattern by itself: `&` comes between it and another, as in `refused & act_tsk(*)`.\n"
+}
+
+/// Whether the last word of a text that ends with a blank is `refused`.
+fn has_refused(text: &[u8]) -> bool
+    ensures { result ≡ spec.has_refused text.now }
+{
+    text == b"refused ".as_slice() || text.ends_with(b" refused ")
+}
+
+/// Adds what is told of a word that no line has after the words before it.
+fn put_line_or_refused(out: &mut Vec<u8>, before: &[u8], word: &[u8]) -> Result<(), AllocError>
+    ensures { OnOk result (out.new.items ≡ out.old.items ++ spec.line_or_refused before.now word.now) }
+{
+    if has_refused(before) {
+        out.extend_from_slice(refused_words())
+    } else {
+        put_order_hint(out, word)
+    }
+}
+
+/// What is told of a word that has no place there.
+fn form_or_refused(word: &[u8]) -> &'static [u8]
+    ensures { result.now ≡ spec.form_or_refused word.now }
+{
+    if word == b"refused".as_slice() {
+        refused_words()
+    } else {
+        b""
+    }
+}
+
+/// Adds what is told of a question with this fault, whose text goes on so after the words before the one at fault.
 #[tactic(auto, unfolding(crate::specs::Questions::hint))]
 fn put_hint(
     alloc: Global,
     out: &mut Vec<u8>,
     names: &Names,
     fault: QuestionFault,
+    before: &[u8],
     text: &[u8],
 ) -> Result<(), AllocError>
-    ensures { OnOk result (out.new.items ≡ out.old.items ++ spec.hint names.now fault text.now) }
+    ensures { OnOk result (out.new.items ≡ out.old.items ++ spec.hint names.now fault before.now text.now) }
 {
     let (word, _rest) = cut(b' ', text);
     match fault {
         QuestionFault::BadWord | QuestionFault::UnknownName => {
             put_word_hint(alloc, out, names, word)
         }
-        QuestionFault::NoLine => put_order_hint(out, word),
-        _ => Ok(()),
+        QuestionFault::NoLine => put_line_or_refused(out, before, word),
+        QuestionFault::BadForm => out.extend_from_slice(form_or_refused(word)),
+        QuestionFault::TooLong => Ok(()),
     }
 }
 
@@ -159,6 +198,7 @@ pub fn question_context(
     out.extend_from_slice(label())?;
     out.extend_from_slice(wanted_at(fault))?;
     out.extend_from_slice(empty_words(text))?;
-    put_hint(alloc, &mut out, names, fault, &text[column..])?;
+    let (before, rest) = text.split_at(column);
+    put_hint(alloc, &mut out, names, fault, before, rest)?;
     Ok(out)
 }

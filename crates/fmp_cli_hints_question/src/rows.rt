@@ -1,18 +1,10 @@
 //! What is told of words of questions that no line of a trace has.
 
 /// What is told of a word of a question that no line of a trace has.
-pub const QUESTION_ROWS: [(&[u8], &[u8]); 17] = [
+pub const QUESTION_ROWS: [(&[u8], &[u8]); 15] = [
     (
         b"and",
         b"  Write `&` between patterns that have to be there at one event.\n",
-    ),
-    (
-        b"or",
-        b"  A question has no `or`: ask one question for each.\n",
-    ),
-    (
-        b"not",
-        b"  A pattern cannot be denied. `A without B`: A comes, and B did not come before.\n",
     ),
     (b"two", DIGITS),
     (b"three", DIGITS),

@@ -22,7 +22,7 @@ use Rattle.fmp_run_stream.specs.Runs.{Writing}
 
 -- which orders are gone through
 abbrev pub rules_of : ExploreRequest → Rules
-rules_of r = record { ticks = r.ticks; prompt = r.prompt; drift = r.drift }
+rules_of r = record { ticks = r.ticks; prompt = r.prompt; drift = r.drift; pace = r.pace; spurious = r.spurious }
 
 -- which runs seeds make: without `--late` and `--stalls` processors take turns
 abbrev pub runs_of : SmpRequest → SeedRuns

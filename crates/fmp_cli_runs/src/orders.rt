@@ -28,6 +28,8 @@ pub(crate) fn rules_of(request: &ExploreRequest<'_>) -> Rules
         ticks: request.ticks,
         prompt: request.prompt,
         drift: request.drift,
+        pace: request.pace,
+        spurious: request.spurious,
     }
 }
 

@@ -138,7 +138,7 @@ module _ (p : Proc) (x : TaskTold) (r : TaskRecord) (h : Agrees x r) where
   one_queued None e = ap (λ n. n == 1) e
   one_queued (Some to) e = ap (λ n. n == 1) e
 
-  activation_same : (r.active && r.activations == 1) ≡ (x.life.active && is_some x.life.queued)
+  pub activation_same : (r.active && r.activations == 1) ≡ (x.life.active && is_some x.life.queued)
   activation_same = ap (λ b. b && r.activations == 1) h.active ∙ ap (λ b. x.life.active && b) (one_queued x.life.queued h.activations)
 
   full_same : (c : TaskCall) → has_full c r ≡ is_full c x

@@ -42,7 +42,7 @@ module _ (c : Setup) (p : Proc) where
     pub locked : now.locked ≡ locked_by p records x.locked
     pub disabled : now.disabled ≡ disabled_by p records x.disabled
 
-  by_parts : (records : List Record) (x : ProcessorTold) → ByParts records x (processor_by c p records x)
+  pub by_parts : (records : List Record) (x : ProcessorTold) → ByParts records x (processor_by c p records x)
   by_parts [] x = record { handlers = refl; locked = refl; disabled = refl }
   by_parts (r ∷ rs) x = let h = by_parts rs (processor_after c p r x) in record { handlers = h.handlers; locked = h.locked; disabled = h.disabled }
 
@@ -71,7 +71,7 @@ module _ (c : Setup) (p : Proc) where
     holds_told : (es : List Event) → IsValid c → AreOn c.processors es → (n : ℕ) → HoldsTold (replay numbered (booted c) (take n es)) (told_processor c p (take n (answers numbered (booted c) es)))
     holds_told es valid on n = held_parts _ _ (flags_told c p es valid on n) (due_told c p here es valid on n)
 
-    holds_after_all : (es : List Event) → IsValid c → AreOn c.processors es → HoldsTold (replay numbered (booted c) es) (told_processor c p (answers numbered (booted c) es))
+    pub holds_after_all : (es : List Event) → IsValid c → AreOn c.processors es → HoldsTold (replay numbered (booted c) es) (told_processor c p (answers numbered (booted c) es))
     holds_after_all es valid on = held_parts _ _ (flags_after_all c p es valid on) (due_after_all c p here es valid on)
 
     abbrev HeldBy : State → List Event → ProcessorTold → Type 0

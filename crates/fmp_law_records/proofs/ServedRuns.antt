@@ -46,11 +46,11 @@ use Rattle.fmp_law_records.proofs.Places.{ordered_as, ArePlaced, placed_step}
 use Rattle.fmp_law_records.proofs.Served.{serves_step}
 
 -- what is told of waits and priorities
-waits_by : (c : Setup) (rs : List Record) (x : Places) → (places_by c rs x).waits ≡ after_records c x.waits rs
+pub waits_by : (c : Setup) (rs : List Record) (x : Places) → (places_by c rs x).waits ≡ after_records c x.waits rs
 waits_by c [] x = refl
 waits_by c (r ∷ rs) x = waits_by c rs (places_after c r x)
 
-priority_told_by : (c : Setup) (t : Task) (rs : List Record) (x : Places) → (places_by c rs x).priority t ≡ priority_by (setup_of c t).priority t rs (x.priority t)
+pub priority_told_by : (c : Setup) (t : Task) (rs : List Record) (x : Places) → (places_by c rs x).priority t ≡ priority_by (setup_of c t).priority t rs (x.priority t)
 priority_told_by c t [] x = refl
 priority_told_by c t (r ∷ rs) x = priority_told_by c t rs (places_after c r x)
 
@@ -80,7 +80,7 @@ module _ (c : Setup) where
   first_orders kind.Pool o = ap (λ (s : Pool). s.setup.order) (get_or-map (λ (s : PoolSetup). record { setup = s; handed = _ }) c.pools (o.number - 1) no_pool)
   first_orders k o = refl
 
-  placed_booted : length c.tasks ≤ 64 → ArePlaced c (places_at_boot c) (booted c)
+  pub placed_booted : length c.tasks ≤ 64 → ArePlaced c (places_at_boot c) (booted c)
   placed_booted few = record {
     since = λ t. omega arith;
     begun = λ t none. absurd (false≢true none);
@@ -89,14 +89,14 @@ module _ (c : Setup) where
     orders = λ k o. booted_quiet.orders k o ∙ first_orders k o;
   }
 
-  placed_run : (x : Places) (m : State) (es : List Event) → Ready c x.waits m es → ArePlaced c x m → ArePlaced c (places_by c (answers numbered m es) x) (replay numbered m es)
+  pub placed_run : (x : Places) (m : State) (es : List Event) → Ready c x.waits m es → ArePlaced c x m → ArePlaced c (places_by c (answers numbered m es) x) (replay numbered m es)
   placed_run x m [] ready placed = placed
   placed_run x m (e ∷ es) ready placed =
       placed_run (places_after c (step numbered m e).1 x) (step numbered m e).0 es (ready_next c x.waits m e es ready)
       (placed_step c m x placed ready.safe ready.sound ready.told e (followed c x.waits m (e ∷ es) ready e).counts.0)
 
 -- who waits is active
-waiting_active : (m : State) → Safe numbered m → (t : Task) → is_some (task m t).wait ≡ true → (task m t).active ≡ true
+pub waiting_active : (m : State) → Safe numbered m → (t : Task) → is_some (task m t).wait ≡ true → (task m t).active ≡ true
 waiting_active m s t waits = go (task m t).active refl
   where
     dormant : (task m t).active ≡ false → (task m t).wait ≡ None
@@ -106,7 +106,7 @@ waiting_active m s t waits = go (task m t).active refl
     go true e = e
     go false e = absurd (both_ways _ (ap is_some (dormant e)) waits)
 
-open_waits : (o : Option Wait) (q : Option OpenWait) → o ≡ option_map (λ y. y.wait) q → is_some q ≡ true → is_some o ≡ true
+pub open_waits : (o : Option Wait) (q : Option OpenWait) → o ≡ option_map (λ y. y.wait) q → is_some q ≡ true → is_some o ≡ true
 open_waits o (Some y) is e = ap is_some is
 open_waits o None is e = absurd (false≢true e)
 

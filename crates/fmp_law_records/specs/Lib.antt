@@ -6,6 +6,7 @@ pub mod Patterns  -- What records say of the pattern of an eventflag.
 pub mod Handlers  -- Where alarms and cyclic handlers are assigned, and what is left of their time, told by records alone.
 pub mod Due  -- Which handlers are due on a processor, told by records alone.
 pub mod Requests  -- Whether a request is pending on a processor, told by records alone.
+pub mod Quiet  -- Events that change nothing, by their records alone.
 pub mod Served  -- In which order waiting tasks are served, told by records alone.
 pub mod Lives  -- What records say of the life of a task: whether it is active, which activation is queued, and where it is assigned.
 pub mod Accepting  -- Which calls on a task are due, by what the records before them say of this task.

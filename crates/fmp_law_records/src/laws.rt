@@ -20,6 +20,7 @@ ghost use Rattle.fmp_law_records.specs.Patterns.{clears_of, told_pattern, IsPatt
 ghost use Rattle.fmp_law_records.specs.Handlers.{IsAlarmTold, IsCyclicTold};
 ghost use Rattle.fmp_law_records.specs.Due.{handlers_by, handlers_at_boot, AreDueTold, RunsFirst};
 ghost use Rattle.fmp_law_records.specs.Requests.{told_processor, IsRequestTold, SignalsFit};
+ghost use Rattle.fmp_law_records.specs.Quiet.{ChangesNothing};
 ghost use Rattle.fmp_law_records.specs.Standing.{told_standing, AreReadyTold};
 ghost use Rattle.fmp_law_records.specs.Tops.{RequestsAreDue};
 ghost use Rattle.fmp_law_records.specs.Served.{places_by, places_at_boot, ServesInOrder};
@@ -156,4 +157,12 @@ pub fn requests_are_due()
 pub fn served_in_order()
     ensures { (c : Setup) (events : List Event) → IsValid c → AreOn c.processors events → (event : Event)
         → ServesInOrder c (places_by c (answers numbered (booted c) events) (places_at_boot c)) (step numbered (replay numbered (booted c) events) event).1 }
+{}
+
+/// After every list of events on the processors of a valid configuration, an event whose record says that nothing happened changes nothing: a call that
+/// nobody is there to make answers `idle`, a tick or an interrupt is held back, a tick does not count, an interrupt finds no request.
+pub fn quiet_events_change_nothing()
+    ensures { (c : Setup) (events : List Event) → IsValid c → AreOn c.processors events → (event : Event) → (processor_of event).number ≤ c.processors
+        → ChangesNothing (replay numbered (booted c) events) event (step numbered (replay numbered (booted c) events) event).1
+        (step numbered (replay numbered (booted c) events) event).0 }
 {}

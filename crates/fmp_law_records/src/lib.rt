@@ -1,6 +1,7 @@
 //! What the records of a run tell of suspensions, lives and priorities of tasks, of which calls on tasks are due, of flags of
 //! processors, spin locks, patterns of eventflags, alarms, cyclic handlers, handlers that are due, requests and who is sent them,
-//! and the orders of the ready tasks and of the waiting ones, proved on the definitions of the machine over every list of events.
+//! the orders of the ready tasks and of the waiting ones, and which events change nothing, proved on the definitions of the machine over
+//! every list of events.
 //!
 //! There is no code here: a law is the contract of a function without a body. Each law tells a part of the state along a run by its
 //! records alone, by a definition that knows none of the rules of the calls, and says that the state behind each prefix is so.
@@ -10,7 +11,7 @@ mod laws;
 
 pub use laws::{
     alarms_are_told, calls_on_tasks_were_due, cyclics_are_told, flags_are_told,
-    handlers_due_are_told, locks_are_told, patterns_are_told, priorities_are_told,
-    ready_order_is_told, requests_are_due, requests_are_told, served_in_order,
-    suspensions_are_told,
+    handlers_due_are_told, lives_are_told, locks_are_told, patterns_are_told, priorities_are_told,
+    quiet_events_change_nothing, ready_order_is_told, requests_are_due, requests_are_told,
+    served_in_order, suspensions_are_told,
 };

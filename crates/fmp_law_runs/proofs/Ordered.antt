@@ -85,7 +85,7 @@ module _ (c : Setup) (scripts : List Steps) (ticks turns : ℕ) (h : List Record
   happens k r (event.Ipi p) at is (inr picks) =
       asks (is_asked (state_after c (take k h)) p) p (next_call c scripts (take k h) p (runner_of (state_after c (take k h)) p))
       (no_interrupt c scripts (take k h) p (runner_of (state_after c (take k h)) p)) picks
-  happens k r (event.Tick p) at is scripted = ticks_so k r p at is
+  happens k r (event.Tick p) at is scripted = let so = ticks_so k r p at is in rw so refl
 
   pub an_order : IsOrder c scripts (promptly ticks) h
   an_order = record {

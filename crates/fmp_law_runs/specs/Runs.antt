@@ -1,5 +1,5 @@
 -- Runs by a seed, and the orders that they are among.
-use Rattle.std.specs.Prelude.{◌≡◌, ℕ, true, List, Some, None}
+use Rattle.std.specs.Prelude.{◌≡◌, ℕ, true, false, List, Some, None}
 use Rattle.fmp_codes.specs.declared.records.Record.{Record}
 use Rattle.fmp_setup.specs.Setup.{Setup}
 use Rattle.fmp_text_scripts.specs.Scripts.{Steps}
@@ -11,7 +11,7 @@ use Rattle.fmp_search_orders.specs.declared.rules.Rules.{Rules}
 
 -- the rules of orders in which each processor takes at most so many ticks, and each request is taken before its processor's next call
 abbrev pub promptly : ℕ → Rules
-promptly ticks = record { ticks = Some ticks; prompt = true; drift = None }
+promptly ticks = record { ticks = Some ticks; prompt = true; drift = None; pace = None; spurious = false }
 
 -- a run by scripts in the order of a seed, which ended so
 pub record IsSeeded (seed : ℕ) (c : Setup) (scripts : List Steps) (ticks turns : ℕ) (h : List Record) (ended : Ended) : Type 0 where

@@ -18,9 +18,10 @@ ghost use Rattle.fmp_law_safety.specs.Runs.{processor_of, AreOn, IsSafeThroughou
 ghost use Rattle.fmp_law_safety.specs.Laws.{FindsNothing, TakesRequest, RunsTop, ServesItsOwn, OnlyDispatches};
 
 /// The first of some tasks is one of them that none of them comes before. So the top of a processor is a ready task there,
-/// no ready task there has a lower priority number, or the same one and was ready earlier, and there is no top only where
-/// no task is ready. Likewise the first in the queue of an object waits there, and no task that does has a lower priority
-/// number, where the queue is by priority, or waits there longer.
+/// no ready task there has a lower priority number, or the same one and a lower number in `order.ready`, and there is no top
+/// only where no task is ready. Likewise the first in the queue of an object waits there, and no task that does has a lower
+/// priority number, where the queue is by priority, or else a lower number in `order.begun`. That these numbers put first who
+/// was ready earlier and who waits longer is not said here: `ready_order_is_told` and `served_in_order` say it of the records.
 pub fn first_means_least()
     ensures first { (qualifies : Task → Bool) (before : Task → Task → Bool) (n : ℕ)
         → IsStrict before → IsFirst qualifies before n (world.first (in_order qualifies before n)) }

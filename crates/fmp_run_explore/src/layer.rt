@@ -1,13 +1,20 @@
 //! The orders from which a search is to go on.
-ghost use Rattle.std.specs.Prelude.{◌≡◌, ◌<◌, length, IfOk};
+ghost use Rattle.std.specs.Prelude.{◌≡◌, ◌-◌, ◌<◌, ◌≤◌, ℕ, List, length, IfOk};
+ghost use Rattle.fmp_text_scripts.specs.Scripts.{AreInBits};
 ghost use Rattle.fmp_search_orders.specs.Places as places;
+ghost use Rattle.fmp_search_orders.specs.Shown.{NoneShows};
+ghost use Rattle.fmp_run_explore.specs.declared.finding.Finding.TheVariants.{Never};
+ghost use Rattle.fmp_run_explore.specs.Explored.{Finds, IsEndedBy};
 ghost use Rattle.fmp_run_explore.specs.Views.{layer_of, trace_of, CanBeMade};
 
 use crate::asking::Asked;
 use crate::finding::Finding;
+use crate::searching::found;
 use crate::telling::trace_along;
-use fmp_search::Roots;
+use fmp_names::Names;
+use fmp_search::{Progress, Roots};
 use fmp_search_orders::Rules;
+use fmp_search_question::Question;
 use std::alloc::{AllocError, Global};
 use std::marker::Model;
 
@@ -21,6 +28,7 @@ pub struct Layer {
 }
 
 impl Model for Layer {
+    ghost use Rattle.fmp_text_scripts.specs.Scripts.{AreInBits};
     ghost use Rattle.fmp_search_orders.specs.Places.{origin};
     ghost use Rattle.fmp_run_explore.specs.Views as views;
 
@@ -28,13 +36,14 @@ impl Model for Layer {
 
     ghost view = { λ l. views.layer_of l.asked.config l.asked.scripts l.rules l.asked.question l.roots };
 
-    ghost invariant = { λ l. views.CanBeMade (origin l.asked.config l.asked.scripts l.rules l.asked.question) l.roots };
+    ghost invariant = { λ l. views.CanBeMade (origin l.asked.config l.asked.scripts l.rules l.asked.question) l.roots × AreInBits l.asked.scripts };
 }
 
 impl Layer {
     /// What is told along these steps, which can be made one after the other.
     pub(crate) fn of(asked: Asked, rules: Rules, roots: Roots) -> Layer
-        requires { CanBeMade (places.origin asked.config asked.scripts rules asked.question) roots }
+        requires made { CanBeMade (places.origin asked.config asked.scripts rules asked.question) roots }
+        requires in_bits { AreInBits asked.scripts }
         ensures { result ≡ layer_of asked.config asked.scripts rules asked.question roots }
     {
         Layer {
@@ -67,6 +76,48 @@ impl Layer {
             &steps,
         )
     }
+
+    /// The names of the machine.
+    pub fn names(&self) -> &Names
+        ensures { result.now ≡ self.now.config.names }
+    {
+        self.asked.config.names()
+    }
+
+    /// What was looked for.
+    pub fn question(&self) -> &Question
+        ensures { result.now ≡ self.now.question }
+    {
+        &self.asked.question
+    }
+
+    /// What is known of another question about the same machine, scripts and rules. The error is want of memory.
+    pub fn finding<P: Progress>(
+        &self,
+        alloc: Global,
+        question: &Question,
+        progress: &mut P,
+        turns: u32,
+        places: u32,
+    ) -> Result<Finding, AllocError>
+        requires turns { turns ≤ 1000000 }
+        requires places { 1 ≤ places }
+        ensures finds { IfOk result (λ f. (text : List ℕ) × Finds self.now.config self.now.scripts self.now.rules question.now turns (places - 1) text f) }
+        ensures ended { IfOk result (λ f. IsEndedBy (P.over progress.new) f) }
+    {
+        let asked = &self.asked;
+        let report = found(
+            alloc,
+            &asked.config,
+            &asked.scripts,
+            self.rules,
+            question,
+            progress,
+            turns,
+            places - 1,
+        )?;
+        Ok(report.finding)
+    }
 }
 
 /// What a search found of all orders, and those from which it is to go on.
@@ -74,4 +125,5 @@ impl Layer {
 pub struct Outcome {
     pub finding: Finding,
     pub layer: Layer,
+    pub ghost none_shows: { (finding ≡ Never) → NoneShows layer.config layer.scripts layer.rules layer.question },
 }

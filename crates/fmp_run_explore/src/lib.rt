@@ -3,10 +3,12 @@
 //! [`run_explore`] reads both texts and the question, goes through every order of calls, interrupts and ticks that the rules allow, and writes
 //! `never`, `not within` and a number, or the trace of a shortest order that shows the question. What each of them says of all orders is
 //! `Finds` in `specs/Explored`: begin there. From where a search is to go on, and that what is known of the orders that go on from there is known of
-//! all, is `LeavesLayer` in `specs/Left`. Orders, and when one shows a question, are in `fmp_search_orders`.
+//! all, is `LeavesLayer` in `specs/Left`. How many steps come of a question that no order shows is `HasCome` in `specs/Came`. Orders, and when one
+//! shows a question, are in `fmp_search_orders`.
 #![tactic(auto)]
 
 mod asking;
+mod came;
 mod fault;
 mod finding;
 mod layer;

@@ -19,7 +19,7 @@ use Rattle.fmp_run_seeds.specs.declared.orders.SeedOrder.TheVariants.{InTurn, Dr
 
 -- when the line `end` stands in such a run: each processor takes so many ticks
 abbrev pub rules_of : SeedOrder → ℕ → Rules
-rules_of InTurn ticks = record { ticks = Some ticks; prompt = true; drift = None }
+rules_of InTurn ticks = record { ticks = Some ticks; prompt = true; drift = None; pace = None; spurious = false }
 rules_of (Drawn drawing) ticks = drawn.rules_of drawing ticks
 
 -- a run by the scripts in which processors take turns as a seed says, which ended so

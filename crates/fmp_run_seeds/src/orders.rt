@@ -50,6 +50,8 @@ impl SeedRuns {
                 ticks: Some(self.ticks),
                 prompt: true,
                 drift: None,
+                pace: None,
+                spurious: false,
             },
             SeedOrder::Drawn(drawing) => drawing.rules(self.ticks),
         }

@@ -1,6 +1,6 @@
 -- Positions and ticks taken grow by one a step at most, or positions are those of a jump.
-use Rattle.std.proofs.Common.{◌≡◌, ℕ, ◌+◌, ◌-◌, ◌<◌, ◌≤◌, ◌==◌, ◌≢◌, ◌∙◌, ◌^◌, Bool, true, false, ◌&&◌, cond, List, [], ◌∷◌, length, Option, Some, None, refl, arith, slice_index, slice_set}
-use Rattle.std.specs.Prelude.{replicate}
+use Rattle.std.proofs.Common.{◌≡◌, ℕ, ◌+◌, ◌-◌, ◌<◌, ◌≤◌, ◌==◌, ◌≢◌, ◌∙◌, ◌^◌, Bool, true, false, ◌&&◌, ◌||◌, not, cond, List, [], ◌∷◌, length, Option, Some, None, refl, arith, slice_index, slice_set}
+use Rattle.std.specs.Prelude.{is_none, is_some, map, nat_lt, replicate}
 use Rattle.std.proofs.lemmas.Bool.{eqb-true, eqb-false}
 use Rattle.std.proofs.lemmas.List.{get_or-set_same, get_or-set_other, length-set}
 use Rattle.fmp_codes.specs.Records.{processor_of, is_gone, is_taken}
@@ -15,14 +15,14 @@ use Rattle.fmp_codes.specs.declared.records.Record.{Record}
 use Rattle.fmp_codes.specs.declared.records.Release.{Release}
 use Rattle.fmp_text_scripts.specs.declared.ways.Way.{Way}
 use Rattle.fmp_text_scripts.specs.Scripts.{Steps}
-use Rattle.fmp_setup.specs.Setup.{Setup}
+use Rattle.fmp_setup.specs.Setup.{Setup, has_time}
 use Rattle.fmp_smp_histories.specs.Positions.{is_return, terminated, ways_of_task, ways_of_runner}
 use Rattle.fmp_smp_histories.specs.Places.{called_tasks, released_task, released_tasks, renewed, moved_tasks, handler_moved, moved_handlers}
 use Rattle.fmp_smp_histories.proofs.Advancing.{called_long, released_long, either_le, called_le, onward_le}
 use Rattle.fmp_search_orders.specs.declared.rules.Rules.{Rules}
-use Rattle.fmp_search_orders.specs.Orders.{counts_ticks}
-use Rattle.fmp_search_orders.specs.Places.{moved_taken}
-use Rattle.fmp_search_orders.proofs.Longer.{renewed_long, taken_long}
+use Rattle.fmp_search_orders.specs.Orders.{counts_ticks, each, idled_next}
+use Rattle.fmp_search_orders.specs.Places.{moved_taken, lowered, moved_idled}
+use Rattle.fmp_search_orders.proofs.Longer.{renewed_long, taken_long, lowered_long, one_less, idled_long}
 use Rattle.fmp_search_kernel.specs.Walked.{AreBounded, IsRoomy}
 
 -- each number of a list is at most one more than that of another, or one of a step
@@ -114,6 +114,47 @@ taken_near rules ns (event.Tick p) a long = go (counts_ticks rules && is_taken a
         set_near ns (p.number - 1) _ (omega (arith, least, most, long)) (λ x here big. omega (arith, here))
     go false = same_near ns
 
+lowered_le : (c : Setup) (rules : Rules) (ns : List ℕ) (i : ℕ) → slice_index (lowered c rules ns) i ≤ slice_index ns i
+lowered_le c rules ns i = go (is_none rules.ticks && each (λ q. not (has_time c.timer q) || nat_lt 0 (slice_index ns (q.number - 1))) c.processors)
+  where
+    go : (b : Bool) → slice_index (cond b (map (λ n. n - 1) ns) ns) i ≤ slice_index ns i
+    go true = let less = one_less ns i in omega (arith, less)
+    go false = omega arith
+
+-- after a tick, and with the differences alone
+ticks_near : (c : Setup) (rules : Rules) (ns : List ℕ) (e : Event) (a : Answer) → length ns ≡ 8 → IsNear ns (lowered c rules (moved_taken rules ns e a))
+ticks_near c rules ns e a long i x here most =
+    let less = lowered_le c rules (moved_taken rules ns e a) i in
+    let near = taken_near rules ns e a long i x here most in
+    omega (arith, less, near)
+
+idled_le : (busy : Bool) (e : Event) (a : Answer) (x : ℕ) → idled_next busy e a x ≤ x + 1
+idled_le busy (event.Call p c) a x = omega arith
+idled_le busy (event.Ipi p) a x = go (is_taken a)
+  where
+    go : (b : Bool) → cond b 0 x ≤ x + 1
+    go true = omega arith
+    go false = omega arith
+idled_le busy (event.Tick p) a x = go (is_taken a) busy
+  where
+    go : (b s : Bool) → cond b (cond s (x + 1) 0) x ≤ x + 1
+    go true true = omega arith
+    go true false = omega arith
+    go false s = omega arith
+
+idled_near : (rules : Rules) (busy : Bool) (ns : List ℕ) (r : Record) → length ns ≡ 8 → IsNear ns (moved_idled rules busy ns r)
+idled_near rules busy ns r long = go (is_some rules.pace)
+  where
+    at : ℕ
+    at = (processor_of r.event).number - 1
+
+    go : (b : Bool) → IsNear ns (cond b (slice_set ns at (idled_next busy r.event r.answer (slice_index ns at))) ns)
+    go true =
+        let least = (processor_of r.event).least in
+        let most = (processor_of r.event).most in
+        set_near ns at _ (omega (arith, least, most, long)) (λ x here big. let le = idled_le busy r.event r.answer (slice_index ns at) in omega (arith, here, le))
+    go false = same_near ns
+
 bounded_less : (n : ℕ) (ns ms : List ℕ) (left : ℕ) → 0 < left → left ≤ 2 ^ 31 → AreBounded n ns left → IsNear ns ms → AreBounded n ms (left - 1)
 bounded_less n ns ms left some most bounded near i small =
     let b = bounded i small in
@@ -121,30 +162,34 @@ bounded_less n ns ms left some most bounded near i small =
     omega (arith, some, most, b, c)
 
 -- after one step there is room for one less
-module _ (c : Setup) (scripts : List Steps) (rules : Rules) (tasks handlers taken : List ℕ) (seen left : ℕ) (made : Record) where
-  pub roomy_less : 0 < left → IsRoomy tasks handlers taken seen left → (next : ℕ) → next ≤ seen + 1 →
-      IsRoomy (moved_tasks c scripts tasks made) (moved_handlers c scripts handlers made) (moved_taken rules taken made.event made.answer) next (left - 1)
+module _ (c : Setup) (scripts : List Steps) (rules : Rules) (tasks handlers taken idled : List ℕ) (busy : Bool) (seen left : ℕ) (made : Record) where
+  pub roomy_less : 0 < left → IsRoomy tasks handlers taken idled seen left → (next : ℕ) → next ≤ seen + 1 →
+      IsRoomy (moved_tasks c scripts tasks made) (moved_handlers c scripts handlers made) (lowered c rules (moved_taken rules taken made.event made.answer)) (moved_idled rules busy idled made) next (left - 1)
   roomy_less some r next le =
       let b = r.seen_bounded in
       let most : left ≤ 2 ^ 31 = omega (arith, b) in
       record {
         tasks_bounded = bounded_less 64 tasks _ left some most r.tasks_bounded (tasks_near c scripts tasks made r.tasks_sized);
         handlers_bounded = bounded_less 8 handlers _ left some most r.handlers_bounded (handlers_near c scripts handlers made r.handlers_sized);
-        taken_bounded = bounded_less 8 taken _ left some most r.taken_bounded (taken_near rules taken made.event made.answer r.taken_sized);
+        taken_bounded = bounded_less 8 taken _ left some most r.taken_bounded (ticks_near c rules taken made.event made.answer r.taken_sized);
+        idled_bounded = bounded_less 8 idled _ left some most r.idled_bounded (idled_near rules busy idled made r.idled_sized);
         seen_bounded = omega (arith, some, b, le);
         tasks_sized = renewed_long _ _ ∙ called_long c scripts (released_tasks c scripts tasks made.releases) made.runner made.event made.answer ∙ released_long c scripts tasks made.releases ∙ r.tasks_sized;
         handlers_sized = length-set handlers _ _ ∙ r.handlers_sized;
-        taken_sized = taken_long rules taken made.event made.answer ∙ r.taken_sized;
+        taken_sized = lowered_long c rules _ ∙ taken_long rules taken made.event made.answer ∙ r.taken_sized;
+        idled_sized = idled_long rules busy idled made ∙ r.idled_sized;
       }
 
 -- at the start there is all room
-pub roomy_start : (left : ℕ) → left ≤ 2 ^ 31 → IsRoomy (replicate 64 0) (replicate 8 0) (replicate 8 0) 0 left
+pub roomy_start : (left : ℕ) → left ≤ 2 ^ 31 → IsRoomy (replicate 64 0) (replicate 8 0) (replicate 8 0) (replicate 8 0) 0 left
 roomy_start left le = record {
   tasks_bounded = λ i small. rw (zeros 64 i) (omega (arith, le));
   handlers_bounded = λ i small. rw (zeros 8 i) (omega (arith, le));
   taken_bounded = λ i small. rw (zeros 8 i) (omega (arith, le));
+  idled_bounded = λ i small. rw (zeros 8 i) (omega (arith, le));
   seen_bounded = omega (arith, le);
   tasks_sized = refl;
   handlers_sized = refl;
   taken_sized = refl;
+  idled_sized = refl;
 }

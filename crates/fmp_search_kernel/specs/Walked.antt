@@ -33,6 +33,10 @@ is_beside c drift taken n q = not (has_time c.timer q) || nat_lt n (count_in tak
 abbrev pub is_out : Setup → Rules → List ℕ → Proc → Bool
 is_out c rules taken p = not (has_time c.timer p && is_left rules.ticks (count_in taken p.number))
 
+-- a processor has taken a tick, or its ticks do not count
+abbrev pub is_ticked : Setup → List ℕ → Proc → Bool
+is_ticked c taken q = not (has_time c.timer q) || nat_lt 0 (count_in taken q.number)
+
 -- on a processor no handler is due, no task runs and no request is pending
 abbrev pub is_idle_on : World Queues → Proc → Bool
 is_idle_on w p = is_none (runner_of w p) && not (processor w p).latch
@@ -41,14 +45,16 @@ is_idle_on w p = is_none (runner_of w p) && not (processor w p).latch
 abbrev pub AreBounded : ℕ → List ℕ → ℕ → Type 0
 AreBounded n ns left = (i : ℕ) → i < n → slice_index ns i + left ≤ 2 ^ 31 + most_steps
 
-pub record IsRoomy (tasks handlers taken : List ℕ) (seen left : ℕ) : Type 0 where
+pub record IsRoomy (tasks handlers taken idled : List ℕ) (seen left : ℕ) : Type 0 where
   pub tasks_bounded : AreBounded 64 tasks left
   pub handlers_bounded : AreBounded 8 handlers left
   pub taken_bounded : AreBounded 8 taken left
+  pub idled_bounded : AreBounded 8 idled left
   pub seen_bounded : seen + left ≤ 2 ^ 31
   pub tasks_sized : length tasks ≡ 64
   pub handlers_sized : length handlers ≡ 8
   pub taken_sized : length taken ≡ 8
+  pub idled_sized : length idled ≡ 8
 
 -- where all its runs begin
 abbrev pub origin_of : Place → Place

@@ -39,6 +39,7 @@ impl<'a> Space for Walker<'a> {
         self.tasks = [0; 64];
         self.handlers = [0; 8];
         self.taken = [0; 8];
+        self.idled = [0; 8];
         self.seen = 0;
         self.left = MOST;
         Ok(())
@@ -80,6 +81,7 @@ impl<'a> Space for Walker<'a> {
         self.tasks = other.tasks;
         self.handlers = other.handlers;
         self.taken = other.taken;
+        self.idled = other.idled;
         self.seen = other.seen;
         self.left = other.left;
         Ok(())
@@ -100,6 +102,7 @@ impl<'a> Space for Walker<'a> {
             && are_equal(&self.tasks, &other.tasks)
             && self.handlers == other.handlers
             && self.taken == other.taken
+            && self.idled == other.idled
             && self.kernel.is_same(&other.kernel)
     }
 
@@ -110,6 +113,7 @@ impl<'a> Space for Walker<'a> {
         add_numbers(&mut digest, &self.tasks);
         add_numbers(&mut digest, &self.handlers);
         add_numbers(&mut digest, &self.taken);
+        add_numbers(&mut digest, &self.idled);
         digest.value()
     }
 }

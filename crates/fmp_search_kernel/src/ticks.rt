@@ -1,12 +1,12 @@
 //! Which ticks there may be.
-ghost use Rattle.std.specs.Prelude.{◌≡◌, ◌<◌, ◌+◌, ◌^◌, ℕ, slice_index};
+ghost use Rattle.std.specs.Prelude.{◌≡◌, ◌<◌, ◌+◌, ◌-◌, ◌^◌, ℕ, map, slice_index};
 ghost use Rattle.fmp_setup.specs.Setup.{has_time};
 ghost use Rattle.fmp_search_orders.specs.Orders as orders;
 ghost use Rattle.fmp_search_orders.specs.Places as places;
 ghost use Rattle.fmp_search_orders.specs.Sights.{is_out_of_time};
-ghost use Rattle.fmp_search_kernel.specs.Walked.{count_in, is_beside, is_out};
+ghost use Rattle.fmp_search_kernel.specs.Walked.{count_in, is_beside, is_out, is_ticked};
 
-use fmp_codes::{Event, Proc, Record};
+use fmp_codes::{Answer, Event, Proc, Record};
 use fmp_rules::{Config, Timer};
 use fmp_search_orders::Rules;
 use fmp_smp_histories::is_taken;
@@ -83,6 +83,87 @@ pub fn advance_taken(rules: Rules, taken: &mut [u32; 8], made: &Record)
     if counts_ticks(rules) && is_taken(made.answer) {
         taken[p.index()] += 1;
     }
+}
+
+/// Whether a processor has taken a tick, or its ticks do not count.
+fn is_ticked(config: &Config, taken: &[u32; 8], q: Proc) -> bool
+    ensures { result ≡ is_ticked config.now taken.now q }
+{
+    !has_time(config.timer(), q) || 0 < taken[q.index()]
+}
+
+/// Whether each processor whose ticks count has taken one.
+fn all_ticked(config: &Config, taken: &[u32; 8]) -> bool
+    ensures { result ≡ orders.each (is_ticked config.now taken.now) config.now.processors }
+{
+    for at in 0..config.processors() {
+        if !is_ticked(config, taken, Proc::new(at + 1)) {
+            return false;
+        }
+    }
+    true
+}
+
+/// One less, or none of none.
+fn one_less(count: u32) -> u32
+    ensures { result ≡ count - 1 }
+{
+    count.saturating_sub(1)
+}
+
+/// Takes one from each count.
+fn take_one(taken: &mut [u32; 8])
+    ensures { taken.new ≡ map (λ n. n - 1) taken.old }
+{
+    for count in taken.iter_mut() {
+        *count = one_less(*count);
+    }
+}
+
+/// Keeps only the differences of the counts, where the number of ticks is not limited: so there are finitely many of them.
+pub(crate) fn lower_taken(config: &Config, rules: Rules, taken: &mut [u32; 8])
+    ensures { taken.new ≡ places.lowered config.now rules taken.old }
+{
+    if rules.ticks.is_none() && all_ticked(config, taken) {
+        take_one(taken);
+    }
+}
+
+/// Whether another tick is not too many before a busy processor does something, where it has taken so many since it did.
+pub(crate) fn keeps_pace(pace: Option<u32>, busy: bool, idled: u32) -> bool
+    ensures { result ≡ orders.keeps_pace pace busy idled }
+{
+    match pace {
+        None => true,
+        Some(most) => !busy || idled < most,
+    }
+}
+
+/// What an event makes of that number of its processor, which was busy before it or was not.
+fn idled_next(busy: bool, event: Event, answer: Answer, idled: u32) -> u32
+    requires { idled + 1 < 2 ^ 32 }
+    ensures { result ≡ orders.idled_next busy event answer idled }
+{
+    match event {
+        Event::Call(_, _) => 0,
+        Event::Tick(_) if !is_taken(answer) => idled,
+        Event::Tick(_) if busy => idled + 1,
+        Event::Tick(_) => 0,
+        Event::Ipi(_) if is_taken(answer) => 0,
+        Event::Ipi(_) => idled,
+    }
+}
+
+/// Counts so the event of a record, if a rule asks for it.
+pub(crate) fn advance_idled(rules: Rules, busy: bool, idled: &mut [u32; 8], made: &Record)
+    requires { (i : ℕ) → i < 8 → slice_index idled.old i + 1 < 2 ^ 32 }
+    ensures { idled.new ≡ places.moved_idled rules busy idled.old made.now }
+{
+    if rules.pace.is_none() {
+        return;
+    }
+    let at = made.event.processor().index();
+    idled[at] = idled_next(busy, made.event, made.answer, idled[at]);
 }
 
 /// Whether the ticks of a processor do not count, or it may take none any more.

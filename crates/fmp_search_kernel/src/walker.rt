@@ -12,7 +12,7 @@ ghost use Rattle.fmp_search_question.specs.Questions.{allows};
 ghost use Rattle.fmp_search_kernel.specs.Walked.{origin_of};
 
 use crate::sights::{bits_in, has_to_look, is_over, look, put_sight};
-use crate::ticks::{advance_taken, may_tick};
+use crate::ticks::{advance_idled, advance_taken, keeps_pace, lower_taken, may_tick};
 use fmp_codes::{Answer, Event, Proc, Record, Runner};
 use fmp_kernel::Kernel;
 use fmp_rules::Config;
@@ -39,8 +39,10 @@ pub struct Walker<'a> {
     /// Where the scripts of the tasks, and of the handlers on each processor, have come to.
     pub(crate) tasks: [u32; 64],
     pub(crate) handlers: [u32; 8],
-    /// The ticks that each processor has taken, where they are counted.
+    /// The ticks that each processor has taken, where they are counted, or without a limit how many more than another.
     pub(crate) taken: [u32; 8],
+    /// The ticks that each has taken in a row while it was busy, where they are counted.
+    pub(crate) idled: [u32; 8],
     /// How many steps of the question were seen.
     pub(crate) seen: u32,
     pub(crate) left: u32,
@@ -59,9 +61,9 @@ impl<'a> Model for Walker<'a> {
 
     ghost Value = { Walked };
 
-    ghost view = { λ w. record { place = record { config = w.config.now; scripts = w.scripts.now; rules = w.rules; question = w.question.now; machine = w.kernel; tasks = w.tasks; handlers = w.handlers; taken = w.taken; seen = w.seen }; left = w.left; made = w.made } };
+    ghost view = { λ w. record { place = record { config = w.config.now; scripts = w.scripts.now; rules = w.rules; question = w.question.now; machine = w.kernel; tasks = w.tasks; handlers = w.handlers; taken = w.taken; idled = w.idled; seen = w.seen }; left = w.left; made = w.made } };
 
-    ghost invariant = { λ w. (length w.kernel.processors ≡ w.config.now.processors) × (w.start ≡ boot listed (no_queues w.config.now) w.config.now) × (length w.start.processors ≡ w.config.now.processors) × IsRoomy w.tasks w.handlers w.taken w.seen w.left };
+    ghost invariant = { λ w. (length w.kernel.processors ≡ w.config.now.processors) × (w.start ≡ boot listed (no_queues w.config.now) w.config.now) × (length w.start.processors ≡ w.config.now.processors) × IsRoomy w.tasks w.handlers w.taken w.idled w.seen w.left };
 }
 
 /// How many steps were seen after one more event, which is marked or not.
@@ -110,6 +112,13 @@ impl<'a> Walker<'a> {
         self.kernel.pending(p) && !self.kernel.held(p)
     }
 
+    /// Whether a processor has something to do: a call of who runs there, or the interrupt of such a request.
+    fn is_busy(&self, p: Proc) -> bool
+        ensures { result ≡ places.is_busy_at self.now.place p }
+    {
+        self.kernel.runner(p).is_some() || self.is_asked(p)
+    }
+
     /// The call that comes next in the script of a runner. None without one, and where the rules want a pending request to be taken first.
     fn call_of(&self, p: Proc, runner: Option<Runner>) -> Option<Event>
         ensures is { result ≡ places.call_of self.now.place p runner }
@@ -123,24 +132,29 @@ impl<'a> Walker<'a> {
         Some(Event::Call(p, asked_at(self.config, self.scripts, runner, position)))
     }
 
-    /// The interrupt by which a processor takes a request. None where no request is pending, or where it is held back.
+    /// The interrupt by which a processor takes a request. None where no request is pending, or where it is held back, unless interrupts may be
+    /// spurious.
     fn ipi_of(&self, p: Proc) -> Option<Event>
         ensures is { result ≡ places.ipi_of self.now.place p }
         ensures on { IfSome result (λ e. processor_of e ≡ p) }
     {
-        if self.is_asked(p) {
+        if self.rules.spurious || self.is_asked(p) {
             Some(Event::Ipi(p))
         } else {
             None
         }
     }
 
-    /// A tick of a processor. None where its ticks do not count, or where the rules allow it no more.
+    /// A tick of a processor. None where its ticks do not count, or where the rules allow it no more, or none before a
+    /// busy processor does something.
     fn tick_of(&self, p: Proc) -> Option<Event>
         ensures is { result ≡ places.tick_of self.now.place p }
         ensures on { IfSome result (λ e. processor_of e ≡ p) }
     {
-        if may_tick(self.config, self.rules, &self.taken, p) {
+        let idled = self.idled[p.index()];
+        if may_tick(self.config, self.rules, &self.taken, p)
+            && keeps_pace(self.rules.pace, self.is_busy(p), idled)
+        {
             Some(Event::Tick(p))
         } else {
             None
@@ -193,6 +207,7 @@ impl<'a> Walker<'a> {
             tasks: [0; 64],
             handlers: [0; 8],
             taken: [0; 8],
+            idled: [0; 8],
             seen: 0,
             left: MOST,
             made: Record::answer(Event::Tick(Proc::new(1)), None, Answer::Nothing),
@@ -210,10 +225,13 @@ impl<'a> Walker<'a> {
         ensures made { self.new.made ≡ (machine.step listed self.old.place.machine event).1 }
         ensures left { self.new.left + 1 ≡ self.old.left }
     {
+        let busy = self.is_busy(event.processor());
         self.kernel.step_into(event, &mut self.made);
         advance_task(self.config, self.scripts, &mut self.tasks, &self.made);
         advance_handler(self.config, self.scripts, &mut self.handlers, &self.made);
         advance_taken(self.rules, &mut self.taken, &self.made);
+        lower_taken(self.config, self.rules, &mut self.taken);
+        advance_idled(self.rules, busy, &mut self.idled, &self.made);
         self.seen = counted(self.seen, marked);
         self.left -= 1;
     }

@@ -1,6 +1,6 @@
 -- Runs over places and orders of events.
 use Rattle.std.proofs.Common.{◌≡◌, ℕ, zero, suc, ◌+◌, ◌-◌, ◌*◌, ◌/◌, ◌%◌, ◌<◌, ◌≤◌, ◌==◌, ◌∙◌, Bool, true, false, ◌&&◌, ◌||◌, not, cond, List, [], ◌∷◌, ◌++◌, length, take, Option, Some, None, ◌⊎◌, inl, inr, refl, ap, sym, subst, arith, rules, slice_index, slice_get, append_assoc, append-nil, map}
-use Rattle.std.specs.Prelude.{nat_lt, nat_le}
+use Rattle.std.specs.Prelude.{nat_lt, nat_le, is_some}
 use Rattle.std.specs.Option.{option_and_then, option_map_or}
 use Rattle.std.proofs.lemmas.Grind.{common_steps}
 use Rattle.std.proofs.lemmas.Bool.{cases_Bool, eq-eqb, eqb-true}
@@ -37,13 +37,13 @@ use Rattle.fmp_search.specs.Guides.{is_of, Follows}
 use Rattle.fmp_search_question.specs.declared.question.Step.{Step}
 use Rattle.fmp_search_question.specs.Questions.{allows, seen}
 use Rattle.fmp_search_orders.specs.declared.rules.Rules.{Rules}
-use Rattle.fmp_search_orders.specs.Orders.{counts_ticks, counted, may_tick, MayHappen, AreInOrder, IsOrder}
+use Rattle.fmp_search_orders.specs.Orders.{counts_ticks, counted, may_tick, is_busy, idled, keeps_pace, MayHappen, AreInOrder, IsOrder}
 use Rattle.fmp_search_orders.specs.Shown.{last_sight, IsMarked}
-use Rattle.fmp_search_orders.specs.Places.{Place, origin, position_at, is_asked_at, call_of, count_at, event_at, event_of, is_marked, went, sight_at, allowed, next_place, after, told_of, told, records}
+use Rattle.fmp_search_orders.specs.Places.{Place, origin, position_at, is_asked_at, is_busy_at, call_of, count_at, event_at, event_of, is_marked, went, sight_at, allowed, next_place, after, told_of, told, records}
 use Rattle.fmp_search_orders.specs.Laws.{LeadsTo, RunsAreOrders}
 use Rattle.fmp_search_orders.specs.Begun.{choice_at, choice_of, choices_of}
 use Rattle.fmp_search_orders.proofs.Alike.{may_tick_same}
-use Rattle.fmp_search_orders.proofs.Longer.{counts_same, same_record, same_allowed, leads_more}
+use Rattle.fmp_search_orders.proofs.Longer.{counts_shifted, same_busy, same_record, same_allowed, leads_more}
 
 pub no_count : (b : Bool) → ◌≡◌ {A = ℕ} (cond b 0 0) 0
 no_count true = refl
@@ -65,9 +65,14 @@ leads_origin c scripts rs question valid = record {
   stands = boot_stands c valid.few_tasks;
   tasks_placed = λ i small. zeros 64 i;
   handlers_placed = λ i small. zeros 8 i;
-  taken_are = λ i small. zeros 8 i ∙ sym (no_count (counts_ticks rs));
+  taken_are = record {
+    less = 0;
+    limited = λ some. refl;
+    are = λ p here time. let none = zeros 8 (p.number - 1) in let zero_count = no_count (counts_ticks rs) in omega (arith, none, zero_count);
+  };
+  idled_are = λ i small. zeros 8 i ∙ sym (no_count (is_some rs.pace));
   seen_is = refl;
-  sized = (refl, refl, refl);
+  sized = (refl, refl, refl, refl);
 }
 
 -- ---- one of two steps
@@ -89,6 +94,9 @@ module _ (c : Setup) (scripts : List Steps) (rs : Rules) (question : List Step) 
 
   same_prompt : (p : Proc) → (w.rules.prompt && is_asked_at w p) ≡ (rs.prompt && is_asked (state_after c h) p)
   same_prompt p = ap (λ (x : Rules). x.prompt && is_asked_at w p) leads.rules_are ∙ ap (λ b. rs.prompt && b) (same_asked p)
+
+  same_spurious : (p : Proc) → (w.rules.spurious || is_asked_at w p) ≡ (rs.spurious || is_asked (state_after c h) p)
+  same_spurious p = ap (λ (x : Rules). x.spurious || is_asked_at w p) leads.rules_are ∙ ap (λ b. rs.spurious || b) (same_asked p)
 
   handler_place : (p : Proc) → slice_index w.handlers (p.number - 1) ≡ handler_position c scripts p.number h
   handler_place p =
@@ -120,11 +128,32 @@ module _ (c : Setup) (scripts : List Steps) (rs : Rules) (question : List Step) 
   no_call p None held = refl
   no_call p (Some r) held = ap (λ b. cond b None (Some (event.Call p (asked_at w.config w.scripts r (position_at w p r))))) (same_prompt p ∙ held)
 
-  same_tick : (p : Proc) → may_tick w.config w.rules (count_at w) p ≡ may_tick c rs (counted rs h) p
-  same_tick p =
+  idled_same : (p : Proc) → slice_index w.idled (p.number - 1) ≡ idled c rs h p.number
+  idled_same p =
+      let least = p.least in
+      let most = p.most in
+      let back : p.number - 1 + 1 ≡ p.number = omega (arith, least) in
+      leads.idled_are (p.number - 1) (omega (arith, least, most)) ∙ ap (idled c rs h) back
+
+  same_pace : (p : Proc) → keeps_pace w.rules.pace (is_busy_at w p) (slice_index w.idled (p.number - 1)) ≡ keeps_pace rs.pace (is_busy (state_after c h) p) (idled c rs h p.number)
+  same_pace p =
+      ap (λ (x : Rules). keeps_pace x.pace (is_busy_at w p) (slice_index w.idled (p.number - 1))) leads.rules_are
+      ∙ ap (λ b. keeps_pace rs.pace b (slice_index w.idled (p.number - 1))) (same_busy w (state_after c h) leads.stands p)
+      ∙ ap (keeps_pace rs.pace (is_busy (state_after c h) p)) (idled_same p)
+
+  same_count : (p : Proc) → p.number ≤ c.processors → may_tick w.config w.rules (count_at w) p ≡ may_tick c rs (counted rs h) p
+  same_count p here =
       ap (λ (x : Setup). may_tick x w.rules (count_at w) p) leads.config_is
       ∙ ap (λ (x : Rules). may_tick c x (count_at w) p) leads.rules_are
-      ∙ may_tick_same c rs (count_at w) (counted rs h) (counts_same rs w h leads.taken_are) p
+      ∙ may_tick_same c rs (count_at w) (counted rs h) (counts_shifted c rs w h leads.taken_are) p here
+
+  abbrev may_tick_at : Proc → Bool
+  may_tick_at p = may_tick c rs (counted rs h) p && keeps_pace rs.pace (is_busy (state_after c h) p) (idled c rs h p.number)
+
+  same_tick : (p : Proc) → p.number ≤ c.processors → (may_tick w.config w.rules (count_at w) p && keeps_pace w.rules.pace (is_busy_at w p) (slice_index w.idled (p.number - 1))) ≡ may_tick_at p
+  same_tick p here =
+      ap (λ b. b && keeps_pace w.rules.pace (is_busy_at w p) (slice_index w.idled (p.number - 1))) (same_count p here)
+      ∙ ap (λ b. may_tick c rs (counted rs h) p && b) (same_pace p)
 
   -- the call of who runs may happen
   call_may : (p : Proc) (o : Option Runner) (e : Event) → o ≡ runner_of (state_after c h) p → p.number ≤ c.processors →
@@ -151,10 +180,10 @@ module _ (c : Setup) (scripts : List Steps) (rs : Rules) (question : List Step) 
       call_either p (runner_of w.machine p) e (same_runner p) here at (cases_Bool (rs.prompt && is_asked (state_after c h) p))
   event_may p (suc zero) e here at =
       let done = some_if _ e (event.Ipi p) at in
-      subst (λ x. MayHappen c scripts rs h x) done.1 (here, sym (same_asked p) ∙ done.0)
+      subst (λ x. MayHappen c scripts rs h x) done.1 (here, sym (same_spurious p) ∙ done.0)
   event_may p (suc (suc k)) e here at =
       let done = some_if _ e (event.Tick p) at in
-      subst (λ x. MayHappen c scripts rs h x) done.1 (here, sym (same_tick p) ∙ done.0)
+      subst (λ x. MayHappen c scripts rs h x) done.1 (here, sym (same_tick p here) ∙ done.0)
 
   -- the event of a step may happen
   pub step_may : (s : ℕ) (e : Event) → event_of w s ≡ Some e → MayHappen c scripts rs h e
@@ -187,11 +216,11 @@ module _ (c : Setup) (scripts : List Steps) (rs : Rules) (question : List Step) 
   call_there : (p : Proc) (e : Event) → (rs.prompt && is_asked (state_after c h) p) ≡ false → next_call c scripts h p (runner_of (state_after c h) p) ≡ Some e → event_at w p 0 ≡ Some e
   call_there p e free next = same_call p (runner_of w.machine p) free ∙ ap (next_call c scripts h p) (same_runner p) ∙ next
 
-  ipi_there : (p : Proc) → is_asked (state_after c h) p ≡ true → event_at w p 1 ≡ Some (event.Ipi p)
-  ipi_there p asked = ap (λ b. cond b (Some (event.Ipi p)) None) (same_asked p ∙ asked)
+  ipi_there : (p : Proc) → (rs.spurious || is_asked (state_after c h) p) ≡ true → event_at w p 1 ≡ Some (event.Ipi p)
+  ipi_there p asked = ap (λ b. cond b (Some (event.Ipi p)) None) (same_spurious p ∙ asked)
 
-  tick_there : (p : Proc) → may_tick c rs (counted rs h) p ≡ true → event_at w p 2 ≡ Some (event.Tick p)
-  tick_there p may = ap (λ b. cond b (Some (event.Tick p)) None) (same_tick p ∙ may)
+  tick_there : (p : Proc) → p.number ≤ c.processors → may_tick_at p ≡ true → event_at w p 2 ≡ Some (event.Tick p)
+  tick_there p here may = ap (λ b. cond b (Some (event.Tick p)) None) (same_tick p here ∙ may)
 
   step_of : (p : Proc) (j k : ℕ) (m : Bool) (e : Event) → j < 6 → j % 6 ≡ j → j % 3 ≡ k → nat_le 3 j ≡ m → p.number ≤ c.processors → event_at w p k ≡ Some e →
       (s : ℕ) × (event_of w s ≡ Some e) × (is_marked s ≡ m) × (s ≡ (p.number - 1) * 6 + j)
@@ -215,8 +244,8 @@ module _ (c : Setup) (scripts : List Steps) (rs : Rules) (question : List Step) 
   may_step (event.Call p call) true may = marked p 0 _ refl (step_of p 3 0 true _ (omega arith) refl refl refl may.0 (call_there p _ may.1.0 may.1.1))
   may_step (event.Ipi p) false may = unmarked p 1 _ refl (step_of p 1 1 false _ (omega arith) refl refl refl may.0 (ipi_there p may.1))
   may_step (event.Ipi p) true may = marked p 1 _ refl (step_of p 4 1 true _ (omega arith) refl refl refl may.0 (ipi_there p may.1))
-  may_step (event.Tick p) false may = unmarked p 2 _ refl (step_of p 2 2 false _ (omega arith) refl refl refl may.0 (tick_there p may.1))
-  may_step (event.Tick p) true may = marked p 2 _ refl (step_of p 5 2 true _ (omega arith) refl refl refl may.0 (tick_there p may.1))
+  may_step (event.Tick p) false may = unmarked p 2 _ refl (step_of p 2 2 false _ (omega arith) refl refl refl may.0 (tick_there p may.0 may.1))
+  may_step (event.Tick p) true may = marked p 2 _ refl (step_of p 5 2 true _ (omega arith) refl refl refl may.0 (tick_there p may.0 may.1))
 
   either_step : (p : Proc) (k s : ℕ) (o : Option Event) → event_of w ((p.number - 1) * 6 + k) ≡ o → event_of w ((p.number - 1) * 6 + (k + 3)) ≡ o →
       is_of (choice_at p k) s ≡ true → event_of w s ≡ o
@@ -235,7 +264,7 @@ module _ (c : Setup) (scripts : List Steps) (rs : Rules) (question : List Step) 
   choice_event (event.Ipi p) s may is =
       either_step p 1 s _ (at_step p 1 1 false (omega arith) refl refl refl may.0).0 (at_step p 4 1 true (omega arith) refl refl refl may.0).0 is ∙ ipi_there p may.1
   choice_event (event.Tick p) s may is =
-      either_step p 2 s _ (at_step p 2 2 false (omega arith) refl refl refl may.0).0 (at_step p 5 2 true (omega arith) refl refl refl may.0).0 is ∙ tick_there p may.1
+      either_step p 2 s _ (at_step p 2 2 false (omega arith) refl refl refl may.0).0 (at_step p 5 2 true (omega arith) refl refl refl may.0).0 is ∙ tick_there p may.0 may.1
 
 -- ---- runs
 

@@ -1,8 +1,9 @@
 -- Runs over places are these histories.
-use Rattle.std.specs.Prelude.{◌≡◌, ℕ, ◌+◌, ◌<◌, ◌==◌, Bool, List, length, Some, slice_index}
+use Rattle.std.specs.Prelude.{◌≡◌, ℕ, ◌+◌, ◌-◌, ◌<◌, ◌≤◌, ◌==◌, Bool, true, is_some, List, length, Some, slice_index}
+use Rattle.fmp_codes.specs.declared.numbers.Proc.{Proc}
 use Rattle.fmp_codes.specs.declared.records.Record.{Record}
 use Rattle.fmp_text_scripts.specs.Scripts.{Steps}
-use Rattle.fmp_setup.specs.Setup.{Setup}
+use Rattle.fmp_setup.specs.Setup.{Setup, has_time}
 use Rattle.fmp_law_lists.specs.Stands.{Stands}
 use Rattle.fmp_smp_histories.specs.Histories.{state_after}
 use Rattle.fmp_smp_histories.specs.Counted.{TasksAre, HandlersAre}
@@ -11,12 +12,21 @@ use Rattle.fmp_search.specs.Answers.{NoneWithin, NoneEver, IsShortest}
 use Rattle.fmp_search_question.specs.declared.question.Step.{Step}
 use Rattle.fmp_search_question.specs.Questions.{seen}
 use Rattle.fmp_search_orders.specs.declared.rules.Rules.{Rules}
-use Rattle.fmp_search_orders.specs.Orders.{counted, IsOrder}
+use Rattle.fmp_search_orders.specs.Orders.{counted, idled, IsOrder}
 use Rattle.fmp_search_orders.specs.Shown.{IsMarked, NoneShows, NoneShowsWithin, IsShortestShow}
 use Rattle.fmp_search_orders.specs.Places.{Place, origin, after, records}
 
 abbrev pub TakenAre : Rules → List ℕ → List Record → Type 0
 TakenAre rules ns h = (i : ℕ) → i < 8 → slice_index ns i ≡ counted rules h (i + 1)
+
+-- the counts of a place are those of a history, or, without a limit, so many less for each processor whose ticks count
+pub record TicksAre (c : Setup) (rules : Rules) (ns : List ℕ) (h : List Record) : Type 0 where
+  pub less : ℕ
+  pub limited : is_some rules.ticks ≡ true → less ≡ 0
+  pub are : (p : Proc) → p.number ≤ c.processors → has_time c.timer p ≡ true → slice_index ns (p.number - 1) + less ≡ counted rules h p.number
+
+abbrev pub IdledAre : Setup → Rules → List ℕ → List Record → Type 0
+IdledAre c rules ns h = (i : ℕ) → i < 8 → slice_index ns i ≡ idled c rules h (i + 1)
 
 -- the place to which a history with these marks leads
 pub record LeadsTo (c : Setup) (scripts : List Steps) (rules : Rules) (question : List Step) (w : Place) (h : List Record) (marks : List Bool) : Type 0 where
@@ -29,9 +39,10 @@ pub record LeadsTo (c : Setup) (scripts : List Steps) (rules : Rules) (question 
   pub stands : Stands w.machine (state_after c h)
   pub tasks_placed : TasksAre c scripts w.tasks h
   pub handlers_placed : HandlersAre c scripts w.handlers h
-  pub taken_are : TakenAre rules w.taken h
+  pub taken_are : TicksAre c rules w.taken h
+  pub idled_are : IdledAre c rules w.idled h
   pub seen_is : w.seen ≡ seen marks
-  pub sized : (length w.tasks ≡ 64) × (length w.handlers ≡ 8) × (length w.taken ≡ 8)
+  pub sized : (length w.tasks ≡ 64) × (length w.handlers ≡ 8) × (length w.taken ≡ 8) × (length w.idled ≡ 8)
 
 -- each run over places is one of all orders, the one that is told along it, and each of these is a run over places, of as many steps
 pub record RunsAreOrders (c : Setup) (scripts : List Steps) (rules : Rules) (question : List Step) : Type 0 where

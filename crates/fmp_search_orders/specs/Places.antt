@@ -1,6 +1,6 @@
 -- What a run is going on from: the places of all orders, which forget how they were come to. The order of tasks is kept by lists,
 -- which have no numbers of arrivals.
-use Rattle.std.specs.Prelude.{ℕ, zero, suc, ◌+◌, ◌-◌, ◌/◌, ◌%◌, ◌&&◌, not, Bool, nat_lt, nat_le, List, [], ◌∷◌, ◌++◌, Option, None, Some, replicate, slice_index, slice_set, if◌then◌else◌}
+use Rattle.std.specs.Prelude.{ℕ, zero, suc, ◌+◌, ◌-◌, ◌/◌, ◌%◌, ◌&&◌, ◌||◌, not, Bool, nat_lt, nat_le, is_none, is_some, List, map, [], ◌∷◌, ◌++◌, Option, None, Some, replicate, slice_index, slice_set, if◌then◌else◌}
 use Rattle.std.specs.Option.{option_map_or}
 use Rattle.fmp_codes.specs.Numbers.{as_proc}
 use Rattle.fmp_codes.specs.declared.numbers.Proc.{Proc}
@@ -10,9 +10,9 @@ use Rattle.fmp_codes.specs.declared.records.Event.TheVariants as event
 use Rattle.fmp_codes.specs.declared.records.Runner.{Runner}
 use Rattle.fmp_codes.specs.declared.records.Runner.TheVariants as runner
 use Rattle.fmp_codes.specs.declared.records.Record.{Record}
-use Rattle.fmp_codes.specs.Records.{is_taken}
+use Rattle.fmp_codes.specs.Records.{is_taken, processor_of}
 use Rattle.fmp_text_scripts.specs.Scripts.{Steps}
-use Rattle.fmp_setup.specs.Setup.{Setup}
+use Rattle.fmp_setup.specs.Setup.{Setup, has_time}
 use Rattle.fmp_rules.specs.World.{World, processor, runner_of, is_held}
 use Rattle.fmp_rules.specs.Step.{step}
 use Rattle.fmp_rules.specs.Boot.{boot}
@@ -22,7 +22,7 @@ use Rattle.fmp_smp_histories.specs.Scripted.{asked_at}
 use Rattle.fmp_search_question.specs.declared.question.Step.{Step}
 use Rattle.fmp_search_question.specs.Questions.{allows}
 use Rattle.fmp_search_orders.specs.declared.rules.Rules.{Rules}
-use Rattle.fmp_search_orders.specs.Orders.{counts_ticks, may_tick}
+use Rattle.fmp_search_orders.specs.Orders.{counts_ticks, each, idled_next, keeps_pace, may_tick}
 use Rattle.fmp_search_orders.specs.Sights.{sight}
 
 pub record Place : Type 0 where
@@ -33,7 +33,8 @@ pub record Place : Type 0 where
   pub machine : World Queues
   pub tasks : List ℕ  -- where the scripts of the tasks have come to
   pub handlers : List ℕ  -- and those of the handlers on each processor
-  pub taken : List ℕ  -- the ticks that each processor has taken, where they are counted
+  pub taken : List ℕ  -- the ticks that each processor has taken, where they are counted, or how many more than another
+  pub idled : List ℕ  -- the ticks that each has taken in a row while it was busy, where they are counted
   pub seen : ℕ  -- how many steps of the question were seen
 
 -- where all runs begin
@@ -47,6 +48,7 @@ origin c scripts rules question = record {
   tasks = replicate 64 0;
   handlers = replicate 8 0;
   taken = replicate 8 0;
+  idled = replicate 8 0;
   seen = 0;
 }
 
@@ -59,6 +61,10 @@ position_at w p other = slice_index w.handlers (p.number - 1)
 abbrev pub is_asked_at : Place → Proc → Bool
 is_asked_at w p = (processor w.machine p).latch && not (is_held w.machine p)
 
+-- it has something to do: a call of who runs there, or the interrupt of such a request
+abbrev pub is_busy_at : Place → Proc → Bool
+is_busy_at w p = is_some (runner_of w.machine p) || is_asked_at w p
+
 -- the three events that may happen on a processor
 abbrev pub call_of : Place → Proc → Option Runner → Option Event
 call_of w p None = None
@@ -66,13 +72,16 @@ call_of w p (Some r) =
     if w.rules.prompt && is_asked_at w p then None else Some (event.Call p (asked_at w.config w.scripts r (position_at w p r)))
 
 abbrev pub ipi_of : Place → Proc → Option Event
-ipi_of w p = if is_asked_at w p then Some (event.Ipi p) else None
+ipi_of w p = if w.rules.spurious || is_asked_at w p then Some (event.Ipi p) else None
 
 abbrev pub count_at : Place → ℕ → ℕ
 count_at w n = slice_index w.taken (n - 1)
 
 abbrev pub tick_of : Place → Proc → Option Event
-tick_of w p = if may_tick w.config w.rules (count_at w) p then Some (event.Tick p) else None
+tick_of w p =
+    if may_tick w.config w.rules (count_at w) p && keeps_pace w.rules.pace (is_busy_at w p) (slice_index w.idled (p.number - 1))
+    then Some (event.Tick p)
+    else None
 
 abbrev pub event_at : Place → Proc → ℕ → Option Event
 event_at w p zero = call_of w p (runner_of w.machine p)
@@ -91,13 +100,25 @@ moved_taken rules ns (event.Tick p) a =
     if counts_ticks rules && is_taken a then slice_set ns (p.number - 1) (slice_index ns (p.number - 1) + 1) else ns
 moved_taken rules ns other a = ns
 
+-- without a limit only the differences of counts matter: where each processor whose ticks count has taken a tick, one is taken from each
+abbrev pub lowered : Setup → Rules → List ℕ → List ℕ
+lowered c rules ns =
+    if is_none rules.ticks && each (λ q. not (has_time c.timer q) || nat_lt 0 (slice_index ns (q.number - 1))) c.processors then map (λ n. n - 1) ns else ns
+
+-- where the processor of the event was busy before it, or was not
+abbrev pub moved_idled : Rules → Bool → List ℕ → Record → List ℕ
+moved_idled rules busy ns r =
+    let at : ℕ = (processor_of r.event).number - 1 in
+    if is_some rules.pace then slice_set ns at (idled_next busy r.event r.answer (slice_index ns at)) else ns
+
 -- the place after an event, which led to this state, was told so and was marked or not
 abbrev pub went : Place → Bool → World Queues × Record → Place
 went w mark did = record w {
   machine = did.0;
   tasks = moved_tasks w.config w.scripts w.tasks did.1;
   handlers = moved_handlers w.config w.scripts w.handlers did.1;
-  taken = moved_taken w.rules w.taken did.1.event did.1.answer;
+  taken = lowered w.config w.rules (moved_taken w.rules w.taken did.1.event did.1.answer);
+  idled = moved_idled w.rules (is_busy_at w (processor_of did.1.event)) w.idled did.1;
   seen = if mark then w.seen + 1 else w.seen;
 }
 

@@ -1,5 +1,5 @@
 -- That tasks wait, one task after the other.
-use Rattle.std.proofs.Common.{◌≡◌, ◌∙◌, ◌⊎◌, inl, inr, ℕ, suc, ◌+◌, ◌-◌, ◌<◌, ◌≤◌, eqb, Bool, cond, true, false, not, List, [], ◌∷◌, ◌++◌, length, drop, map, Option, Some, None, refl, ap, sym, arith}
+use Rattle.std.proofs.Common.{◌≡◌, ◌∙◌, ◌⊎◌, inl, inr, ℕ, suc, ◌+◌, ◌-◌, ◌<◌, ◌≤◌, eqb, Bool, cond, true, false, not, List, [], ◌∷◌, ◌++◌, length, drop, map, Some, None, refl, ap, sym, arith}
 use Rattle.std.specs.Prelude.{filter, get_or, slice_get, Result, Ok, Err, OnOk}
 use Rattle.std.proofs.Math.ListN.{drop_of_length-le}
 use Rattle.std.proofs.Math.Seq.{drop-cons}

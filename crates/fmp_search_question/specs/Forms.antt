@@ -99,10 +99,10 @@ has_first names kind (Some word) = is_first names kind word
 
 -- a call that tells a value wherever it answers `E_OK`, or none
 abbrev pub called : Bool → Spot
-called telling = if telling then spot.CalledTelling else spot.Called
+called telling = if telling then spot.CalledTold else spot.Called
 
 abbrev pub begun : Bool → Spot
-begun telling = if telling then spot.BegunTelling else spot.Begun
+begun telling = if telling then spot.BegunTold else spot.Begun
 
 abbrev pub is_telling : List ℕ → Bool
 is_telling name = list_any (λ w. bytes_eq w.now name) TELLING

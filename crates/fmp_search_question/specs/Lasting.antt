@@ -1,5 +1,5 @@
 -- What a question asks of every event from one on, and how that is read: moments with `for ever` after each and `or` between them, or `deadlock`.
-use Rattle.std.specs.Prelude.{◌≡◌, ℕ, ◌-◌, ◌==◌, Bool, true, false, not, ◌&&◌, ◌||◌, nat_le, is_none, is_some, List, [], ◌∷◌, ◌++◌, length, filter, map, Option, None, Some, Result, Ok, Err, if◌then◌else◌, codes}
+use Rattle.std.specs.Prelude.{ℕ, ◌-◌, ◌==◌, Bool, true, false, not, ◌&&◌, ◌||◌, nat_le, is_some, List, [], ◌∷◌, ◌++◌, length, filter, map, Option, None, Some, Result, Ok, Err, if◌then◌else◌, codes}
 use Rattle.std.specs.List.{list_all, join_with_byte}
 use Rattle.std.specs.Str.{bytes_eq}
 use Rattle.fmp_bytes.specs.Bytes.{space, pieces_of}
@@ -10,6 +10,7 @@ use Rattle.fmp_search_question.specs.declared.fault.QuestionFault.{QuestionFault
 use Rattle.fmp_search_question.specs.declared.fault.QuestionFault.TheVariants.{BadWord, BadForm, UnknownName, TooLong}
 use Rattle.fmp_search_question.specs.declared.stage.Stage.{Stage}
 use Rattle.fmp_search_question.specs.declared.stage.Stage.TheVariants as stage
+use Rattle.fmp_search_question.specs.Items.{Item}
 use Rattle.fmp_search_question.specs.Matching.{any}
 use Rattle.fmp_search_question.specs.Questions.{has_moment}
 use Rattle.fmp_search_question.specs.Words.{is_printed}
@@ -18,7 +19,7 @@ use Rattle.fmp_search_question.specs.Reading as reading
 -- one of some moments is at an event, or none of them is
 pub record Lasting : Type 0 where
   pub negated : Bool
-  pub moments : List (List (List (List ℕ)))
+  pub moments : List (List (List Item))
 
 -- it is so of an event with these lines
 unfoldable pub is_so : Lasting → List ℕ → Bool
@@ -26,11 +27,15 @@ is_so l text = if l.negated then not (any (has_moment text) l.moments) else any 
 
 -- ---- that some task waits
 
+-- the moment of one pattern, which has no star
+abbrev pub only : List ℕ → List (List Item)
+only words = (record { negated = false; pattern = Some (words ∷ []) } ∷ []) ∷ []
+
 -- a line of a state has the words that a task waits, suspended or not
 abbrev pub waits : List ℕ → Lasting
 waits name = record {
   negated = false;
-  moments = (((space ∷ name ++ codes " waits ") ∷ []) ∷ []) ∷ (((space ∷ name ++ codes " suspended waits ") ∷ []) ∷ []) ∷ [];
+  moments = only (space ∷ name ++ codes " waits ") ∷ only (space ∷ name ++ codes " suspended waits ") ∷ [];
 }
 
 -- those that are listed after `but`, if it stands there
@@ -66,7 +71,7 @@ no_parts = record { lasting = []; negated = false; draft = reading.nothing_read;
 
 -- nothing was read of the part
 abbrev pub is_fresh : Parts → Bool
-is_fresh d = not d.negated && length d.draft.patterns == 0 && length d.draft.pattern == 0
+is_fresh d = not d.negated && length d.draft.items == 0 && length d.draft.pattern == 0
 
 -- `for` after the last word of a pattern
 abbrev pub before_ever : Parts → Option reading.Draft → Result Parts QuestionFault
@@ -76,9 +81,9 @@ before_ever d (Some e) = Ok (record d { draft = e; stage = stage.For })
 -- `ever` ends a part
 abbrev pub with_part : Parts → Parts
 with_part d = record d {
-  lasting = d.lasting ++ record { negated = d.negated; moments = d.draft.patterns ∷ [] } ∷ [];
+  lasting = d.lasting ++ record { negated = d.negated; moments = (d.draft.items ∷ []) ∷ [] } ∷ [];
   negated = false;
-  draft = record d.draft { patterns = [] };
+  draft = record d.draft { items = [] };
   stage = stage.Ever;
 }
 

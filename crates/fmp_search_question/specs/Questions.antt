@@ -3,18 +3,19 @@
 use Rattle.std.specs.Prelude.{ℕ, Bool, true, false, not, List, Option, None, Some, slice_get}
 use Rattle.std.specs.List.{count_by}
 use Rattle.fmp_search_question.specs.declared.question.Step.{Step}
-use Rattle.fmp_search_question.specs.Matching.{every, has_pattern}
+use Rattle.fmp_search_question.specs.Items.{Item, has_part}
+use Rattle.fmp_search_question.specs.Matching.{any}
 
--- a moment is where each of its patterns stands in some line
-abbrev pub has_moment : List ℕ → List (List (List ℕ)) → Bool
-has_moment text moment = every (has_pattern text) moment
+-- a moment is where one of its parts is
+abbrev pub has_moment : List ℕ → List (List Item) → Bool
+has_moment text moment = any (has_part text) moment
 
 -- the moment of a step is there
 abbrev pub is_met : List ℕ → Option Step → Bool
 is_met text None = false
 is_met text (Some s) = has_moment text s.moment
 
-abbrev pub has_unwanted : List ℕ → Option (List (List (List ℕ))) → Bool
+abbrev pub has_unwanted : List ℕ → Option (List (List Item)) → Bool
 has_unwanted text None = false
 has_unwanted text (Some moment) = has_moment text moment
 

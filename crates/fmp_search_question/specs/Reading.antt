@@ -1,6 +1,7 @@
--- How a question is read: word by word. Words stand between single blanks, and mean themselves but for these: `&` between the patterns of
--- a moment, `without` before what must not come, `then` before the next step, `times` behind a number at the front of a step.
-use Rattle.std.specs.Prelude.{ℕ, ◌-◌, ◌==◌, not, ◌&&◌, ◌||◌, nat_le, is_none, List, [], ◌∷◌, ◌++◌, length, take, drop, Option, None, Some, option_map, unwrap_or, replicate, Result, Ok, Err, if◌then◌else◌, codes}
+-- How a question is read: word by word. Words stand between single blanks, and mean themselves but for these: `&` between the items of a part,
+-- `or` between the parts of a moment, `not` before an item that must not be there, `refused` in the place of a pattern, `without` before what
+-- must not come, `then` before the next step, `times` after a number at the front of a step.
+use Rattle.std.specs.Prelude.{ℕ, Bool, true, false, ◌-◌, ◌==◌, not, ◌&&◌, ◌||◌, nat_le, is_none, is_some, List, [], ◌∷◌, ◌++◌, length, take, drop, Option, None, Some, option_map, unwrap_or, replicate, Result, Ok, Err, if◌then◌else◌, codes}
 use Rattle.std.specs.List.{list_all, join_with_byte}
 use Rattle.std.specs.Option.{option_and_then}
 use Rattle.std.specs.Str.{bytes_eq}
@@ -13,10 +14,11 @@ use Rattle.fmp_search_question.specs.declared.fault.QuestionFault.TheVariants.{B
 use Rattle.fmp_search_question.specs.declared.fault.ReadFault.{ReadFault}
 use Rattle.fmp_search_question.specs.declared.fault.ReadFault.TheVariants.{Memory, Text}
 use Rattle.fmp_search_question.specs.declared.spot.Spot.{Spot}
-use Rattle.fmp_search_question.specs.declared.spot.Spot.TheVariants.{Front}
+use Rattle.fmp_search_question.specs.declared.spot.Spot.TheVariants.{Front, Whole}
 use Rattle.fmp_search_question.specs.Forms.{spot_of}
+use Rattle.fmp_search_question.specs.Items.{Item, wanted_by}
 use Rattle.fmp_search_question.specs.Spots.{is_number, stepped}
-use Rattle.fmp_search_question.specs.Words.{star, is_printed, is_fine, runs_of}
+use Rattle.fmp_search_question.specs.Words.{is_printed, is_fine, runs_of}
 
 -- the greatest number of steps, and of bytes of a pattern with the blanks around it
 abbrev pub most_steps : ℕ
@@ -29,38 +31,47 @@ most_pattern = 1024
 pub record Draft : Type 0 where
   pub steps : List Step  -- those that are complete
   pub times : Option ℕ  -- how often the step stands that is being read, where that is said
-  pub moment : Option (List (List (List ℕ)))  -- its moment, where `without` was read
-  pub patterns : List (List (List ℕ))  -- the complete patterns of the moment that is being read
+  pub moment : Option (List (List Item))  -- its moment, where `without` was read
+  pub parts : List (List Item)  -- the complete parts of the moment that is being read
+  pub items : List Item  -- the complete items of its last part
+  pub negated : Bool  -- `not` begins the item that is being read
   pub pattern : List ℕ  -- the pattern that is being read: its words, each with a blank behind it, and one before the first
   pub spot : Spot  -- where in a line those words end
 
 abbrev pub nothing_read : Draft
-nothing_read = record { steps = []; times = None; moment = None; patterns = []; pattern = []; spot = Front }
+nothing_read = record { steps = []; times = None; moment = None; parts = []; items = []; negated = false; pattern = []; spot = Front }
 
 -- a pattern is complete. A number alone is none
 unfoldable pub with_pattern : Draft → Option Draft
 with_pattern d =
     if length d.pattern == 0 || is_number d.spot then None
-    else Some (record d { patterns = d.patterns ++ pieces_of star d.pattern ∷ []; pattern = []; spot = Front })
+    else Some (record d { items = d.items ++ record { negated = d.negated; pattern = wanted_by d.pattern } ∷ []; negated = false; pattern = []; spot = Front })
+
+-- a part is complete
+abbrev pub part_ended : Draft → Draft
+part_ended d = record d { parts = d.parts ++ d.items ∷ []; items = [] }
+
+unfoldable pub with_part : Draft → Option Draft
+with_part d = option_map part_ended (with_pattern d)
 
 -- a moment is complete, and what must not come before it follows
 abbrev pub before_without : Draft → Option Draft
-before_without d = if is_none d.moment then Some (record d { moment = Some d.patterns; patterns = [] }) else None
+before_without d = if is_none d.moment then Some (record d { moment = Some d.parts; parts = [] }) else None
 
 unfoldable pub with_moment : Draft → Option Draft
-with_moment d = option_and_then before_without (with_pattern d)
+with_moment d = option_and_then before_without (with_part d)
 
-abbrev pub step_of : Option (List (List (List ℕ))) → List (List (List ℕ)) → Step
-step_of None patterns = record { moment = patterns; without = None }
-step_of (Some moment) patterns = record { moment = moment; without = Some patterns }
+abbrev pub step_of : Option (List (List Item)) → List (List Item) → Step
+step_of None parts = record { moment = parts; without = None }
+step_of (Some moment) parts = record { moment = moment; without = Some parts }
 
 -- the step that was read stands as often as was said
 abbrev pub with_read : Draft → Draft
-with_read d = record d { steps = d.steps ++ replicate (unwrap_or d.times 1) (step_of d.moment d.patterns); times = None; moment = None; patterns = [] }
+with_read d = record d { steps = d.steps ++ replicate (unwrap_or d.times 1) (step_of d.moment d.parts); times = None; moment = None; parts = [] }
 
 -- a step is complete
 unfoldable pub with_step : Draft → Option Draft
-with_step d = option_map with_read (with_pattern d)
+with_step d = option_map with_read (with_part d)
 
 -- the number that is the only word of a pattern
 abbrev pub number_in : List ℕ → Option ℕ
@@ -71,12 +82,23 @@ number_in pattern =
 abbrev pub times_within : ℕ → Option ℕ
 times_within n = if nat_le 1 n && nat_le n most_steps then Some n else None
 
+-- more of a step was read than the pattern that is being read
+abbrev pub has_begun : Draft → Bool
+has_begun d = is_some d.times || is_some d.moment || not (length d.parts == 0) || not (length d.items == 0) || d.negated
+
 -- the step that begins stands so many times
 unfoldable pub with_times : Draft → Option Draft
 with_times d =
-    if is_none d.times && is_none d.moment && length d.patterns == 0
-    then option_map (λ n. record d { times = Some n; pattern = []; spot = Front }) (option_and_then times_within (number_in d.pattern))
-    else None
+    if has_begun d then None
+    else option_map (λ n. record d { times = Some n; pattern = []; spot = Front }) (option_and_then times_within (number_in d.pattern))
+
+-- an item begins that must not be there
+abbrev pub with_not : Draft → Option Draft
+with_not d = if length d.pattern == 0 && not d.negated then Some (record d { negated = true }) else None
+
+-- `refused` is a pattern by itself
+abbrev pub with_refused : Draft → Option Draft
+with_refused d = if length d.pattern == 0 then Some (record d { pattern = codes " refused "; spot = Whole }) else None
 
 -- the pattern with a word more
 abbrev pub longer : List ℕ → List ℕ → List ℕ
@@ -114,6 +136,9 @@ unfoldable pub after_word : NameLists → Draft → List ℕ → Result Draft Qu
 after_word names d word =
     if not (is_printed word) then Err BadWord
     else if bytes_eq word (codes "&") then or_form (with_pattern d)
+    else if bytes_eq word (codes "or") then or_form (with_part d)
+    else if bytes_eq word (codes "not") then or_form (with_not d)
+    else if bytes_eq word (codes "refused") then or_form (with_refused d)
     else if bytes_eq word (codes "without") then or_form (with_moment d)
     else if bytes_eq word (codes "then") then limited (or_form (with_step d))
     else if bytes_eq word (codes "times") then or_form (with_times d)

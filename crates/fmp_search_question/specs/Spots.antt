@@ -2,54 +2,55 @@
 use Rattle.std.specs.Prelude.{ℕ, Bool, true, false, ◌==◌, List, [], ◌∷◌, Option, None, Some, if◌then◌else◌}
 use Rattle.std.specs.List.{list_any}
 use Rattle.fmp_search_question.specs.declared.spot.Spot.{Spot}
-use Rattle.fmp_search_question.specs.declared.spot.Spot.TheVariants.{Front, Anything, Number, Processor, Nobody, Task, Handler, Object, Lock, Timer, Return, Begun, BegunSome, BegunTelling, Called, CalledSome, CalledTelling, Argument, LastArgument, Taken, Accepted, Told, Answer, Release, Lost, Run, Requests, Ready, Locked, Disabled, Latch, Due, Suspended, Waits, Sleep, WaitsFor, Left, Priority, Activations, Wakeups, Fact, Stopped, Held, End}
+use Rattle.fmp_search_question.specs.declared.spot.Spot.TheVariants.{Front, Anything, Number, Whole, Processor, Nobody, Task, Handler, Object, Lock, Timer, Return, Begun, BegunSome, BegunTold, Called, CalledSome, CalledTold, Argument, LastArgument, Taken, Accepted, Told, Answer, Release, Lost, Run, Requests, Ready, Locked, Disabled, Latch, Due, Suspended, Waits, Sleep, WaitsFor, Left, Priority, Activated, Wakeups, Fact, Stopped, Held, End}
 
 -- a number of its own for each
 abbrev pub number : Spot → ℕ
 number Front = 0
 number Anything = 1
 number Number = 2
-number Processor = 3
-number Nobody = 4
-number Task = 5
-number Handler = 6
-number Object = 7
-number Lock = 8
-number Timer = 9
-number Return = 10
-number Begun = 11
-number BegunSome = 12
-number BegunTelling = 13
-number Called = 14
-number CalledSome = 15
-number CalledTelling = 16
-number Argument = 17
-number LastArgument = 18
-number Taken = 19
-number Accepted = 20
-number Told = 21
-number Answer = 22
-number Release = 23
-number Lost = 24
-number Run = 25
-number Requests = 26
-number Ready = 27
-number Locked = 28
-number Disabled = 29
-number Latch = 30
-number Due = 31
-number Suspended = 32
-number Waits = 33
-number Sleep = 34
-number WaitsFor = 35
-number Left = 36
-number Priority = 37
-number Activations = 38
-number Wakeups = 39
-number Fact = 40
-number Stopped = 41
-number Held = 42
-number End = 43
+number Whole = 3
+number Processor = 4
+number Nobody = 5
+number Task = 6
+number Handler = 7
+number Object = 8
+number Lock = 9
+number Timer = 10
+number Return = 11
+number Begun = 12
+number BegunSome = 13
+number BegunTold = 14
+number Called = 15
+number CalledSome = 16
+number CalledTold = 17
+number Argument = 18
+number LastArgument = 19
+number Taken = 20
+number Accepted = 21
+number Told = 22
+number Answer = 23
+number Release = 24
+number Lost = 25
+number Run = 26
+number Requests = 27
+number Ready = 28
+number Locked = 29
+number Disabled = 30
+number Latch = 31
+number Due = 32
+number Suspended = 33
+number Waits = 34
+number Sleep = 35
+number WaitsFor = 36
+number Left = 37
+number Priority = 38
+number Activated = 39
+number Wakeups = 40
+number Fact = 41
+number Stopped = 42
+number Held = 43
+number End = 44
 
 abbrev pub is_number : Spot → Bool
 is_number Number = true
@@ -65,15 +66,15 @@ before Object = WaitsFor ∷ []
 before Timer = Nobody ∷ Task ∷ Handler ∷ []
 before Return = Nobody ∷ Task ∷ Handler ∷ []
 before Begun = Nobody ∷ Task ∷ Handler ∷ []
-before BegunTelling = Nobody ∷ Task ∷ Handler ∷ []
+before BegunTold = Nobody ∷ Task ∷ Handler ∷ []
 before Called = Nobody ∷ Task ∷ Handler ∷ []
-before CalledTelling = Nobody ∷ Task ∷ Handler ∷ []
-before Argument = Begun ∷ BegunSome ∷ BegunTelling ∷ []
-before LastArgument = Begun ∷ BegunSome ∷ BegunTelling ∷ []
+before CalledTold = Nobody ∷ Task ∷ Handler ∷ []
+before Argument = Begun ∷ BegunSome ∷ BegunTold ∷ []
+before LastArgument = Begun ∷ BegunSome ∷ BegunTold ∷ []
 before Taken = Timer ∷ []
 before Accepted = Return ∷ Called ∷ CalledSome ∷ []
-before Told = CalledSome ∷ CalledTelling ∷ []
-before Answer = Return ∷ Called ∷ CalledSome ∷ CalledTelling ∷ []
+before Told = CalledSome ∷ CalledTold ∷ []
+before Answer = Return ∷ Called ∷ CalledSome ∷ CalledTold ∷ []
 before Release = Taken ∷ Accepted ∷ Told ∷ Answer ∷ Release ∷ []
 before Lost = Taken ∷ Accepted ∷ Told ∷ Answer ∷ Release ∷ []
 before Run = Processor ∷ Taken ∷ Accepted ∷ Told ∷ Answer ∷ Release ∷ Lost ∷ []
@@ -89,8 +90,8 @@ before Sleep = Waits ∷ []
 before WaitsFor = Waits ∷ []
 before Left = Handler ∷ Sleep ∷ Object ∷ []
 before Priority = Task ∷ Suspended ∷ Sleep ∷ Object ∷ Left ∷ []
-before Activations = Task ∷ Suspended ∷ Sleep ∷ Object ∷ Left ∷ Priority ∷ []
-before Wakeups = Task ∷ Suspended ∷ Sleep ∷ Object ∷ Left ∷ Priority ∷ Activations ∷ []
+before Activated = Task ∷ Suspended ∷ Sleep ∷ Object ∷ Left ∷ Priority ∷ []
+before Wakeups = Task ∷ Suspended ∷ Sleep ∷ Object ∷ Left ∷ Priority ∷ Activated ∷ []
 before Fact = Object ∷ []
 before Stopped = Handler ∷ []
 before Held = Lock ∷ []
@@ -100,6 +101,7 @@ before other = []
 unfoldable pub may_follow : Spot → Spot → Bool
 may_follow Front next = true
 may_follow Number next = false
+may_follow Whole next = false
 may_follow Anything Number = false
 may_follow place Anything = true
 may_follow Anything next = true
@@ -108,10 +110,10 @@ may_follow place next = list_any (λ s. number s == number place) (before next)
 -- where the words so far end: an argument belongs to the call that begins before it
 abbrev pub ended_by : Spot → Spot → Spot
 ended_by Begun Argument = Begun
-ended_by BegunTelling Argument = BegunTelling
+ended_by BegunTold Argument = BegunTold
 ended_by place Argument = BegunSome
 ended_by Begun LastArgument = Called
-ended_by BegunTelling LastArgument = CalledTelling
+ended_by BegunTold LastArgument = CalledTold
 ended_by place LastArgument = CalledSome
 ended_by place next = next
 

@@ -3,11 +3,13 @@ ghost use Rattle.std.specs.Prelude.{◌≡◌, ◌≢◌, ◌++◌, ◌∷◌, L
 ghost use Rattle.std.specs.Option.{option_and_then};
 ghost use Rattle.fmp_bytes.specs.Bytes.{pieces_of};
 ghost use Rattle.std.specs.List.{list_all};
+ghost use Rattle.fmp_search_question.specs.Items as items;
 ghost use Rattle.fmp_search_question.specs.Words.{star, is_fine};
 ghost use Rattle.fmp_search_question.specs.Reading as spec;
 
 use crate::fault::{QuestionFault, ReadFault};
 use crate::forms::spot_of;
+use crate::items::{Item, Part};
 use crate::question::{Moment, Pattern, Piece, Question, Step};
 use crate::spot::Spot;
 use crate::words::{are_fine, is_printed};
@@ -30,7 +32,9 @@ pub(crate) struct Draft {
     steps: Vec<Step>,
     times: Option<u8>,
     moment: Option<Moment>,
-    patterns: Vec<Pattern>,
+    parts: Vec<Part>,
+    items: Vec<Item>,
+    negated: bool,
     pattern: Vec<u8>,
     spot: Spot,
 }
@@ -40,7 +44,7 @@ impl Model for Draft {
 
     ghost Value = { spec.Draft };
 
-    ghost view = { λ d. record { steps = d.steps.items; times = d.times; moment = d.moment; patterns = d.patterns.items; pattern = d.pattern.items; spot = d.spot } };
+    ghost view = { λ d. record { steps = d.steps.items; times = d.times; moment = d.moment; parts = d.parts.items; items = d.items.items; negated = d.negated; pattern = d.pattern.items; spot = d.spot } };
 }
 
 /// The bytes between the stars, in order: one piece more than there are stars, and some may be empty. The error is want of memory.
@@ -55,6 +59,17 @@ fn pieces(alloc: Global, pattern: &[u8]) -> Result<Vec<Piece>, AllocError>
         pieces.push(Piece::new(Vec::from_slice(alloc, piece)?))?;
     }
     Ok(pieces)
+}
+
+/// What the words of a pattern ask for: none where `refused` does. The error is want of memory.
+fn wanted_by(alloc: Global, words: &[u8]) -> Result<Option<Pattern>, AllocError>
+    ensures { IfOk result (λ wanted. wanted ≡ items.wanted_by words.now) }
+{
+    if words == b" refused ".as_slice() {
+        Ok(None)
+    } else {
+        Ok(Some(Pattern::new(pieces(alloc, words)?)))
+    }
 }
 
 /// Puts so many copies of a step behind the others. The error is want of memory.
@@ -88,13 +103,15 @@ impl Draft {
             steps: Vec::new(alloc),
             times: None,
             moment: None,
-            patterns: Vec::new(alloc),
+            parts: Vec::new(alloc),
+            items: Vec::new(alloc),
+            negated: false,
             pattern: Vec::new(alloc),
             spot: Spot::Front,
         }
     }
 
-    /// Puts the pattern behind the others of its moment. False where it has no word yet, or is a number alone. The error is want of memory.
+    /// Puts the pattern behind the other items of its part. False where it has no word yet, or is a number alone. The error is want of memory.
     #[tactic(auto, unfolding(crate::specs::Reading::with_pattern))]
     pub(crate) fn end_pattern(&mut self) -> Result<bool, AllocError>
         ensures none { IfOk result (λ done. done ≡ is_some (spec.with_pattern self.old)) }
@@ -103,10 +120,33 @@ impl Draft {
         if self.pattern.is_empty() || self.spot.is_number() {
             return Ok(false);
         }
-        let pieces = pieces(self.alloc, &self.pattern)?;
-        self.patterns.push(Pattern::new(pieces))?;
+        let wanted = wanted_by(self.alloc, &self.pattern)?;
+        self.items.push(Item::new(self.negated, wanted))?;
+        self.negated = false;
         self.pattern.clear();
         self.spot = Spot::Front;
+        Ok(true)
+    }
+
+    /// Puts the complete items behind the other parts of their moment. The error is want of memory.
+    fn push_part(&mut self) -> Result<(), AllocError>
+        ensures { OnOk result (self.new ≡ spec.part_ended self.old) }
+    {
+        let items = mem::replace(&mut self.items, Vec::new(self.alloc));
+        self.parts.push(Part::new(items))?;
+        Ok(())
+    }
+
+    /// Ends a part at `or`, or where its moment ends. False where its last pattern is none. The error is want of memory.
+    #[tactic(auto, unfolding(crate::specs::Reading::with_part))]
+    fn end_part(&mut self) -> Result<bool, AllocError>
+        ensures none { IfOk result (λ done. done ≡ is_some (spec.with_part self.old)) }
+        ensures done { (d : spec.Draft) → spec.with_part self.old ≡ Some d → OnOk result (self.new ≡ d) }
+    {
+        if !self.end_pattern()? {
+            return Ok(false);
+        }
+        self.push_part()?;
         Ok(true)
     }
 
@@ -116,35 +156,38 @@ impl Draft {
         ensures none { IfOk result (λ done. done ≡ is_some (spec.with_moment self.old)) }
         ensures done { (d : spec.Draft) → spec.with_moment self.old ≡ Some d → OnOk result (self.new ≡ d) }
     {
-        if !self.end_pattern()? || self.moment.is_some() {
+        if !self.end_part()? || self.moment.is_some() {
             return Ok(false);
         }
-        let patterns = mem::replace(&mut self.patterns, Vec::new(self.alloc));
-        self.moment = Some(Moment::new(patterns));
+        let parts = mem::replace(&mut self.parts, Vec::new(self.alloc));
+        self.moment = Some(Moment::new(parts));
         Ok(true)
     }
 
     /// Whether no word of a moment was read.
     pub(crate) fn is_fresh(&self) -> bool
-        ensures { result ≡ (length self.now.patterns == 0 && length self.now.pattern == 0) }
+        ensures { result ≡ (length self.now.items == 0 && length self.now.pattern == 0) }
     {
-        self.patterns.is_empty() && self.pattern.is_empty()
+        self.items.is_empty() && self.pattern.is_empty()
     }
 
-    /// Takes the complete patterns out of the draft, as a moment.
-    pub(crate) fn take_moment(&mut self) -> Moment
-        ensures is { result ≡ self.old.patterns }
-        ensures rest { self.new ≡ record self.old { patterns = [] } }
+    /// Takes the complete items out of the draft, as a moment. The error is want of memory.
+    pub(crate) fn take_moment(&mut self) -> Result<Moment, AllocError>
+        ensures is { IfOk result (λ m. m ≡ self.old.items ∷ []) }
+        ensures rest { OnOk result (self.new ≡ record self.old { items = [] }) }
     {
-        Moment::new(mem::replace(&mut self.patterns, Vec::new(self.alloc)))
+        let items = mem::replace(&mut self.items, Vec::new(self.alloc));
+        let mut parts = Vec::new(self.alloc);
+        parts.push(Part::new(items))?;
+        Ok(Moment::new(parts))
     }
 
-    /// Takes the step out of the draft. Where `without` was read, the patterns behind it are the moment that must not come before the first.
+    /// Takes the step out of the draft. Where `without` was read, the parts behind it are the moment that must not come before the first.
     fn take_step(&mut self) -> Step
-        ensures is { result ≡ spec.step_of self.old.moment self.old.patterns }
-        ensures rest { self.new ≡ record self.old { moment = None; patterns = [] } }
+        ensures is { result ≡ spec.step_of self.old.moment self.old.parts }
+        ensures rest { self.new ≡ record self.old { moment = None; parts = [] } }
     {
-        let last = Moment::new(mem::replace(&mut self.patterns, Vec::new(self.alloc)));
+        let last = Moment::new(mem::replace(&mut self.parts, Vec::new(self.alloc)));
         match self.moment.take() {
             None => Step {
                 moment: last,
@@ -172,7 +215,7 @@ impl Draft {
         ensures none { IfOk result (λ done. done ≡ is_some (spec.with_step self.old)) }
         ensures done { (d : spec.Draft) → spec.with_step self.old ≡ Some d → OnOk result (self.new ≡ d) }
     {
-        if !self.end_pattern()? {
+        if !self.end_part()? {
             return Ok(false);
         }
         self.add_read()?;
@@ -196,13 +239,49 @@ impl Draft {
         }
     }
 
-    /// Takes the pattern as a number. False where it is none from 1 to 255, or where `times`, `&` or `without` was read in this step before.
+    /// Whether more of the step was read than the pattern that is being read.
+    fn has_begun(&self) -> bool
+        ensures { result ≡ spec.has_begun self.now }
+    {
+        self.times.is_some()
+            || self.moment.is_some()
+            || !self.parts.is_empty()
+            || !self.items.is_empty()
+            || self.negated
+    }
+
+    /// Begins an item that must not be there. False within a pattern, and where it began already.
+    fn begin_not(&mut self) -> bool
+        ensures none { result ≡ is_some (spec.with_not self.old) }
+        ensures done { (d : spec.Draft) → spec.with_not self.old ≡ Some d → self.new ≡ d }
+    {
+        if !self.pattern.is_empty() || self.negated {
+            return false;
+        }
+        self.negated = true;
+        true
+    }
+
+    /// Takes `refused` for the pattern. False within a pattern. The error is want of memory.
+    fn take_refused(&mut self) -> Result<bool, AllocError>
+        ensures none { IfOk result (λ done. done ≡ is_some (spec.with_refused self.old)) }
+        ensures done { (d : spec.Draft) → spec.with_refused self.old ≡ Some d → OnOk result (self.new ≡ d) }
+    {
+        if !self.pattern.is_empty() {
+            return Ok(false);
+        }
+        self.pattern.extend_from_slice(b" refused ")?;
+        self.spot = Spot::Whole;
+        Ok(true)
+    }
+
+    /// Takes the pattern as a number. False where it is none from 1 to 255, or where more of this step was read before.
     #[tactic(auto, unfolding(crate::specs::Reading::with_times))]
     fn begin_times(&mut self) -> bool
         ensures none { result ≡ is_some (spec.with_times self.old) }
         ensures done { (d : spec.Draft) → spec.with_times self.old ≡ Some d → self.new ≡ d }
     {
-        if self.times.is_some() || self.moment.is_some() || !self.patterns.is_empty() {
+        if self.has_begun() {
             return false;
         }
         match self.number() {
@@ -283,6 +362,15 @@ impl Draft {
         }
         if word == b"&".as_slice() {
             return Ok(form_of(self.end_pattern()?));
+        }
+        if word == b"or".as_slice() {
+            return Ok(form_of(self.end_part()?));
+        }
+        if word == b"not".as_slice() {
+            return Ok(form_of(self.begin_not()));
+        }
+        if word == b"refused".as_slice() {
+            return Ok(form_of(self.take_refused()?));
         }
         if word == b"without".as_slice() {
             return Ok(form_of(self.end_moment()?));

@@ -48,7 +48,7 @@ pub(crate) const KEY_SPOTS: [(&[u8], Spot); 15] = [
     (b"due", Spot::Due),
     (b"left", Spot::Left),
     (b"pri", Spot::Priority),
-    (b"act", Spot::Activations),
+    (b"act", Spot::Activated),
     (b"wup", Spot::Wakeups),
     (b"count", Spot::Fact),
     (b"pattern", Spot::Fact),
@@ -235,7 +235,7 @@ fn called(telling: bool) -> Spot
     ensures { result ≡ spec.called telling }
 {
     if telling {
-        Spot::CalledTelling
+        Spot::CalledTold
     } else {
         Spot::Called
     }
@@ -246,7 +246,7 @@ fn begun(telling: bool) -> Spot
     ensures { result ≡ spec.begun telling }
 {
     if telling {
-        Spot::BegunTelling
+        Spot::BegunTold
     } else {
         Spot::Begun
     }

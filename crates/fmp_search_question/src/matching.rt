@@ -1,10 +1,13 @@
 //! Whether a pattern, or a moment, stands in the lines of an event.
 ghost use Rattle.std.specs.Prelude.{◌≡◌, ℕ, List, ◌∷◌, false, IfOk, OnOk, IsTrue};
 ghost use Rattle.std.specs.Option.{option_copied, option_map_or};
+ghost use Rattle.fmp_search_question.specs.Items as items;
 ghost use Rattle.fmp_search_question.specs.Matching as matching;
 ghost use Rattle.fmp_search_question.specs.Questions as spec;
 
+use crate::items::{Item, Part};
 use crate::question::{Moment, Pattern, Question, Step};
+use crate::refusals::has_refusal;
 use fmp_bytes::cut;
 use memchr::memmem;
 use std::alloc::AllocError;
@@ -88,7 +91,46 @@ fn has_pattern(room: &mut Vec<u8>, text: &[u8], pattern: &Pattern) -> Result<boo
     Ok(false)
 }
 
-/// Whether each pattern of a moment stands in some line of a text. The lines may differ. The room and the error are as at `has_pattern`.
+/// Whether what an item asks for is in a text. The room and the error are as at `has_pattern`.
+fn has_wanted(
+    room: &mut Vec<u8>,
+    text: &[u8],
+    pattern: Option<&Pattern>,
+) -> Result<bool, AllocError>
+    ensures { IfOk result (λ r. r ≡ items.has_wanted text.now (option_copied pattern.entry)) }
+{
+    match pattern {
+        None => Ok(has_refusal(text)),
+        Some(pattern) => has_pattern(room, text, pattern),
+    }
+}
+
+/// Whether an item is so of a text. The room and the error are as at `has_pattern`.
+#[tactic(auto, unfolding(crate::specs::Items::has_item))]
+fn has_item(room: &mut Vec<u8>, text: &[u8], item: &Item) -> Result<bool, AllocError>
+    ensures { IfOk result (λ r. r ≡ items.has_item text.now item.now) }
+{
+    let there = has_wanted(room, text, item.pattern())?;
+    if item.is_negated() {
+        Ok(!there)
+    } else {
+        Ok(there)
+    }
+}
+
+/// Whether each item of a part is so of a text. The lines may differ. The room and the error are as at `has_pattern`.
+fn has_part(room: &mut Vec<u8>, text: &[u8], part: &Part) -> Result<bool, AllocError>
+    ensures { IfOk result (λ r. r ≡ items.has_part text.now part.now) }
+{
+    for item in part.items() {
+        if !has_item(room, text, item)? {
+            return Ok(false);
+        }
+    }
+    Ok(true)
+}
+
+/// Whether some part of a moment is in a text. The room and the error are as at `has_pattern`.
 pub(crate) fn has_moment(
     room: &mut Vec<u8>,
     text: &[u8],
@@ -96,12 +138,12 @@ pub(crate) fn has_moment(
 ) -> Result<bool, AllocError>
     ensures { IfOk result (λ r. r ≡ spec.has_moment text.now moment.now) }
 {
-    for pattern in moment.patterns() {
-        if !has_pattern(room, text, pattern)? {
-            return Ok(false);
+    for part in moment.parts() {
+        if has_part(room, text, part)? {
+            return Ok(true);
         }
     }
-    Ok(true)
+    Ok(false)
 }
 
 /// Whether the moment that a step waits for is in a text. False without a step. The room and the error are as at `has_pattern`.

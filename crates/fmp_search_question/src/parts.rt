@@ -9,6 +9,7 @@ ghost use Rattle.fmp_search_question.specs.Reading as reading;
 
 use crate::draft::Draft;
 use crate::fault::{QuestionFault, ReadFault};
+use crate::items::{Item, Part};
 use crate::lasting::Lasting;
 use crate::question::{Moment, Pattern, Piece};
 use crate::stage::Stage;
@@ -26,16 +27,18 @@ const TASK: NameKind = NameKind::Object(ObjectKind::Task);
 
 /// The moment of one pattern: a name between blanks, and words after it.
 fn words_after(alloc: Global, name: &[u8], words: &[u8]) -> Result<Moment, AllocError>
-    ensures { IfOk result (λ m. m ≡ ((space ∷ name.now ++ words.now) ∷ []) ∷ []) }
+    ensures { IfOk result (λ m. m ≡ spec.only (space ∷ name.now ++ words.now)) }
 {
     let mut bytes = Vec::from_slice(alloc, b" ")?;
     bytes.extend_from_slice(name)?;
     bytes.extend_from_slice(words)?;
     let mut pieces = Vec::new(alloc);
     pieces.push(Piece::new(bytes))?;
-    let mut patterns = Vec::new(alloc);
-    patterns.push(Pattern::new(pieces))?;
-    Ok(Moment::new(patterns))
+    let mut items = Vec::new(alloc);
+    items.push(Item::new(false, Some(Pattern::new(pieces))))?;
+    let mut parts = Vec::new(alloc);
+    parts.push(Part::new(items))?;
+    Ok(Moment::new(parts))
 }
 
 /// That a task waits, suspended or not.
@@ -217,7 +220,7 @@ impl Parts {
         ensures { OnOk result (self.new ≡ spec.with_part self.old) }
     {
         let mut moments = Vec::new(self.alloc);
-        moments.push(self.draft.take_moment())?;
+        moments.push(self.draft.take_moment()?)?;
         self.lasting.push(Lasting::new(self.negated, moments))?;
         self.negated = false;
         self.stage = Stage::Ever;

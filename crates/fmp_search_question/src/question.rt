@@ -1,7 +1,8 @@
 //! What a question is.
-ghost use Rattle.std.specs.Prelude.{◌≡◌, length, IfOk};
+ghost use Rattle.std.specs.Prelude.{◌≡◌, take, IfOk};
 ghost use Rattle.std.specs.Option.{option_copied};
 
+use crate::items::Part;
 use std::alloc::{AllocError, Global};
 use std::marker::Model;
 
@@ -74,7 +75,7 @@ impl Pattern {
     }
 
     /// A pattern of the same pieces. The error is want of memory.
-    fn copy(&self, alloc: Global) -> Result<Pattern, AllocError>
+    pub(crate) fn copy(&self, alloc: Global) -> Result<Pattern, AllocError>
         ensures { IfOk result (λ p. p ≡ self.now) }
     {
         let mut pieces = Vec::new(alloc);
@@ -85,44 +86,45 @@ impl Pattern {
     }
 }
 
-/// A moment: each of its patterns stands in some line.
+/// A moment: one of its parts is there.
 #[derive(Drop)]
 pub struct Moment {
-    patterns: Vec<Pattern>,
+    parts: Vec<Part>,
 }
 
 impl Model for Moment {
-    ghost use Rattle.std.specs.Prelude.{ℕ, List};
+    ghost use Rattle.std.specs.Prelude.{List};
+    ghost use Rattle.fmp_search_question.specs.Items as spec;
 
-    ghost Value = { List (List (List ℕ)) };
+    ghost Value = { List (List spec.Item) };
 
-    ghost view = { λ m. m.patterns.items };
+    ghost view = { λ m. m.parts.items };
 }
 
 impl Moment {
-    /// The moment at which each of these patterns stands in some line.
-    pub fn new(patterns: Vec<Pattern>) -> Moment
-        ensures { result ≡ patterns.items }
+    /// The moment at which one of these parts is there.
+    pub fn new(parts: Vec<Part>) -> Moment
+        ensures { result ≡ parts.items }
     {
-        Moment { patterns }
+        Moment { parts }
     }
 
-    /// The patterns, of which each has to stand in some line.
-    pub fn patterns(&self) -> &[Pattern]
+    /// The parts, of which one has to be there.
+    pub fn parts(&self) -> &[Part]
         ensures { result.now ≡ self.now }
     {
-        &self.patterns
+        &self.parts
     }
 
-    /// A moment of the same patterns. The error is want of memory.
+    /// A moment of the same parts. The error is want of memory.
     fn copy(&self, alloc: Global) -> Result<Moment, AllocError>
         ensures { IfOk result (λ m. m ≡ self.now) }
     {
-        let mut patterns = Vec::new(alloc);
-        for pattern in self.patterns.iter() {
-            patterns.push(pattern.copy(alloc)?)?;
+        let mut parts = Vec::new(alloc);
+        for part in self.parts.iter() {
+            parts.push(part.copy(alloc)?)?;
         }
-        Ok(Moment { patterns })
+        Ok(Moment { parts })
     }
 }
 
@@ -183,5 +185,17 @@ impl Question {
         ensures { result.now ≡ self.now }
     {
         &self.steps
+    }
+
+    /// The question of the first steps, so many of them, or of all where it has fewer. The error is want of memory.
+    pub fn first(&self, alloc: Global, count: usize) -> Result<Question, AllocError>
+        ensures { IfOk result (λ q. q ≡ take count self.now) }
+    {
+        let first = self.steps.get(..count).unwrap_or(&self.steps);
+        let mut steps = Vec::new(alloc);
+        for step in first {
+            steps.push(step.copy(alloc)?)?;
+        }
+        Ok(Question { steps })
     }
 }

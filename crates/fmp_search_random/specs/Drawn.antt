@@ -18,7 +18,7 @@ use Rattle.rand_xoshiro.specs.SplitMix64.{mix_u64, next_state}
 
 -- the rules of the orders: so many ticks each, and a request is taken before its processor's next call unless it may come late
 abbrev pub rules_of : Drawing → ℕ → Rules
-rules_of drawing ticks = record { ticks = Some ticks; prompt = not drawing.late; drift = None }
+rules_of drawing ticks = record { ticks = Some ticks; prompt = not drawing.late; drift = None; pace = None; spurious = false }
 
 -- ---- a processor that stands still
 

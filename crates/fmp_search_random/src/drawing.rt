@@ -38,6 +38,8 @@ impl Drawing {
             ticks: Some(ticks),
             prompt: !self.late,
             drift: None,
+            pace: None,
+            spurious: false,
         }
     }
 }

@@ -12,7 +12,7 @@ use Rattle.fmp_search_orders.specs.Shown.{Shows}
 
 -- events come as they are given: ticks may be of any number
 abbrev pub as_given : Rules
-as_given = record { ticks = None; prompt = false; drift = None }
+as_given = record { ticks = None; prompt = false; drift = None; pace = None; spurious = false }
 
 -- what the machine answers to the events shows what the question asks
 abbrev pub AnswersShow : Setup → List Step → List Event → Type 0

@@ -14,6 +14,8 @@ const AS_GIVEN: Rules = Rules {
     ticks: None,
     prompt: false,
     drift: None,
+    pace: None,
+    spurious: false,
 };
 
 /// Whether what the machine answers to these events shows what a question asks.

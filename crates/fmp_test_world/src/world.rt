@@ -5,7 +5,7 @@ use fmp_config::read_config;
 use fmp_rules::Config;
 use fmp_text_scripts::{Scripts, read_scripts};
 use fmp_trace::trace_text;
-use fmp_world::{Cpu, Ended, History, Receipt, Seats, SmpRun, Turn, World};
+use fmp_world::{Cpu, Ended, Receipt, Replay, Seats, SmpRun, Turn, World};
 use std::alloc::{AllocError, Global};
 use std::process::Abort;
 use std::test::Fail;
@@ -308,8 +308,7 @@ fn add_receipts(
 }
 
 /// The records of a history.
-fn records_of(alloc: Global, history: &History<'_>) -> Result<Vec<Record>, AllocError> {
-    let mut replay = history.replay(alloc)?;
+fn records_of(alloc: Global, mut replay: Replay<'_, '_>) -> Result<Vec<Record>, AllocError> {
     let mut records = Vec::new(alloc);
     for _ in 0..1000 {
         let mut told = Record::answer(Event::Tick(Proc::new(1)), None, Answer::Nothing);
@@ -321,18 +320,17 @@ fn records_of(alloc: Global, history: &History<'_>) -> Result<Vec<Record>, Alloc
     Ok(records)
 }
 
-/// Whether a history is printed so.
+/// Whether the records of a history are printed so.
 fn is_printed(
     alloc: Global,
-    history: &History<'_>,
+    records: &[Record],
     config: &Config,
     trace: &str,
 ) -> Result<bool, AllocError> {
-    let records = records_of(alloc, history)?;
     if records.len() > 1000 {
         return Ok(false);
     }
-    let printed = trace_text(alloc, records.as_slice(), config.names())?;
+    let printed = trace_text(alloc, records, config.names())?;
     Ok(printed.as_slice() == trace.as_bytes())
 }
 
@@ -343,7 +341,7 @@ fn is_told(
     config: &Config,
     story: &Story,
 ) -> Result<bool, AllocError> {
-    let records = records_of(alloc, &run.history)?;
+    let records = records_of(alloc, run.history.replay(alloc)?)?;
     let mut shown = String::new(alloc);
     for receipts in run.receipts.as_slice() {
         add_receipts(
@@ -354,7 +352,10 @@ fn is_told(
             records.as_slice(),
         )?;
     }
-    Ok(shown.as_str() == story.receipts && is_printed(alloc, &run.history, config, story.trace)?)
+    Ok(
+        shown.as_str() == story.receipts
+            && is_printed(alloc, records.as_slice(), config, story.trace)?,
+    )
 }
 
 /// How a run of a story ended, whose moves went as they are told: `!` if they did not, `-` if there is no run, and `?` if it has another
@@ -389,10 +390,11 @@ fn plays(
     config: &Config,
     story: &Story,
 ) -> Result<bool, AllocError> {
-    Ok(
-        all_go(world, seats, story.moves)
-            && is_printed(alloc, world.history(), config, story.trace)?,
-    )
+    if !all_go(world, seats, story.moves) {
+        return Ok(false);
+    }
+    let records = records_of(alloc, world.records(alloc)?)?;
+    is_printed(alloc, records.as_slice(), config, story.trace)
 }
 
 /// Room for so many turns, and the ticks and turns by which a run is judged.

@@ -14,9 +14,10 @@ use Rattle.fmp_text.specs.declared.fault.TextKind.TheVariants.{CutShort, TooMany
 use Rattle.fmp_text.specs.Lines.{is_skipped, line_event}
 use Rattle.fmp_text.specs.Events.{Reading, after_line, fault_at, faultless, reading_from, reading_of, with_events}
 use Rattle.fmp_text.specs.TextGrammar.{SpellsText}
-use Rattle.fmp_text.specs.FirstFaults.{lines_text, AreApart, FaultInLine, FaultAtEnd, FirstFault}
+use Rattle.fmp_text.specs.FirstFaults.{lines_text, AreApart, IsFaultOfLine, FaultInLine, FaultAtEnd, FirstFault}
+use Rattle.fmp_text.proofs.EventFaults.{event_fault}
 use Rattle.fmp_text.proofs.Scanned.{reading_from-cut, reading_from-last}
-use Rattle.fmp_text.proofs.SpelledTexts.{no_feed, rest_read, reading_of-spelled, text_is_spelled}
+use Rattle.fmp_text.proofs.SpelledTexts.{no_feed, rest_read, line_spelled, reading_of-spelled, text_is_spelled}
 
 -- ---- whole lines
 
@@ -119,8 +120,8 @@ module _ (names : NameLists) (valid : AreValid names) (before : List (List ℕ))
       unfolding reading_of
       told more fits = let short = le-ltb most_bytes (length (lines_text before ++ (line ++ (10 ∷ more)))) fits in rw short (reads_fault more)
 
-      stops : (text rest : List ℕ) → text ≡ lines_text before ++ (line ++ (10 ∷ rest)) → length text ≤ most_bytes → Found names text (record { kind = kind; line = length before + 1 })
-      stops text rest parts fits =
+      stops : IsFaultOfLine names events line kind → (text rest : List ℕ) → text ≡ lines_text before ++ (line ++ (10 ∷ rest)) → length text ≤ most_bytes → Found names text (record { kind = kind; line = length before + 1 })
+      stops is text rest parts fits =
           let long : length text ≡ length (lines_text before ++ (line ++ (10 ∷ rest))) = ap length parts in
           record {
             events = events;
@@ -132,6 +133,7 @@ module _ (names : NameLists) (valid : AreValid names) (before : List (List ℕ))
               parts = parts;
               apart = apart-cons before line after.apart here;
               number = refl;
+              kind = is;
               spelled = spelled (omega (arith, fits, long, length-append (lines_text before) (line ++ (10 ∷ rest))));
               never = λ more others s. no_fault events others (record { kind = kind; line = length before + 1 }) (sym (reading_of-spelled names _ others valid s) ∙ told more s.short);
               told = told;
@@ -180,13 +182,15 @@ module _ (names : NameLists) (valid : AreValid names) (text : List ℕ) (fault :
     pushed : text ≡ lines_text (before ++ (line ∷ [])) ++ join_with_byte 10 (next ∷ lines)
     pushed = parts ∙ sym (lines_text-push before line (join_with_byte 10 (next ∷ lines)))
 
-    stopped : (kind : TextKind) → ((without behind : Reading) → after_line (length before + 1) (length events) (line_event names line) without behind ≡ fault_at kind (length before + 1)) → Found names text fault
-    stopped kind judged =
+    stopped : (kind : TextKind) → IsFaultOfLine names events line kind → ((without behind : Reading) → after_line (length before + 1) (length events) (line_event names line) without behind ≡ fault_at kind (length before + 1)) → Found names text fault
+    stopped kind is judged =
         let same : record { kind = kind; line = length before + 1 } ≡ fault = same_fault (record { kind = kind; line = length before + 1 }) fault (sym (ap (λ (r : Reading). r.fault) (judged _ _)) ∙ e) in
-        subst (Found names text) same (stops names valid before events after line here kind judged text (join_with_byte 10 (next ∷ lines)) parts fits)
+        subst (Found names text) same (stops names valid before events after line here kind judged is text (join_with_byte 10 (next ∷ lines)) parts fits)
 
     one_event : (event : Event) (room : Bool) → ltb (length events) most_events ≡ room → line_event names line ≡ Ok (Some event) → Found names text fault
-    one_event event false room says = stopped TooMany (λ without behind. rw (says, room) refl)
+    one_event event false room says =
+        let full : length events ≡ most_events = omega (arith, after.few, ltb-false (length events) most_events room) in
+        stopped TooMany (inr (refl, full, (event, line_spelled names line (Some event) says))) (λ without behind. rw (says, room) refl)
     one_event event true room says =
         let e2 = rw (says, room) at e in
         let count : length events + 1 ≡ length (events ++ (event ∷ [])) = omega (arith, length-append events (event ∷ [])) in
@@ -200,7 +204,7 @@ module _ (names : NameLists) (valid : AreValid names) (text : List ℕ) (fault :
         more (before ++ (line ∷ [])) events (skips names valid before events after line here says) pushed
         (ap (λ (n : ℕ). (reading_from names false n (length events) [] (join_with_byte 10 (next ∷ lines))).fault) (sym (length-push before line)) ∙ e2)
     one_line (Ok (Some event)) says = one_event event (ltb (length events) most_events) refl says
-    one_line (Err kind) says = stopped kind (λ without behind. rw says refl)
+    one_line (Err kind) says = stopped kind (inl (event_fault names line kind valid says)) (λ without behind. rw says refl)
 
   find : (lines : List (List ℕ)) → 0 < length lines → AreApart lines → Behind names text fault lines
   find [] some apart before events after parts e = absurd (omega (arith, some))

@@ -76,7 +76,8 @@ pub fn texts_are_read_line_by_line()
 {}
 
 /// A fault stands in its line: the whole lines before it spell the events that were given, and a text that is the same up to the end of that line has the
-/// same fault, whatever follows. Mend line n, and the next fault is in line n or behind. A text that is cut short is so in its last line.
+/// same fault, whatever follows. Mend line n, and the next fault is in line n or after it. The fault of a line is the first row of the table of faults
+/// that fits it, or that it spells one event more than a text may have. A text that is cut short is so in its last line.
 pub fn faults_stand_in_their_line()
     ensures { (names : NameLists) (text : List ℕ) (fault : TextFault) → AreValid names
         → (reading_of names text).fault ≡ Some fault → FirstFault names text (reading_of names text).events fault }

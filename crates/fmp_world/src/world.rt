@@ -7,6 +7,7 @@ ghost use Rattle.fmp_world.specs.Views.{Seat, ClockSeat};
 ghost use Rattle.fmp_world.specs.Turns.{Turns, Ticks, opening, IsOpening};
 
 use crate::history::{History, Move};
+use crate::replay::Replay;
 use crate::seats::{Clock, Cpu, Seats, Turn};
 use arrayvec::ArrayVec;
 use fmp_codes::{Answer, Event, Proc, Record};
@@ -126,11 +127,11 @@ impl<'a> World<'a> {
         Turn::Made(receipt)
     }
 
-    /// What happened so far.
-    pub fn history(&self) -> &History<'a>
-        ensures { result.now ≡ self.now }
+    /// The records of what happened so far, to be made again one after the other. The error is want of memory for another kernel.
+    pub fn records(&self, alloc: Global) -> Result<Replay<'_, 'a>, AllocError>
+        ensures { IfOk result (λ r. r ≡ self.entry.now.records) }
     {
-        &self.history
+        self.history.replay(alloc)
     }
 
     /// Whether on no processor a handler is due, a task runs or a request is pending.

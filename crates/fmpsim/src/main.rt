@@ -9,11 +9,13 @@ mod beside;
 mod layer;
 mod lines;
 mod output;
+mod patterns;
 mod progress;
 mod questions;
 mod scripts;
 mod staying;
 mod texts;
+mod unshown;
 mod values;
 mod waiting;
 mod words;
@@ -198,6 +200,7 @@ fn saved<R: Files + Input + Print + AllocGlobal>(
 }
 
 /// Writes whether an order of what scripts ask shows what the request asks, and where a folder is named there the traces from which to go on.
+/// Where none does it tells how much of it comes.
 fn explore<R: Files + Input + Print + Eprint + Clock + AllocGlobal>(
     rt: &R,
     paths: &Paths<'_>,
@@ -223,6 +226,8 @@ fn explore<R: Files + Input + Print + Eprint + Clock + AllocGlobal>(
     if let Some(folder) = request.layer {
         layer::written(rt, folder, &outcome.layer)?;
     }
+    line.allow_as_much();
+    unshown::tell(rt, "question", &outcome, request, line);
     Ok(outcome.finding.status())
 }
 

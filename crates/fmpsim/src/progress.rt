@@ -9,6 +9,9 @@ use std::time::Instant;
 /// From when on it is told, in tenths of a second.
 const FIRST: u128 = 10;
 
+/// How many seconds more a run may take at least that goes on beside its answer.
+const LEAST_MORE: u64 = 10;
+
 /// How it is told.
 #[derive(Clone, Copy, PartialEq, Eq)]
 pub enum ProgressForm {
@@ -100,6 +103,16 @@ impl<'a, R: Eprint + Clock> ProgressLine<'a, R> {
             Ok(past) => past.as_secs() >= seconds,
             Err(_) => false,
         }
+    }
+
+    /// Lets the run go on for as long as it has taken, or a few seconds, but no longer than it may take.
+    pub fn allow_as_much(&mut self) {
+        let taken = match self.begun {
+            Some(begun) => begun.elapsed(self.rt).map_or(0, |past| past.as_secs()),
+            None => 0,
+        };
+        let most = taken.saturating_add(taken.max(LEAST_MORE));
+        self.limit = Some(self.limit.map_or(most, |limit| limit.min(most)));
     }
 
     /// Takes the line of a terminal away.

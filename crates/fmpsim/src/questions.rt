@@ -6,7 +6,7 @@ use crate::layer::folder_made;
 use crate::output::{Ending, settled_search};
 use crate::progress::ProgressLine;
 use crate::texts::{STANDARD_INPUT, both_opened, text_read, trace_read};
-use crate::{beside, lines};
+use crate::{beside, lines, unshown};
 use fmp_cli::Paths;
 use fmp_cli_explore::{ExploreRequest, FEW_TICKS};
 use fmp_cli_questions::{
@@ -16,7 +16,7 @@ use fmp_cli_questions::{
 use fmp_cli_runs::{search, search_forever};
 use fmp_config::Config;
 use fmp_run_events::{Failed, MemSource, Sink, Status};
-use fmp_run_explore::{Finding, Progress};
+use fmp_run_explore::{Finding, Outcome, Progress};
 use fmp_run_forever::Staying;
 use fmp_run_texts::{RunFault, texts_from};
 use fmp_search_question::{QuestionFault, ReadFault, is_lasting, read_lasting, read_question};
@@ -51,6 +51,16 @@ enum Misfit {
     Ticks,
     /// Its text has this fault, at the byte of this number from 0.
     Text(QuestionFault, usize),
+}
+
+/// What a search has found.
+#[derive(Drop)]
+struct Found {
+    answer: Answer,
+    /// What was written.
+    trace: Vec<u8>,
+    /// What was found of all orders, where something of it is told at the end.
+    outcome: Option<Outcome>,
 }
 
 /// Memory that a trace is written to.
@@ -238,13 +248,13 @@ fn in_memory(ending: Ending) -> Ending {
     }
 }
 
-/// Searches for a question. Its answer is given, and what was written.
+/// Searches for a question.
 fn searched<P: Progress>(
     alloc: Global,
     texts: &Texts,
     request: &ExploreRequest<'_>,
     progress: &mut P,
-) -> Result<(Answer, Vec<u8>), Ending> {
+) -> Result<Found, Ending> {
     let mut config = MemSource::new(texts.config.as_slice());
     let mut scripts = MemSource::new(texts.scripts.as_slice());
     let mut output = TraceSink {
@@ -262,7 +272,11 @@ fn searched<P: Progress>(
         );
         let stayed = settled_search(run, false).map_err(in_memory)?;
         let answer = lasting_answer_of(stayed.staying, output.text.as_slice());
-        return Ok((answer, output.text));
+        return Ok(Found {
+            answer,
+            trace: output.text,
+            outcome: None,
+        });
     }
     let run = search(
         alloc,
@@ -274,7 +288,11 @@ fn searched<P: Progress>(
     );
     let outcome = settled_search(run, false).map_err(in_memory)?;
     let answer = answer_of(outcome.finding, output.text.as_slice());
-    Ok((answer, output.text))
+    Ok(Found {
+        answer,
+        trace: output.text,
+        outcome: unshown::is_told(alloc, &outcome).then_some(outcome),
+    })
 }
 
 /// Writes a text into the file at a path, which is made where there is none.
@@ -316,33 +334,35 @@ fn answered<'x, R: Files + Eprint + Clock + AllocGlobal>(
     texts: &Texts,
     row: &'x Row,
     progress: &mut ProgressLine<'_, R>,
-) -> Result<Answer, Ending> {
+) -> Result<(Answer, Option<Outcome>), Ending> {
     if Progress::is_over(progress) {
-        return Ok(Answer::NotWithin(0));
+        return Ok((Answer::NotWithin(0), None));
     }
     let request = ExploreRequest {
         question: str::from_utf8(row.question()).unwrap_or(""),
         ..asking.request
     };
-    let (answer, trace) = searched(rt.alloc(), texts, &request, progress)?;
-    if let (Answer::Shown(_), Some(folder)) = (answer, request.traces) {
-        put_trace(rt, folder, row, trace.as_slice())?;
+    let found = searched(rt.alloc(), texts, &request, progress)?;
+    if let (Answer::Shown(_), Some(folder)) = (found.answer, request.traces) {
+        put_trace(rt, folder, row, found.trace.as_slice())?;
     }
-    Ok(answer)
+    Ok((found.answer, found.outcome))
 }
 
-/// Puts a reply behind the others.
-fn keep(replies: &mut Vec<Reply>, reply: Reply) -> Result<(), AllocError> {
-    replies.push(reply)?;
+/// Puts a thing behind the others.
+fn keep<T: Drop>(things: &mut Vec<T>, thing: T) -> Result<(), AllocError> {
+    things.push(thing)?;
     Ok(())
 }
 
-/// Searches for each question, and tells its answer when it is known.
+/// Searches for each question, and tells its answer when it is known. Of each it puts what was found of all orders, where something of it is told at
+/// the end.
 fn replies_to<R: Files + Print + Eprint + Clock + AllocGlobal>(
     rt: &R,
     asking: &Asking<'_>,
     texts: &Texts,
     rows: Vec<Row>,
+    outcomes: &mut Vec<Option<Outcome>>,
     progress: &mut ProgressLine<'_, R>,
 ) -> Result<Vec<Reply>, Ending> {
     let alloc = rt.alloc();
@@ -351,7 +371,7 @@ fn replies_to<R: Files + Print + Eprint + Clock + AllocGlobal>(
     }
     let mut replies = Vec::new(alloc);
     for row in rows {
-        let answer = answered(rt, asking, texts, &row, progress)?;
+        let (answer, outcome) = answered(rt, asking, texts, &row, progress)?;
         let reply = Reply { row, answer };
         let line = if asking.request.tap {
             tap_line(alloc, replies.len().saturating_add(1), &reply)?
@@ -360,8 +380,26 @@ fn replies_to<R: Files + Print + Eprint + Clock + AllocGlobal>(
         };
         put_out(rt, line.as_slice())?;
         keep(&mut replies, reply)?;
+        keep(outcomes, outcome)?;
     }
     Ok(replies)
+}
+
+/// Tells of each question that no order shows how much of it comes, after all answers: these searches are not to take the time of others.
+fn tell_unshown<R: Eprint + Clock + AllocGlobal>(
+    rt: &R,
+    asking: &Asking<'_>,
+    replies: &[Reply],
+    outcomes: &[Option<Outcome>],
+    progress: &mut ProgressLine<'_, R>,
+) {
+    progress.allow_as_much();
+    for (reply, outcome) in replies.iter().zip(outcomes.iter()) {
+        let name = str::from_utf8(reply.row.name()).unwrap_or("");
+        if let Some(outcome) = outcome {
+            unshown::tell(rt, name, outcome, &asking.request, progress);
+        }
+    }
 }
 
 /// How answers end the program.
@@ -403,7 +441,8 @@ pub fn asked<R: Files + Input + Print + Eprint + Clock + AllocGlobal>(
     if let Some(path) = request.junit {
         put(rt, path, b"")?;
     }
-    let replies = replies_to(rt, &asking, &texts, rows.rows, progress)?;
+    let mut outcomes = Vec::new(rt.alloc());
+    let replies = replies_to(rt, &asking, &texts, rows.rows, &mut outcomes, progress)?;
     if let Some(path) = request.junit {
         put(
             rt,
@@ -411,5 +450,12 @@ pub fn asked<R: Files + Input + Print + Eprint + Clock + AllocGlobal>(
             junit_text(rt.alloc(), replies.as_slice())?.as_slice(),
         )?;
     }
+    tell_unshown(
+        rt,
+        &asking,
+        replies.as_slice(),
+        outcomes.as_slice(),
+        progress,
+    );
     Ok(status_of(judgement_of(replies.as_slice())))
 }

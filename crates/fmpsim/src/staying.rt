@@ -1,36 +1,22 @@
 //! What is told of something that stays for ever.
+use crate::patterns::{put_between, put_item};
 use fmp_run_forever::{Stayed, Staying};
-use fmp_search_question::{Lasting, Pattern};
+use fmp_search_question::Lasting;
 use std::alloc::{AllocError, Global};
 
-/// Puts what stands between two things, and nothing before the first.
-fn put_between(text: &mut Vec<u8>, between: &[u8]) -> Result<(), AllocError> {
-    if text.is_empty() {
-        return Ok(());
-    }
-    text.extend_from_slice(between)
-}
-
-/// The words of a pattern, with a star between its pieces.
-fn words_of(alloc: Global, pattern: &Pattern) -> Result<Vec<u8>, AllocError> {
-    let mut text = Vec::new(alloc);
-    for piece in pattern.pieces() {
-        put_between(&mut text, b"*")?;
-        text.extend_from_slice(piece.bytes())?;
-    }
-    Ok(text)
-}
-
-/// The words of what is to stay, as a question has them: those of its first moment.
+/// The words of what is to stay, as a question has them: those of its first moment, which has one part.
 fn told_of(alloc: Global, lasting: &Lasting) -> Result<Vec<u8>, AllocError> {
     let mut text = Vec::new(alloc);
-    let Some(moment) = lasting.moments().first() else {
+    let Some(part) = lasting
+        .moments()
+        .first()
+        .and_then(|moment| moment.parts().first())
+    else {
         return Ok(text);
     };
-    for pattern in moment.patterns() {
+    for item in part.items() {
         put_between(&mut text, b" & ")?;
-        let words = words_of(alloc, pattern)?;
-        text.extend_from_slice(words.trim_ascii())?;
+        put_item(alloc, &mut text, item)?;
     }
     Ok(text)
 }

@@ -1,7 +1,7 @@
 use Rattle.std.proofs.Common.{◌≡◌, ◌∙◌, ap, sym}
 use Rattle.std.specs.List.{list_all}
 use Rattle.std.specs.Option.{option_copied}
-use Rattle.fmp_bytes.specs.Bytes.{cut_at, pieces_of}
+use Rattle.fmp_bytes.specs.Bytes.{cut_at}
 use Rattle.fmp_bytes.proofs.Cutting.{fewer_left, pieces_left}
 use Rattle.fmp_search_question.specs.Lasting.{comma, is_task, are_tasks}
 use Rattle.fmp_search_question.proofs.Pieces.{all_first, all_rest}

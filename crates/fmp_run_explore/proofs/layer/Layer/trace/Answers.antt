@@ -5,7 +5,7 @@ use Rattle.fmp_run_explore.proofs.layer.Layer.trace.Goals as goal
 
 pub trace_along-requires-clause-few : goal.trace_along-requires-clause-few
 trace_along-requires-clause-few c =
-    let made = c.self.invariant c.args.at c.in_ok-steps.steps.items c.in_ok-steps.ensures in
+    let made = c.self.invariant.0 c.args.at c.in_ok-steps.steps.items c.in_ok-steps.ensures in
     subst (λ (steps : List ℕ). length steps ≤ 1000000) (sym c.deref.ensures.value) made.1
 
 pub returns : goal.returns

@@ -1,0 +1,180 @@
+-- The words of a pattern, one after the other.
+use Rattle.std.proofs.Common.{◌≡◌, ℕ, eqb, ◌≤◌, Bool, true, false, not, ◌&&◌, ◌||◌, List, [], ◌∷◌, ◌++◌, length}
+use Rattle.std.proofs.Common.{Option, Some, None, Ok, refl, sym, ap, ◌∙◌, arith, length-append, append_assoc}
+use Rattle.std.specs.Prelude.{codes, option_and_then}
+use Rattle.std.specs.List.{list_all, list_any}
+use Rattle.std.specs.Str.{bytes_eq}
+use Rattle.std.proofs.lemmas.Bool.{and_parts, le-leb, false≢true}
+use Rattle.std.proofs.lemmas.Bool.Decides.{nat_tests}
+use Rattle.fmp_bytes.specs.Bytes.{space, pieces_of}
+use Rattle.fmp_bytes.proofs.Words.{other_word, not_word}
+use Rattle.fmp_names.specs.Names.{NameLists}
+use Rattle.fmp_search_question.specs.declared.spot.Spot.{Spot}
+use Rattle.fmp_search_question.specs.Forms.{spot_of}
+use Rattle.fmp_search_question.specs.Items.{wanted_by}
+use Rattle.fmp_search_question.specs.Reading.{Draft, after_word, longer, with_word}
+use Rattle.fmp_search_question.specs.Spots.{stepped}
+use Rattle.fmp_search_question.specs.Words.{is_fine, is_printed, runs_of, star}
+use Rattle.fmp_law_questions.specs.Grammar.{is_pattern_word, own_words, placed, spaced}
+use Rattle.fmp_law_questions.proofs.Steps.{led, led_first}
+
+abbrev pub next_place : NameLists → Spot → List ℕ → Option Spot
+next_place names place word = stepped place (spot_of names word)
+
+-- ---- tests
+
+pub or_parts : (a b : Bool) → (a || b) ≡ false → (a ≡ false) × (b ≡ false)
+or_parts false b is = (refl, is)
+or_parts true b is = absurd cc
+
+pub not_parts : (a : Bool) → not a ≡ true → a ≡ false
+not_parts false is = refl
+not_parts true is = absurd cc
+
+-- a word that is none of those of the language
+pub record IsForeign (word : List ℕ) : Type 0 where
+  pub no_and : bytes_eq word (codes "&") ≡ false
+  pub no_or : bytes_eq word (codes "or") ≡ false
+  pub no_not : bytes_eq word (codes "not") ≡ false
+  pub no_refused : bytes_eq word (codes "refused") ≡ false
+  pub no_without : bytes_eq word (codes "without") ≡ false
+  pub no_then : bytes_eq word (codes "then") ≡ false
+  pub no_times : bytes_eq word (codes "times") ≡ false
+
+pub foreign : (word : List ℕ) → list_any (bytes_eq word) own_words ≡ false → IsForeign word
+foreign word is =
+    let a = or_parts (bytes_eq word (codes "&")) _ is in
+    let b = or_parts (bytes_eq word (codes "or")) _ a.1 in
+    let c = or_parts (bytes_eq word (codes "not")) _ b.1 in
+    let d = or_parts (bytes_eq word (codes "refused")) _ c.1 in
+    let e = or_parts (bytes_eq word (codes "without")) _ d.1 in
+    let f = or_parts (bytes_eq word (codes "then")) _ e.1 in
+    let g = or_parts (bytes_eq word (codes "times")) _ f.1 in
+    record { no_and = a.0; no_or = b.0; no_not = c.0; no_refused = d.0; no_without = e.0; no_then = f.0; no_times = g.0 }
+
+-- what a word of a pattern is
+pub record IsOne (names : NameLists) (word : List ℕ) : Type 0 where
+  pub printed : is_printed word ≡ true
+  pub is_foreign : IsForeign word
+  pub known : list_all (is_fine names) (runs_of word) ≡ true
+
+pub one_parts : (names : NameLists) (word : List ℕ) → is_pattern_word names word ≡ true → IsOne names word
+one_parts names word is =
+    let p = and_parts (is_printed word) (not (list_any (bytes_eq word) own_words) && list_all (is_fine names) (runs_of word)) is in
+    let q = and_parts (not (list_any (bytes_eq word) own_words)) (list_all (is_fine names) (runs_of word)) p.1 in
+    record { printed = p.0; is_foreign = foreign word (not_parts (list_any (bytes_eq word) own_words) q.0); known = q.1 }
+
+-- ---- one word more
+
+module _ (names : NameLists) (d : Draft) (word : List ℕ) (place : Spot) where
+  pub word_taken : is_pattern_word names word ≡ true → length (longer d.pattern word) ≤ 1024 → next_place names d.spot word ≡ Some place
+      → after_word names d word ≡ Ok (record d { pattern = longer d.pattern word; spot = place })
+  unfolding after_word with_word
+  word_taken is short stands =
+      let p = one_parts names word is in
+      let f = p.is_foreign in
+      let room = le-leb (length (longer d.pattern word)) 1024 short in
+      let printed = p.printed in
+      let a = f.no_and in
+      let b = f.no_or in
+      let c = f.no_not in
+      let g = f.no_refused in
+      let h = f.no_without in
+      let i = f.no_then in
+      let j = f.no_times in
+      let known = p.known in
+      rw (printed, a, b, c, g, h, i, j, known, room, stands) refl
+
+-- ---- several words more
+
+abbrev pub longer_by : List ℕ → List (List ℕ) → List ℕ
+longer_by pattern [] = pattern
+longer_by pattern (word ∷ words) = longer_by (longer pattern word) words
+
+-- a list with an element has some length
+pub some_length : {A : Type 0} (x : A) (xs : List A) → eqb (length (x ∷ xs)) 0 ≡ false
+some_length x xs = grind (arith, nat_tests)
+
+pub longer-more : (b : ℕ) (pattern word : List ℕ) → longer (b ∷ pattern) word ≡ ((b ∷ pattern) ++ word) ++ space ∷ []
+longer-more b pattern word = let more = some_length b pattern in rw more refl
+
+longer-behind : (front word : List ℕ) → longer (front ++ space ∷ []) word ≡ (front ++ space ∷ word) ++ space ∷ []
+longer-behind [] word = longer-more space [] word
+longer-behind (b ∷ front) word = longer-more b (front ++ space ∷ []) word ∙ ap (λ (p : List ℕ). p ++ space ∷ []) (append_assoc (b ∷ front) (space ∷ []) word)
+
+longer_by-behind : (front : List ℕ) (words : List (List ℕ)) → longer_by (front ++ space ∷ []) words ≡ front ++ spaced words
+longer_by-behind front [] = refl
+longer_by-behind front (word ∷ words) =
+    ap (λ (p : List ℕ). longer_by p words) (longer-behind front word) ∙ longer_by-behind (front ++ space ∷ word) words ∙ append_assoc front (space ∷ word) (spaced words)
+
+pub longer_by-first : (word : List ℕ) (words : List (List ℕ)) → longer_by [] (word ∷ words) ≡ spaced (word ∷ words)
+longer_by-first word words = longer_by-behind (space ∷ word) words
+
+longer-grows : (pattern word : List ℕ) → length pattern ≤ length (longer pattern word)
+longer-grows [] word = omega arith
+longer-grows (b ∷ pattern) word = omega (
+  arith,
+  ap length (longer-more b pattern word),
+  length-append ((b ∷ pattern) ++ word) (space ∷ []),
+  length-append (b ∷ pattern) word,
+)
+
+pub longer_by-grows : (pattern : List ℕ) (words : List (List ℕ)) → length pattern ≤ length (longer_by pattern words)
+longer_by-grows pattern [] = omega arith
+longer_by-grows pattern (word ∷ words) = omega (arith, longer-grows pattern word, longer_by-grows (longer pattern word) words)
+
+-- the first word stands somewhere, and the others behind it
+pub placed_parts : (names : NameLists) (from place : Spot) (word : List ℕ) (words : List (List ℕ)) → placed names from (word ∷ words) ≡ Some place
+    → (next : Spot) × (next_place names from word ≡ Some next) × (placed names next words ≡ Some place)
+placed_parts names from place word words is = parts (next_place names from word) refl is where
+  parts : (o : Option Spot) → next_place names from word ≡ o → option_and_then (λ next. placed names next words) o ≡ Some place
+      → (next : Spot) × (next_place names from word ≡ Some next) × (placed names next words ≡ Some place)
+  parts None e rest = absurd cc
+  parts (Some next) e rest = (next, e, rest)
+
+pub words_taken : (names : NameLists) (d : Draft) (words : List (List ℕ)) (place : Spot) → list_all (is_pattern_word names) words ≡ true
+    → length (longer_by d.pattern words) ≤ 1024
+    → placed names d.spot words ≡ Some place → led names d words ≡ Some (record d { pattern = longer_by d.pattern words; spot = place })
+words_taken names d [] place each short stand = let same : d.spot ≡ place = cc in ap (λ (s : Spot). Some (record d { spot = s })) same
+words_taken names d (word ∷ words) place each short stand =
+    let e = and_parts (is_pattern_word names word) (list_all (is_pattern_word names) words) each in
+    let p = placed_parts names d.spot place word words stand in
+    let room : length (longer d.pattern word) ≤ 1024 = omega (arith, short, longer_by-grows (longer d.pattern word) words) in
+    led_first names d (record d { pattern = longer d.pattern word; spot = p.0 }) word words (word_taken names d word p.0 e.0 room p.1)
+    ∙ words_taken names (record d { pattern = longer d.pattern word; spot = p.0 }) words place e.1 short p.2
+
+-- ---- what the words ask for
+
+-- bytes up to the first blank
+first_word : (word rest front : List ℕ) → list_all (λ b. not (eqb b 32)) front ≡ true → word ++ 32 ∷ rest ≡ front ++ 32 ∷ [] → word ≡ front
+first_word [] rest [] apart e = refl
+first_word [] rest (b ∷ front) apart e =
+    let same : b ≡ 32 = cc in
+    absurd (false≢true (sym (ap (λ (c : ℕ). not (eqb c 32)) same) ∙ (and_parts (not (eqb b 32)) (list_all (λ b. not (eqb b 32)) front) apart).0))
+first_word (a ∷ []) rest [] apart e = absurd cc
+first_word (a ∷ b ∷ word) rest [] apart e = absurd cc
+first_word (a ∷ word) rest (b ∷ front) apart e =
+    let same : a ≡ b = cc in
+    let others : word ++ 32 ∷ rest ≡ front ++ 32 ∷ [] = cc in
+    let rest_same = first_word word rest front (and_parts (not (eqb b 32)) (list_all (λ b. not (eqb b 32)) front) apart).1 others in
+    cc
+
+-- behind the first word a blank follows
+abbrev pub behind_first : List (List ℕ) → List ℕ
+behind_first [] = []
+behind_first (word ∷ words) = word ++ spaced words
+
+pub spaced_begins : (words : List (List ℕ)) → spaced words ≡ space ∷ behind_first words
+spaced_begins [] = refl
+spaced_begins (word ∷ words) = refl
+
+-- only `refused` gives its pattern
+pub other_wanted : (word : List ℕ) (words : List (List ℕ)) → bytes_eq word (codes "refused") ≡ false
+    → wanted_by (spaced (word ∷ words)) ≡ Some (pieces_of star (spaced (word ∷ words)))
+other_wanted word words other =
+    let begins = spaced_begins words in
+    let differs : bytes_eq (spaced (word ∷ words)) (codes " refused ") ≡ false = other_word (spaced (word ∷ words)) (codes " refused ") (λ e.
+    not_word word (codes "refused") other (first_word word (behind_first words) (codes "refused") refl (ap (λ (r : List ℕ). word ++ r) (sym begins) ∙ tail_same e))) in
+    rw differs refl where
+      tail_same : spaced (word ∷ words) ≡ codes " refused " → word ++ spaced words ≡ codes "refused" ++ 32 ∷ []
+      tail_same e = cc

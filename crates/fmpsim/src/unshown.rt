@@ -1,0 +1,214 @@
+//! What is told beside `never`: how many steps of the question come in some order, and whether an event has the patterns of the next one.
+use crate::patterns::put_item;
+use crate::progress::ProgressLine;
+use fmp_cli_explore::{Bounds, ExploreRequest};
+use fmp_run_explore::{Finding, Layer, Outcome, Progress};
+use fmp_search_question::{Moment, Part, Question, Step, read_question};
+use std::alloc::{AllocError, Global};
+use std::rt::Clock;
+
+/// Whether a moment is one pattern.
+fn is_one_pattern(moment: &Moment) -> bool {
+    match moment.parts() {
+        [part] => part.items().len() == 1,
+        _ => false,
+    }
+}
+
+/// Whether a step is one pattern.
+fn is_alone(step: &Step) -> bool {
+    step.without.is_none() && is_one_pattern(&step.moment)
+}
+
+/// Whether a question is one pattern: of it `never` says everything.
+fn is_plain(question: &Question) -> bool {
+    match question.steps() {
+        [step] => is_alone(step),
+        _ => false,
+    }
+}
+
+/// Puts a text after the others, if it is none of them.
+fn put_new(texts: &mut Vec<Vec<u8>>, text: Vec<u8>) -> Result<(), AllocError> {
+    let is_there = texts
+        .iter()
+        .any(|other| other.as_slice() == text.as_slice());
+    if !is_there {
+        texts.push(text)?;
+    }
+    Ok(())
+}
+
+/// Puts the patterns of a part that have to be there.
+fn put_part(alloc: Global, texts: &mut Vec<Vec<u8>>, part: &Part) -> Result<(), AllocError> {
+    for item in part.items() {
+        if !item.is_negated() {
+            let mut text = Vec::new(alloc);
+            put_item(alloc, &mut text, item)?;
+            put_new(texts, text)?;
+        }
+    }
+    Ok(())
+}
+
+/// The patterns of a moment that have to be there, each once.
+fn patterns_of(alloc: Global, moment: &Moment) -> Result<Vec<Vec<u8>>, AllocError> {
+    let mut texts = Vec::new(alloc);
+    for part in moment.parts() {
+        put_part(alloc, &mut texts, part)?;
+    }
+    Ok(texts)
+}
+
+/// Whether a pattern is that of an interrupt which changes nothing.
+fn is_spurious(pattern: &[u8]) -> bool {
+    str::from_utf8(pattern).is_ok_and(|words| words.contains("ipi none")
+        || words.contains("ipi held"))
+}
+
+/// Whether a question asks for such an interrupt.
+fn asks_spurious(alloc: Global, question: &Question) -> bool {
+    question.steps().iter().any(|step| {
+        let patterns = patterns_of(alloc, &step.moment).unwrap_or(Vec::new(alloc));
+        patterns
+            .iter()
+            .any(|pattern| is_spurious(pattern.as_slice()))
+    })
+}
+
+/// Whether something is told of what was found: of a question that no order shows, and that is more than one pattern or asks for interrupts which
+/// change nothing.
+pub fn is_told(alloc: Global, outcome: &Outcome) -> bool {
+    let question = outcome.layer.question();
+    matches!(outcome.finding, Finding::Never)
+        && (!is_plain(question) || asks_spurious(alloc, question))
+}
+
+/// How many steps come of a question that no order shows, where that is known.
+fn steps_come<P: Progress>(
+    alloc: Global,
+    outcome: &Outcome,
+    bounds: Bounds,
+    progress: &mut P,
+) -> Option<usize> {
+    match outcome.finding {
+        Finding::Never => {
+            let (turns, places) = (bounds.turns, bounds.places);
+            let come = outcome.layer.came(alloc, progress, turns, places);
+            come.ok()?
+        }
+        _ => None,
+    }
+}
+
+/// Whether an event of some order has a pattern, where that is known.
+fn has_event<P: Progress>(
+    alloc: Global,
+    layer: &Layer,
+    pattern: &[u8],
+    bounds: Bounds,
+    progress: &mut P,
+) -> Option<bool> {
+    let question = read_question(alloc, layer.names(), pattern).ok()?;
+    let (turns, places) = (bounds.turns, bounds.places);
+    let found = layer.finding(alloc, &question, progress, turns, places);
+    match found.ok()? {
+        Finding::Shown => Some(true),
+        Finding::Never => Some(false),
+        Finding::NotWithin(_) | Finding::Ended(_) => None,
+    }
+}
+
+/// Tells how many steps come, where there are so many.
+fn tell_steps<R: Eprint>(rt: &R, asked: &str, come: usize, count: usize) {
+    let next = come.saturating_add(1);
+    let _ = match come {
+        0 => eprintln!(rt; "fmpsim: {asked}: no order has step 1 of {count}"),
+        1 => eprintln!(rt;
+            "fmpsim: {asked}: some order has step 1 of {count}, and none has step 2 after it"
+        ),
+        _ => eprintln!(rt;
+            "fmpsim: {asked}: some order has steps 1 to {come} of {count}, and none has step {next} after them"
+        ),
+    };
+}
+
+/// Tells whether an event of some order has a pattern, where that is known.
+fn tell_pattern<R: Eprint>(rt: &R, asked: &str, pattern: &[u8], has: Option<bool>) {
+    let Ok(pattern) = str::from_utf8(pattern) else {
+        return;
+    };
+    let _ = match has {
+        Some(true) => eprintln!(rt; "fmpsim: {asked}: an event of some order has '{pattern}'"),
+        Some(false) => eprintln!(rt; "fmpsim: {asked}: no event of any order has '{pattern}'"),
+        None => Ok(()),
+    };
+}
+
+/// Tells of each pattern of a step that does not come whether an event has it. Of the first step, where it is one pattern, that is known already.
+fn tell_patterns<R: Eprint + Clock + AllocGlobal>(
+    rt: &R,
+    asked: &str,
+    layer: &Layer,
+    come: usize,
+    bounds: Bounds,
+    progress: &mut ProgressLine<'_, R>,
+) {
+    let Some(step) = layer.question().steps().get(come) else {
+        return;
+    };
+    let is_known = come == 0 && is_alone(step);
+    let patterns = patterns_of(rt.alloc(), &step.moment).unwrap_or(Vec::new(rt.alloc()));
+    for pattern in patterns.iter() {
+        let has = if is_known {
+            Some(false)
+        } else {
+            has_event(rt.alloc(), layer, pattern.as_slice(), bounds, progress)
+        };
+        Progress::end(progress);
+        tell_pattern(rt, asked, pattern.as_slice(), has);
+    }
+}
+
+/// Tells of the steps of a question that no order shows how many come, and whether an event has the patterns of the next one.
+fn tell_unshown<R: Eprint + Clock + AllocGlobal>(
+    rt: &R,
+    asked: &str,
+    outcome: &Outcome,
+    bounds: Bounds,
+    progress: &mut ProgressLine<'_, R>,
+) {
+    let Some(come) = steps_come(rt.alloc(), outcome, bounds, progress) else {
+        return;
+    };
+    let count = outcome.layer.question().steps().len();
+    Progress::end(progress);
+    if count > 1 {
+        tell_steps(rt, asked, come, count);
+    }
+    tell_patterns(rt, asked, &outcome.layer, come, bounds, progress);
+}
+
+/// Tells what is known of a question that no order shows: which option has orders with what it asks for, how many of its steps come, and whether an
+/// event has the patterns of the next one. It says nothing that is not found in time.
+pub fn tell<R: Eprint + Clock + AllocGlobal>(
+    rt: &R,
+    asked: &str,
+    outcome: &Outcome,
+    request: &ExploreRequest<'_>,
+    progress: &mut ProgressLine<'_, R>,
+) {
+    let question = outcome.layer.question();
+    if !is_told(rt.alloc(), outcome) {
+        return;
+    }
+    if !request.spurious && asks_spurious(rt.alloc(), question) {
+        Progress::end(progress);
+        let _ = eprintln!(rt;
+            "fmpsim: {asked}: only with --spurious orders have 'ipi none' and 'ipi held'"
+        );
+    }
+    if !is_plain(question) && !Progress::is_over(progress) {
+        tell_unshown(rt, asked, outcome, request.bounds, progress);
+    }
+}
