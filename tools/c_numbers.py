@@ -212,7 +212,7 @@ class Expression:
             raise Refused(self.tokens[-1], f"{quoted(joined(self.tokens))} is no whole number: something is missing at its end")
         token = self.tokens[self.at]
         if wanted and token.word != wanted:
-            raise Refused(token, f"`{wanted}` is wanted before {quoted(token.word)}")
+            raise Refused(token, f"`{wanted}` is expected before {quoted(token.word)}")
         self.at += 1
         return token
 

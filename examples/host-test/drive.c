@@ -156,7 +156,7 @@ static void consumer(void) {
 
 int main(int count, char **words) {
     if (count != 3)
-        fail("wanted: drive FMPSIM machine.cfg");
+        fail("expected: drive FMPSIM machine.cfg");
     for (Task *task = tasks; task < tasks + TASKS; task++) {
         getcontext(&task->context);
         task->context.uc_stack.ss_sp = task->stack;

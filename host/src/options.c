@@ -58,7 +58,7 @@ static long number(const char *word, const char *text, long least, long most) {
     char *end, why[96];
     errno = 0;
     long value = strtol(text, &end, 10);
-    snprintf(why, sizeof why, "wanted a number from %ld to %ld", least, most);
+    snprintf(why, sizeof why, "expected a number from %ld to %ld", least, most);
     if (*text < '0' || *text > '9' || *end != '\0' || errno || value < least || value > most)
         misused(word, why);
     return value;
@@ -68,7 +68,7 @@ static uint64_t seed(const char *text, char **end) {
     errno = 0;
     uint64_t value = strtoull(text, end, 10);
     if (*text < '0' || *text > '9' || errno)
-        misused("--seeds", "wanted A..B, or one number");
+        misused("--seeds", "expected A..B, or one number");
     return value;
 }
 
@@ -85,7 +85,7 @@ static void read_seeds(const char *text) {
     if (strncmp(end, "..", 2) == 0)
         options.last_seed = seed(end + 2, &end);
     if (*end != '\0')
-        misused("--seeds", "wanted A..B, or one number");
+        misused("--seeds", "expected A..B, or one number");
     if (options.last_seed < options.first_seed)
         misused("--seeds", "the first seed is above the last");
     choose_mode("--seeds", BY_SEEDS);
@@ -113,7 +113,7 @@ static void read_races(const char *text) {
             options.races = (enum races)i;
             return;
         }
-    misused("--races", "wanted none, between or all");
+    misused("--races", "expected none, between or all");
 }
 
 static void read_preemptions(const char *text) {
@@ -169,7 +169,7 @@ static bool read_value(const char *word, const char *value) {
         if (!strcmp(word, readers[i].word) && (known = true) && value)
             readers[i].read(value);
     if (known && value == NULL)
-        misused(word, "wanted a value behind it");
+        misused(word, "expected a value after it");
     return known;
 }
 

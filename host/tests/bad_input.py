@@ -9,11 +9,11 @@ HOST = Path(__file__).resolve().parent.parent
 
 # Words, status, and what is told.
 WORDS = [
-    (["--seeds", "9..1"], 2, "--seeds: the first seed is above the last"), (["--seeds"], 2, "--seeds: wanted a value"),
-    (["--seeds", "1..x"], 2, "--seeds: wanted A..B"), (["--seeds", "99999999999999999999"], 2, "--seeds: wanted A..B"),
-    (["--nothing"], 2, "--nothing: no such word"), (["--ticks", "-1"], 2, "--ticks: wanted a number from 0"),
-    (["--ticks", "any"], 2, "goes with --places alone"), (["--turns", "0"], 2, "--turns: wanted a number from 1"),
-    (["--every-order", "--places"], 2, "--places: says another way"), (["--races", "some"], 2, "--races: wanted none"),
+    (["--seeds", "9..1"], 2, "--seeds: the first seed is above the last"), (["--seeds"], 2, "--seeds: expected a value"),
+    (["--seeds", "1..x"], 2, "--seeds: expected A..B"), (["--seeds", "99999999999999999999"], 2, "--seeds: expected A..B"),
+    (["--nothing"], 2, "--nothing: no such word"), (["--ticks", "-1"], 2, "--ticks: expected a number from 0"),
+    (["--ticks", "any"], 2, "goes with --places alone"), (["--turns", "0"], 2, "--turns: expected a number from 1"),
+    (["--every-order", "--places"], 2, "--places: says another way"), (["--races", "some"], 2, "--races: expected none"),
     (["--may-wait", "NOBODY"], 2, "--may-wait: no task has that name"), (["--jobs", "2", "--every-order"], 2, "--jobs: goes with --seeds alone"),
     (["--replay", "/nowhere/it"], 3, "/nowhere/it: No such file"), (["--trace", "/nowhere/it"], 3, "/nowhere/it: No such file"),
     (["--order", "/dev/full"], 3, "/dev/full: No space left"), (["--view", "/nowhere/it"], 3, "/nowhere/it: fmpsim view failed"),

@@ -1,10 +1,10 @@
-# The completions are what the program's help makes, and work in bash. The manual has the options of each command.
+# The completions and the manual are what the program's help makes. The completions work in bash, and the manual has the options of each command.
 
 completions() {
     local command same=yes right=no
-    (mkdir -p made && cd made && "$top/completions/make.sh" "$program") || same=no
-    for command in fmpsim.bash _fmpsim fmpsim.fish; do
-        diff "$top/completions/$command" "made/$command" || same=no
+    (mkdir -p made && cd made && "$top/completions/make.sh" "$program" && "$top/man/make" "$program") || same=no
+    for command in completions/fmpsim.bash completions/_fmpsim completions/fmpsim.fish man/fmpsim.1; do
+        diff "$top/$command" "made/${command#*/}" || same=no
     done
     # each quote is closed, as zsh and fish close them, too
     bash -n "$top/completions/_fmpsim" && bash -n "$top/completions/fmpsim.fish" || same=no

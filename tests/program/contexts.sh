@@ -5,12 +5,12 @@ contexts() {
     write_again
     printf 'P1 tick\nP1 act_tsk(T9)\n' > events.txt
     run 1 "$(as_file echo 1 P1 T1 tick taken)" "$(as_file printf '%s\n' 'fmpsim: events.txt: line 2: E3 unknown name' '  P1 act_tsk(T9)' \
-        '             ^' '  wanted: act_tsk(task)' "$task")" calls --context "$machine" events.txt
+        '             ^' '  expected: act_tsk(task)' "$task")" calls --context "$machine" events.txt
     from=events.txt run 1 "$(as_file echo 1 P1 T1 tick taken)" "$(as_file printf '%s\n' 'fmpsim: -: line 2: E3 unknown name' \
         '  Use the name of an object of the configuration, or a constant.')" calls "$machine" - --context
     printf 'PROCESSORS(1);\nDEF_CLASS(C, 1, {1});\nCLASS(C) { CRE_SEM(S, {TA_NULL, 0, 0}); }\n' > number.cfg
     printf '%s\n' 'fmpsim: number.cfg: line 3: F7 value out of range' '  CLASS(C) { CRE_SEM(S, {TA_NULL, 0, 0}); }' \
-        '                                     ^' '  wanted: CRE_SEM(semid, {sematr | .., isemcnt, maxsem});' \
+        '                                     ^' '  expected: CRE_SEM(semid, {sematr | .., isemcnt, maxsem});' \
         '  sematr: TA_NULL TA_TFIFO TA_TPRI' '  maxsem: within 1 to 65535' '  isemcnt: within 0 to maxsem' \
         '  Give a number within the range that `fmpsim list` tells, without leading zeros, or a name defined before.' > number.told
     run 1 /dev/null number.told check number.cfg "$late/trace.txt" --context
@@ -19,7 +19,7 @@ contexts() {
         '  End the last line with a line feed, and the last script with `end`.')" check "$machine" --context cut.txt
     printf 'script main\nact_tsk(T9)\nend\n' > name.txt
     run 1 /dev/null "$(as_file printf '%s\n' 'fmpsim: name.txt: line 2: E3 unknown name' '  act_tsk(T9)' '          ^' \
-        '  wanted: act_tsk(task)' "$task")" smp again.cfg name.txt --ticks 0 --turns 1 --context
+        '  expected: act_tsk(task)' "$task")" smp again.cfg name.txt --ticks 0 --turns 1 --context
     run 0 "$late/trace.txt" /dev/null calls --context "$machine" "$late/events.txt"
     sed '3s/taken/none/' "$late/trace.txt" > changed.txt
     run 5 "$(as_file echo no 3)" /dev/null check --context "$machine" changed.txt
@@ -32,7 +32,7 @@ contexts() {
 # At a terminal the line of a fault is shown by itself, for every command, unless the words say otherwise or ask for lines in another form.
 context_at_terminal() {
     local words
-    printf '%s\n' 'fmpsim: events.txt: line 2: E3 unknown name' '  P1 act_tsk(T9)' '             ^' '  wanted: act_tsk(task)' "$task" > shown.txt
+    printf '%s\n' 'fmpsim: events.txt: line 2: E3 unknown name' '  P1 act_tsk(T9)' '             ^' '  expected: act_tsk(task)' "$task" > shown.txt
     head -n 1 shown.txt > plain.txt
     echo 'events.txt:2:12: error: E3 unknown name' > gcc.txt
     told_at_terminal shown.txt calls "$machine" events.txt
@@ -79,7 +79,7 @@ configuration_from_a_pipe() {
     wait
     cat "$machine" > pipe.cfg &
     run 1 "$(as_file echo 1 P1 T1 tick taken)" "$(as_file printf '%s\n' 'fmpsim: events.txt: line 2: E3 unknown name' '  P1 act_tsk(T9)' \
-        '             ^' '  wanted: act_tsk(task)' "$task")" calls --context pipe.cfg events.txt
+        '             ^' '  expected: act_tsk(task)' "$task")" calls --context pipe.cfg events.txt
     wait
 }
 

@@ -8,7 +8,7 @@ diagnostics() {
     echo 1 P1 T1 tick taken > tick.txt
     run 1 tick.txt "$(as_file echo "$told")" calls --diagnostics=gcc "$machine" events.txt
     run 1 tick.txt "$(as_file echo "$told")" --diagnostics=plain calls "$machine" events.txt --diagnostics=gcc
-    run 1 tick.txt "$(as_file printf '%s\n' "$told" '  P1 act_tsk(T9)' '             ^' '  wanted: act_tsk(task)' "$task")" \
+    run 1 tick.txt "$(as_file printf '%s\n' "$told" '  P1 act_tsk(T9)' '             ^' '  expected: act_tsk(task)' "$task")" \
         --diagnostics=gcc calls --context "$machine" events.txt
     run 1 tick.txt "$(as_file echo fmpsim: events.txt: line 2: E3 unknown name)" calls --diagnostics=plain "$machine" events.txt
     from=events.txt run 1 tick.txt "$(as_file echo '-:2: error: E3 unknown name')" calls "$machine" - --diagnostics=gcc
@@ -20,8 +20,8 @@ diagnostics() {
     configurations
     differences_and_waits
     run 3 /dev/null "$(as_file printf 'fmpsim: read failed\n  missing: No such file or directory (os error 2)\n')" --diagnostics=gcc calls missing events.txt
-    run 2 /dev/null "$(as_file echo 'fmpsim: --diagnostics: wanted plain or gcc, as in --diagnostics=gcc')" calls --diagnostics=json "$machine" events.txt
-    run 2 /dev/null "$(as_file echo 'fmpsim: --diagnostics: wanted plain or gcc, as in --diagnostics=gcc')" calls --diagnostics gcc "$machine" events.txt
+    run 2 /dev/null "$(as_file echo 'fmpsim: --diagnostics: expected plain or gcc, as in --diagnostics=gcc')" calls --diagnostics=json "$machine" events.txt
+    run 2 /dev/null "$(as_file echo 'fmpsim: --diagnostics: expected plain or gcc, as in --diagnostics=gcc')" calls --diagnostics gcc "$machine" events.txt
     run 0 "$late/trace.txt" /dev/null calls --diagnostics=gcc "$machine" "$late/events.txt"
 }
 

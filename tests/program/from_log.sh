@@ -235,7 +235,7 @@ log_command_lines() {
     refuses 3 'nowhere: from-log: cannot be read: No such file or directory' nowhere x.log
     refuses 3 'nowhere: from-log: cannot be read: No such file or directory' "$logs/machine.cfg" nowhere
     refuses 3 '.: from-log: cannot be read: Is a directory' "$logs/machine.cfg" .
-    refuses 1 'x.log: refused: it has no PROCESSORS(n); with n from 1 to 8: wanted is a configuration, as tools/from-toppers makes it' x.log x.log
+    refuses 1 'x.log: refused: it has no PROCESSORS(n); with n from 1 to 8: expected is a configuration, as tools/from-toppers makes it' x.log x.log
     well=no
     "$tool" "$logs/machine.cfg" x.log > /dev/full 2> told
     [ $? = 3 ] && [ "$(cat told)" = 'from-log: what was made cannot be written: No space left on device' ] && well=yes

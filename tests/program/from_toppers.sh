@@ -207,7 +207,7 @@ tells_included() {
     printf 'CLASS(TCL_1) {\n  CRE_SPN(A, {TA_NULL});\n#include "y.h"\n  INCLUDE("y.cfg");\n}\n' > x.cfg
     printf '/* nothing */\n' > y.h
     printf '\n  CRE_SPN(B, {TA_NULL})' > y.cfg
-    tells 1 "$(as_file echo 'y.cfg:2: refused: `;` is wanted behind this, the end of the CRE_SPN of line 2')" x.cfg
+    tells 1 "$(as_file echo 'y.cfg:2: refused: `;` is expected after this, the end of the CRE_SPN of line 2')" x.cfg
     printf '\n  CRE_SPN(B, {TA_NULL' > y.cfg
     tells 1 "$(as_file echo 'y.cfg:2: refused: cut short: CRE_SPN does not end in its file')" x.cfg
     printf '\n  CRE_SPN(B, {TA_NULL}); /* open' > y.cfg
@@ -295,8 +295,8 @@ tells_names() {
     makes x.cfg /dev/null x.cfg
     printf '%s\n' "DEF_CLASS(a$most, 1, {1});" 'CLASS(TCL_1) {' "  CRE_SPN(b$most, {TA_NULL});" "  CRE_ALM(C, {TA_NULL, 0, a$most});" \
         "  CRE_ALM(${most:6}, {TA_NULL, {TNFY_ACTTSK, T}});" '}' > x.cfg
-    printf 'x.cfg:%s\n' "1: refused: a name of at most 64 bytes is wanted in place of \`$most..\`" \
-        "3: refused: a name of at most 64 bytes is wanted in place of \`b${most:1}..\`" \
+    printf 'x.cfg:%s\n' "1: refused: a name of at most 64 bytes is expected in place of \`$most..\`" \
+        "3: refused: a name of at most 64 bytes is expected in place of \`b${most:1}..\`" \
         "4: refused: \`$most..\` is no name of a function of at most 64 bytes" \
         "5: refused: \`notify_${most:7}..\` is to be the function of this notification, and is too long or taken" > to_tell
     tells 1 to_tell x.cfg

@@ -145,7 +145,7 @@ at_fault() {
 
 # On a processor with nothing to do no event comes, so that nothing is shown.
 lines_that_are_wrong() {
-    local words wanted='wanted a name, never or shown, and a question' line name
+    local words wanted='expected a name, never or shown, and a question' line name
     printf 'PROCESSORS(1);\n' > idle.cfg
     : > none.txt
     words=(explore idle.cfg none.txt --ticks 0 --turns 5 --questions asked.txt --traces traces --junit told.xml)

@@ -84,9 +84,9 @@ END
     count "$well" "${words[@]}" 25 --seed '# the first seed, by trying each'
     # the seeds are wrong, or stand beside one
     for wrong in '5..4' 5 5.6 ..5 5.. 5..x 5..6..7 5..18446744073709551616 ''; do
-        run 2 /dev/null "$(as_file echo 'fmpsim: --seeds: wanted two numbers as in 0..999, the second not below the first, and no --seed')" "${words[@]}" 25 --seeds "$wrong"
+        run 2 /dev/null "$(as_file echo 'fmpsim: --seeds: expected two numbers as in 0..999, the second not below the first, and no --seed')" "${words[@]}" 25 --seeds "$wrong"
     done
-    run 2 /dev/null "$(as_file echo 'fmpsim: --seeds: wanted two numbers as in 0..999, the second not below the first, and no --seed')" "${words[@]}" 25 --seeds 0..1 --seed 0
+    run 2 /dev/null "$(as_file echo 'fmpsim: --seeds: expected two numbers as in 0..999, the second not below the first, and no --seed')" "${words[@]}" 25 --seeds 0..1 --seed 0
     unread smp dead.cfg missing --ticks 0 --turns 25 --seeds 0..99
     unwritten "${words[@]}" 25 --seeds 0..99
 }
@@ -132,8 +132,8 @@ seeds_that_show() {
     run 1 /dev/null "$(as_file echo 'fmpsim: --find: byte 1: E3 unknown name')" "${words[@]}" 25 --seeds 0..99 --find 'act_tsk(NOBODY)'
     run 1 /dev/null "$(as_file echo 'fmpsim: --find: byte 10: E2 bad word')" "${words[@]}" 25 --seeds 0..99 --find 'tick then'
     run 1 /dev/null "$(as_file echo 'fmpsim: wait.cfg: line 1: E1 bad byte')" smp wait.cfg wait.cfg --ticks 3 --turns 25 --seeds 0..99 --find 'tick then'
-    run 2 /dev/null "$(as_file echo 'fmpsim: --find: wanted --seeds too, as in --seeds 0..999')" "${words[@]}" 25 --find end
-    run 2 /dev/null "$(as_file echo 'fmpsim: --find: wanted --seeds too, as in --seeds 0..999')" "${words[@]}" 25 --seed 3 --find end
+    run 2 /dev/null "$(as_file echo 'fmpsim: --find: expected --seeds too, as in --seeds 0..999')" "${words[@]}" 25 --find end
+    run 2 /dev/null "$(as_file echo 'fmpsim: --find: expected --seeds too, as in --seeds 0..999')" "${words[@]}" 25 --seed 3 --find end
     unwritten "${words[@]}" 25 --seeds 0..99 --find "$late"
 }
 
@@ -172,8 +172,8 @@ seeds_that_draw() {
     run 0 /dev/null /dev/null smp idle.cfg none.txt --ticks 1 --turns 2 --seeds 0..9 --late
     for option in --late --stalls '--seconds 3'; do
         read -ra options <<< "$option"
-        run 2 /dev/null "$(as_file echo "fmpsim: ${option%% *}: wanted --seeds too, as in --seeds 0..999")" "${words[@]}" 60 "${options[@]}"
-        run 2 /dev/null "$(as_file echo "fmpsim: ${option%% *}: wanted --seeds too, as in --seeds 0..999")" "${words[@]}" 60 --seed 3 "${options[@]}"
+        run 2 /dev/null "$(as_file echo "fmpsim: ${option%% *}: expected --seeds too, as in --seeds 0..999")" "${words[@]}" 60 "${options[@]}"
+        run 2 /dev/null "$(as_file echo "fmpsim: ${option%% *}: expected --seeds too, as in --seeds 0..999")" "${words[@]}" 60 --seed 3 "${options[@]}"
     done
     unwritten "${words[@]}" 60 --seeds 0..99 --late --find "$question"
 }

@@ -1,5 +1,5 @@
 -- The table of the calls: calls, their names and their arguments give each other back.
-use Rattle.std.proofs.Common.{◌≡◌, ◌∙◌, ◌≤◌, ◌⊎◌, inl, inr, sym, ap, true, Bool, List, [], length, Option, Some, None, option_map, find, false, refl, arith}
+use Rattle.std.proofs.Common.{◌≡◌, ◌∙◌, ◌≤◌, ◌⊎◌, inl, inr, sym, ap, true, Bool, List, [], ◌∷◌, length, take, Option, Some, None, option_map, find, false, refl, arith}
 use Rattle.std.specs.Option.{option_or}
 use Rattle.std.proofs.lemmas.Slice.Eq.{bytes_eq-Decides}
 use Rattle.std.specs.Prelude.{ℕ, codes, unwrap_or, if◌then◌else◌}
@@ -46,15 +46,16 @@ record IsLine (call : Call) : Type 0 where
   of_kinds : are_of_kinds (kinds_of call) (values_of call) ≡ true
   found : named (text_of call) ≡ Some (name_of call)
   few : length (kinds_of call) ≤ 4
+  front : (a b c d : Value) → (line_of call).make (take (length (kinds_of call)) (a ∷ b ∷ c ∷ d ∷ [])) ≡ (line_of call).make (a ∷ b ∷ c ∷ d ∷ [])
 
 is_line : (call : Call) → IsLine call
-is_line (calls.Task task.ExtTsk) = record { made = refl; kept = λ l. refl; again = λ l o. refl; same_text = λ l. refl; same_bare = λ l. refl; same_kinds = λ l. refl; bare_kinds = refl; bare_values = refl; of_kinds = refl; found = refl; few = omega arith }
-is_line (calls.Sync (sync.SigSem x)) = record { made = refl; kept = λ l. refl; again = λ l o. refl; same_text = λ l. refl; same_bare = λ l. refl; same_kinds = λ l. refl; bare_kinds = refl; bare_values = refl; of_kinds = refl; found = refl; few = omega arith }
-is_line (calls.Buffer (buffer.GetMpf x)) = record { made = refl; kept = λ l. refl; again = λ l o. refl; same_text = λ l. refl; same_bare = λ l. refl; same_kinds = λ l. refl; bare_kinds = refl; bare_values = refl; of_kinds = refl; found = refl; few = omega arith }
-is_line (calls.Time (time.StaCyc x)) = record { made = refl; kept = λ l. refl; again = λ l o. refl; same_text = λ l. refl; same_bare = λ l. refl; same_kinds = λ l. refl; bare_kinds = refl; bare_values = refl; of_kinds = refl; found = refl; few = omega arith }
-is_line (calls.System system.GetTid) = record { made = refl; kept = λ l. refl; again = λ l o. refl; same_text = λ l. refl; same_bare = λ l. refl; same_kinds = λ l. refl; bare_kinds = refl; bare_values = refl; of_kinds = refl; found = refl; few = omega arith }
-is_line (calls.Spin (spin.LocSpn x)) = record { made = refl; kept = λ l. refl; again = λ l o. refl; same_text = λ l. refl; same_bare = λ l. refl; same_kinds = λ l. refl; bare_kinds = refl; bare_values = refl; of_kinds = refl; found = refl; few = omega arith }
-is_line _ = record { made = refl; kept = λ l. refl; again = λ l o. refl; same_text = λ l. refl; same_bare = λ l. refl; same_kinds = λ l. refl; bare_kinds = refl; bare_values = refl; of_kinds = refl; found = refl; few = omega arith }
+is_line (calls.Task task.ExtTsk) = record { made = refl; kept = λ l. refl; again = λ l o. refl; same_text = λ l. refl; same_bare = λ l. refl; same_kinds = λ l. refl; bare_kinds = refl; bare_values = refl; of_kinds = refl; found = refl; few = omega arith; front = λ a b c d. refl }
+is_line (calls.Sync (sync.SigSem x)) = record { made = refl; kept = λ l. refl; again = λ l o. refl; same_text = λ l. refl; same_bare = λ l. refl; same_kinds = λ l. refl; bare_kinds = refl; bare_values = refl; of_kinds = refl; found = refl; few = omega arith; front = λ a b c d. refl }
+is_line (calls.Buffer (buffer.GetMpf x)) = record { made = refl; kept = λ l. refl; again = λ l o. refl; same_text = λ l. refl; same_bare = λ l. refl; same_kinds = λ l. refl; bare_kinds = refl; bare_values = refl; of_kinds = refl; found = refl; few = omega arith; front = λ a b c d. refl }
+is_line (calls.Time (time.StaCyc x)) = record { made = refl; kept = λ l. refl; again = λ l o. refl; same_text = λ l. refl; same_bare = λ l. refl; same_kinds = λ l. refl; bare_kinds = refl; bare_values = refl; of_kinds = refl; found = refl; few = omega arith; front = λ a b c d. refl }
+is_line (calls.System system.GetTid) = record { made = refl; kept = λ l. refl; again = λ l o. refl; same_text = λ l. refl; same_bare = λ l. refl; same_kinds = λ l. refl; bare_kinds = refl; bare_values = refl; of_kinds = refl; found = refl; few = omega arith; front = λ a b c d. refl }
+is_line (calls.Spin (spin.LocSpn x)) = record { made = refl; kept = λ l. refl; again = λ l o. refl; same_text = λ l. refl; same_bare = λ l. refl; same_kinds = λ l. refl; bare_kinds = refl; bare_values = refl; of_kinds = refl; found = refl; few = omega arith; front = λ a b c d. refl }
+is_line _ = record { made = refl; kept = λ l. refl; again = λ l o. refl; same_text = λ l. refl; same_bare = λ l. refl; same_kinds = λ l. refl; bare_kinds = refl; bare_values = refl; of_kinds = refl; found = refl; few = omega arith; front = λ a b c d. refl }
 
 -- ---- a call is its name with its arguments
 
@@ -110,6 +111,19 @@ are_of_kinds-values_of call = (is_line call).of_kinds
 
 pub length-kinds_of-le : (call : Call) → length (kinds_of call) ≤ 4
 length-kinds_of-le call = (is_line call).few
+
+-- four values, of which the first are arguments of the call
+made_of_four : (call : Call) (list : List Value) → length list ≡ 4 → (line_of call).make (take (length (kinds_of call)) list) ≡ (line_of call).make list
+made_of_four call (a ∷ b ∷ c ∷ d ∷ []) four = (is_line call).front a b c d
+made_of_four call [] four = absurd (omega (arith, four))
+made_of_four call (a ∷ []) four = absurd (omega (arith, four))
+made_of_four call (a ∷ b ∷ []) four = absurd (omega (arith, four))
+made_of_four call (a ∷ b ∷ c ∷ []) four = absurd (omega (arith, four))
+made_of_four call (a ∷ b ∷ c ∷ d ∷ e ∷ list) four = absurd (omega (arith, four))
+
+pub call_of-four : (call made : Call) (list : List Value) → length list ≡ 4 → made ≡ (line_of call).make list
+    → are_of_kinds (kinds_of call) (take (length (kinds_of call)) list) ≡ true → call_of call (take (length (kinds_of call)) list) ≡ Some made
+call_of-four call made list four is fits = rw (fits, is) (ap (λ (c : Call). Some c) (made_of_four call list four))
 
 -- a name is an identifier, and no other event's
 record IsProper (call : Call) : Type 0 where

@@ -87,4 +87,10 @@ pub record Line (C : Type 0) : Type 0 where
   pub make : List Value → C  -- the call of this name with other arguments
 
 abbrev pub line : {C : Type 0} → List ℕ → (kinds : List ArgumentKind) → Maker C kinds → Arguments kinds → Line C
-line text kinds maker arguments = record { text = text; bare = false; kinds = kinds; values = values_in kinds arguments; make = λ list. made kinds maker (arguments_from kinds 0 list) }
+line text kinds maker arguments = record {
+  text = text;
+  bare = false;
+  kinds = kinds;
+  values = values_in kinds arguments;
+  make = λ list. made kinds maker (arguments_from kinds 0 list);
+}

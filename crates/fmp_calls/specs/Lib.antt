@@ -3,3 +3,4 @@ pub mod Kinds  -- The kinds of objects and of arguments.
 pub mod Tables  -- The rows of the table of calls, family by family.
 pub mod Table  -- The table of the service calls, by families.
 pub mod Arguments  -- Which arguments are within the bits of their kinds.
+pub mod Known  -- Calls with how they are written, as the table has them for readers that guess.

@@ -22,5 +22,6 @@ pub use table::system::SYSTEM_CALLS;
 pub use table::task::TASK_CALLS;
 pub use table::time::TIME_CALLS;
 pub use table::{
-    CallForm, MOST_ARGUMENTS, Values, find_call, form, parts, values, with_values, with_values_of,
+    CallForm, KnownCall, MOST_ARGUMENTS, Values, call_at, find_call, form, parts, values,
+    with_known_values, with_values,
 };

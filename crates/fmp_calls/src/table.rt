@@ -1,11 +1,12 @@
 //! The table of the service calls. A call is one line in the table of its family: its variant with the kinds of its arguments,
 //! and its name. The macros read the lines.
-ghost use Rattle.std.specs.Prelude.{◌≡◌, ◌≤◌, false, Some, None, if◌then◌else◌, length, codes};
+ghost use Rattle.std.specs.Prelude.{◌≡◌, ◌≤◌, true, false, IfSome, Some, None, if◌then◌else◌, length, take, codes};
 ghost use Rattle.std.specs.Str.{bytes_eq};
 ghost use Rattle.fmp_codes.specs.declared.calls.Call.TheVariants.{RetHdr};
 ghost use Rattle.fmp_calls.specs.Kinds as spec;
+ghost use Rattle.fmp_calls.specs.Known.{IsKnown, AreKnown};
 ghost use Rattle.fmp_calls.specs.Entries.{value_at as value_of_place};
-ghost use Rattle.fmp_calls.specs.Table.{text_of, is_bare, kinds_of, call_of, values_of, named};
+ghost use Rattle.fmp_calls.specs.Table.{line_of, text_of, is_bare, kinds_of, call_of, values_of, named};
 
 use crate::kinds::{ArgumentKind, Value};
 use arrayvec::ArrayVec;
@@ -87,6 +88,20 @@ macro_rules! names {
     };
 }
 
+/// All calls of a family, each with blanks for its arguments, and how it is written.
+macro_rules! known {
+    ($family:ident, $call:ident; $($variant:ident $(($($kind:ident),+))? = $text:literal,)+) => {
+        [$($crate::KnownCall {
+            call: fmp_codes::Call::$call($family::$variant $(($(blank!($kind)),+))?),
+            form: CallForm {
+                text: $text,
+                bare: false,
+                kinds: &[$($(kind!($kind)),+)?],
+            },
+        }),+]
+    };
+}
+
 /// How a call of a family is written, and the values of its arguments.
 macro_rules! parts {
     ($family:ident, $call:expr; $($variant:ident $(($($kind:ident),+))? = $text:literal,)+) => {
@@ -145,6 +160,49 @@ impl CallForm {
             kinds,
         }
     }
+}
+
+/// A call with blanks for its arguments, and how it is written.
+#[derive(Clone, Copy)]
+pub struct KnownCall {
+    pub call: Call,
+    pub form: CallForm,
+}
+
+/// The return of a handler, in a list of its own.
+const RETURN: &[KnownCall] = &[KnownCall {
+    call: Call::RetHdr,
+    form: CallForm {
+        text: b"ret_hdr",
+        bare: true,
+        kinds: &[],
+    },
+}];
+
+/// The calls of the family at this place, and none where there is no such family.
+#[inline(always)]
+fn family(place: usize) -> &'static [KnownCall]
+    ensures { AreKnown result.now }
+{
+    match place {
+        0 => task::KNOWN,
+        1 => sync::KNOWN,
+        2 => buffer::KNOWN,
+        3 => time::KNOWN,
+        4 => system::KNOWN,
+        5 => spin::KNOWN,
+        6 => RETURN,
+        _ => &[],
+    }
+}
+
+/// The call at a place of the table, where there is one. In each family places count on from a multiple of 32.
+#[inline(always)]
+pub fn call_at(place: u8) -> Option<&'static KnownCall>
+    ensures { IfSome result (λ known. IsKnown known.now) }
+{
+    let place = usize::from(place);
+    family(place / 32).get(place % 32)
 }
 
 /// The values as a list. They are pushed one by one, since so few are not worth a call that copies bytes.
@@ -254,18 +312,19 @@ pub fn parts(call: Call) -> (CallForm, Values)
 pub fn with_values(call: Call, values: &[Value]) -> Option<Call>
     ensures { result ≡ call_of call values.now }
 {
-    with_values_of(call, form(call).kinds, values)
+    if are_of_kinds(form(call).kinds, values) {
+        Some(made_of(call, values))
+    } else {
+        None
+    }
 }
 
-/// As [`with_values`], where the kinds of the call's arguments are at hand.
-pub fn with_values_of(call: Call, kinds: &[ArgumentKind], values: &[Value]) -> Option<Call>
-    requires { kinds.now ≡ kinds_of call }
-    ensures { result ≡ call_of call values.now }
+/// The call of the same name, of which each argument is the value at its place, or a blank where that is not of its kind.
+#[inline(always)]
+fn made_of(call: Call, values: &[Value]) -> Call
+    ensures { result ≡ (line_of call).make values.now }
 {
-    if !are_of_kinds(kinds, values) {
-        return None;
-    }
-    Some(match call {
+    match call {
         Call::Task(call) => Call::Task(task::with_values(call, values)),
         Call::Sync(call) => Call::Sync(sync::with_values(call, values)),
         Call::Buffer(call) => Call::Buffer(buffer::with_values(call, values)),
@@ -273,7 +332,17 @@ pub fn with_values_of(call: Call, kinds: &[ArgumentKind], values: &[Value]) -> O
         Call::System(call) => Call::System(system::with_values(call, values)),
         Call::Spin(call) => Call::Spin(spin::with_values(call, values)),
         Call::RetHdr => Call::RetHdr,
-    })
+    }
+}
+
+/// As [`with_values`], where each value is known to be of its kind. The values behind the last argument are not looked at.
+#[inline(always)]
+pub fn with_known_values(call: Call, values: &[Value; MOST_ARGUMENTS]) -> Call
+    ensures value { result ≡ (line_of call).make values.now }
+    ensures same { spec.are_of_kinds (kinds_of call) (take (length (kinds_of call)) values.now) ≡ true
+        → call_of call (take (length (kinds_of call)) values.now) ≡ Some result }
+{
+    made_of(call, values.as_slice())
 }
 
 /// The return of a handler, where the word is its name.

@@ -62,8 +62,8 @@ that wait or are suspended, what else is not as it was at boot, and a line that 
     S2 count=1
     end
 
-With --of the life of some tasks, handlers and objects is told: what each of them is at boot, and
-then each line whose event changes that, and below it those of them that changed. That ticks
+With --of the life of some tasks, handlers and objects is written: what each of them is at boot,
+and then each line whose event changes that, and below it those of them that changed. That ticks
 count down is no change. This is --of=T2,S1:
 
   T2 dormant
@@ -74,11 +74,12 @@ count down is no change. This is --of=T2,S1:
     S1 count=0
 
 With --color the trace is coloured: a refused answer red, a release green, a dispatch cyan. It is
-so at a terminal, where NO_COLOR is not set, and nowhere else but with --color=always.
+so at a terminal, unless NO_COLOR is set to a text that is not empty, and elsewhere only with
+--color=always.
 
 Exit status:
   0  done
-  1  a fault in a text, told on standard error with its line
+  1  a fault in a text, reported on standard error with its line
   2  the command line is wrong, or nothing in CFG has a name of --of
   3  a file could not be read, or the output not be written
   4  want of memory";
@@ -110,17 +111,17 @@ below it the machine's own:
   + 57 P1 T1 act_tsk(T2) E_OK run=T2
 
 With --all there is a unified diff in place of the verdict, which `patch TRACE` reads. It has
-every line that differs; behind one the machine goes on with its own answers. Where none does
+every line that differs; after one the machine goes on with its own answers. Where none does
 it is empty.
 
-With --partial each line may leave out its number, who made the call, and each field behind its
+With --partial each line may leave out its number, who made the call, and each field after its
 answer: what is not written is not judged, and what is written is judged exactly:
 
   P1 act_tsk(T2) E_OK
 
 Exit status:
   0  yes
-  1  a fault in a text, told on standard error with its line
+  1  a fault in a text, reported on standard error with its line
   2  the command line is wrong
   3  a file could not be read, or the output not be written
   4  want of memory
@@ -140,20 +141,21 @@ time: line 57 of the trace is drawn at 57.
 
 For each processor there are the task that runs, the last call with its answer, whether it is
 locked or its dispatching disabled, its latch, the handler that is due, and its ticks; for each
-task its state and what it waits for; and for each semaphore, eventflag, data queue and pool its
-count, its pattern, how many values it has, and how many blocks are free. Of a trace that is not
-the machine's own nothing is written.
+task its state, what it waits for, its priority, and the activations and wakeups that are queued
+for it; for each semaphore, eventflag, data queue and pool its count, its pattern, its values, and
+how many blocks are free; and who holds each spin lock. Of a trace that is not the machine's own
+nothing is written.
 
 With --gtkw TRACE is left out, and GTKWave's save file for the configuration is written, by which
 it shows all these signals at once.
 
 Exit status:
   0  done
-  1  a fault in a text, told on standard error with its line
+  1  a fault in a text, reported on standard error with its line
   2  the command line is wrong
   3  a file could not be read, or the output not be written
   4  want of memory
-  5  the trace is not the machine's own: the first line that differs is told on standard error";
+  5  the trace is not the machine's own: the first line that differs is reported on standard error";
 
 const VIEW_ABOUT: &str = "Writes a page that shows a trace in a browser";
 
@@ -166,16 +168,18 @@ standard output, which a browser opens from the disk, without a network:
 
 The page has lanes of processors, tasks and objects over the lines of the trace, and beside them
 what each line changed, why it could happen and what came of it. It holds the trace, so that
-who gets the page can save and replay it. Of a trace that is not the machine's own nothing is
-written.
+whoever gets the page can save and replay it. Of a trace that is not the machine's own nothing is
+written. The key `?` shows the keys of the page: `m` measures lines and ticks between two lines,
+`p` shows the share of the lines that each task ran, its longest wait and the longest time it was
+ready, and `h` hides a lane.
 
 With --differences any trace is shown as the machine would have it, with each line of TRACE
-that is not the machine's own in red below the machine's: a log of a target, say. Behind such
+that is not the machine's own in red below the machine's: a log of a target, say. After such
 a line the machine goes on with its own answers.
 
 Exit status:
   0  done
-  1  a fault in a text, told on standard error with its line
+  1  a fault in a text, reported on standard error with its line
   2  the command line is wrong
   3  a file could not be read, or the output not be written
   4  want of memory
@@ -205,7 +209,7 @@ a line each. An object has its number there, its name, and the fields of its sta
 
 Exit status:
   0  done
-  1  a fault in a text, told on standard error with its line
+  1  a fault in a text, reported on standard error with its line
   2  the command line is wrong, or nothing is called so
   3  a file could not be read, or the output not be written
   4  want of memory";
@@ -701,7 +705,7 @@ fn refuse<'a>(alloc: Global, words: &'a [String]) -> Result<Request<'a>, Error>
 {
     let mut whole = whole_command(alloc)?;
     whole.try_get_matches_from_mut(words)?;
-    Err(whole.error(ErrorKind::MissingSubcommand, "a subcommand is wanted")?)
+    Err(whole.error(ErrorKind::MissingSubcommand, "a subcommand is expected")?)
 }
 
 /// What the words of the command line ask for: the word behind the program's name says which command, and each part of the

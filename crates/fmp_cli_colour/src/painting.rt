@@ -86,7 +86,8 @@ fn put_word<W: Sink>(sink: &mut W, plain: u8, word: &[u8]) -> Result<(), Failed>
     ensures count { W.failures sink.new ≡ W.failures sink.old + (if is_err result then 1 else 0) }
     ensures known { IsKnown (W.written sink.old) → IsKnown (W.written sink.new) }
     ensures ok { IsKnown (W.written sink.old) → OnOk result (bytes_of (W.written sink.new) ≡ bytes_of (W.written sink.old) ++ spec.painted_word plain word.now) }
-    ensures err { IsKnown (W.written sink.old) → OnErr result (BeginsWith (bytes_of (W.written sink.old)) (spec.painted_word plain word.now) (bytes_of (W.written sink.new))) }
+    ensures err { IsKnown (W.written sink.old)
+        → OnErr result (BeginsWith (bytes_of (W.written sink.old)) (spec.painted_word plain word.now) (bytes_of (W.written sink.new))) }
 {
     let mark = mark_of(plain, word);
     write_all(sink, before(mark))?;
@@ -98,8 +99,11 @@ fn put_words<W: Sink>(sink: &mut W, words: Option<&[u8]>, plain: u8) -> Result<(
     requires { W.failures sink.old < 2 ^ 64 - 1 }
     ensures count { W.failures sink.new ≡ W.failures sink.old + (if is_err result then 1 else 0) }
     ensures known { IsKnown (W.written sink.old) → IsKnown (W.written sink.new) }
-    ensures ok { IsKnown (W.written sink.old) → OnOk result (bytes_of (W.written sink.new) ≡ bytes_of (W.written sink.old) ++ spec.painted_words plain (spec.words_left (option_copied words.entry))) }
-    ensures err { IsKnown (W.written sink.old) → OnErr result (BeginsWith (bytes_of (W.written sink.old)) (spec.painted_words plain (spec.words_left (option_copied words.entry))) (bytes_of (W.written sink.new))) }
+    ensures ok { IsKnown (W.written sink.old)
+        → OnOk result (bytes_of (W.written sink.new) ≡ bytes_of (W.written sink.old) ++ spec.painted_words plain (spec.words_left (option_copied words.entry))) }
+    ensures err { IsKnown (W.written sink.old)
+        → OnErr result (BeginsWith (bytes_of (W.written sink.old)) (spec.painted_words plain (spec.words_left (option_copied words.entry)))
+        (bytes_of (W.written sink.new))) }
 {
     let mut rest = words;
     let mut left = plain;

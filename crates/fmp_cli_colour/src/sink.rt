@@ -72,8 +72,10 @@ impl<W: Sink> Sink for ColourSink<W> {
         // The line that was taken is out in its colours.
         ensures length { IfOk result (λ n. n ≡ first_length piece.now) }
         ensures known { IsKnown (W.written self.old.sink) → IsKnown (W.written self.new.sink) }
-        ensures ok { IsKnown (W.written self.old.sink) → OnOk result (bytes_of (W.written self.new.sink) ≡ bytes_of (W.written self.old.sink) ++ painted_first piece.now) }
-        ensures err { IsKnown (W.written self.old.sink) → OnErr result (BeginsWith (bytes_of (W.written self.old.sink)) (painted_first piece.now) (bytes_of (W.written self.new.sink))) }
+        ensures ok { IsKnown (W.written self.old.sink)
+            → OnOk result (bytes_of (W.written self.new.sink) ≡ bytes_of (W.written self.old.sink) ++ painted_first piece.now) }
+        ensures err { IsKnown (W.written self.old.sink)
+            → OnErr result (BeginsWith (bytes_of (W.written self.old.sink)) (painted_first piece.now) (bytes_of (W.written self.new.sink))) }
     {
         put_first(&mut self.sink, piece)
     }

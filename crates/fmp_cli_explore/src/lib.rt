@@ -45,7 +45,7 @@ of these is gone through, the shortest first, until one shows what QUESTION asks
   can B come after A with no C between    --find 'A then B without C'
   can it take three ticks                 --find 'A then 3 times P1 * tick taken without B'
 
-A pattern is words that stand one behind the other in one line of an event: its line of the trace
+A pattern is words that follow one another in one line of an event: its line of the trace
 without the number, the lines that `fmpsim calls --state` writes below it, and `end` where nothing
 can change any more. In a word * is any number of bytes. `&` stands between patterns that have to
 be there at one event, `or` between those of which one has to be, and `not` before one that must not
@@ -53,7 +53,8 @@ be. `refused` stands in the place of a pattern: a code is there that is not E_OK
 
 `M for ever` asks for an event that has M from which on, in every order that goes on, every event has
 M; `or` stands between several, and `not` before a pattern. `deadlock` asks it of `waits` of each
-task. It is asked with `--ticks any`, and the line from which on it is so is told on standard error.
+task. It is asked with `--ticks any`, and the line from which on it is so is reported on standard
+error.
 
 With `--ticks any` there is no limit and no count, so that there are fewer places: try it first.
 Where it says `never`, no order of any length shows it. Standard error says then how many steps of
@@ -66,7 +67,7 @@ have to be lines of an order of these scripts. Lines count from 1 with those of 
 With `--layer DIR` a search that ends at its --turns leaves there what is to be gone on from, each
 in a trace of its own: DIR/1.trace, DIR/2.trace and so on. An order shows it only where one that
 goes on from one of them does, by no more lines: so several machines may search, each --from some
-of them, and where all say `never`, no order does.
+of them, and where all say `never`, no order does. No file is written over.
 
 On standard output is the trace of a shortest order that shows it, `never`, or `not within N`: no
 order of at most N lines does. With --seconds N the search ends after N seconds and says that.
@@ -76,11 +77,12 @@ With `--questions FILE` each question of a text is searched for, one after the o
 that says nothing. For each there is a line when its answer is known: `ok NAME: never`,
 `not ok NAME: shown in 12 lines`, `not known NAME: not within 30`. --seconds counts for all together.
 With --tap these lines are in the form of TAP. --junit FILE has all of them in one XML text, and
---traces DIR the trace of each question that was shown, as DIR/NAME.trace.
+--traces DIR the trace of each question that was shown, as DIR/NAME.trace; both write over what was
+there. All questions are judged before the first search.
 
 Exit status:
   0  never; or each of --questions is ok
-  1  a fault in a text, in the question or in TRACE, told on standard error with its place
+  1  a fault in a text, in the question or in TRACE, reported on standard error with its place
   2  the command line is wrong
   3  a file could not be read, or the output not be written
   4  want of memory

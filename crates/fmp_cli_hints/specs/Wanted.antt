@@ -8,7 +8,7 @@ use Rattle.fmp_names.specs.Names.{NameLists}
 use Rattle.fmp_trace.specs.Values.{call_text}
 
 unfoldable pub label : List ℕ
-label = codes "  wanted: "
+label = codes "  expected: "
 
 -- what is wanted in a script where no call is
 abbrev pub script_words : Wanted → List ℕ

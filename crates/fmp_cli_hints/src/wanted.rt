@@ -80,7 +80,7 @@ pub enum Wanted {
 pub fn label() -> &'static [u8]
     ensures { result.now ≡ spec.label }
 {
-    b"  wanted: "
+    b"  expected: "
 }
 
 /// What is wanted in a script where no call is.

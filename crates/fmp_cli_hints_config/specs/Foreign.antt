@@ -1,5 +1,6 @@
 -- A character that is not ASCII, in a line in which no token is at fault.
-use Rattle.std.specs.Prelude.{ℕ, ◌+◌, ◌-◌, Bool, not, ◌&&◌, ◌||◌, List, [], drop, get_or, nat_lt, position, Option, Some, None, option_map, option_and_then, ◌==◌, if◌then◌else◌}
+use Rattle.std.specs.Prelude.{ℕ, ◌+◌, ◌-◌, Bool, not, ◌&&◌, ◌||◌, List, [], drop, get_or, nat_lt, position, Option, Some, None, option_map, option_and_then, ◌==◌}
+use Rattle.std.specs.Prelude.{if◌then◌else◌}
 use Rattle.std.specs.Option.{option_map_or}
 use Rattle.fmp_bytes.specs.declared.classes.Class.TheVariants.{Printed}
 use Rattle.fmp_bytes.specs.Bytes.{is_of}

@@ -1,5 +1,6 @@
 -- What a configuration says of a word that stands where a function is wanted.
-use Rattle.std.specs.Prelude.{ℕ, ◌+◌, ◌-◌, ◌&&◌, Bool, true, false, List, [], ◌++◌, slice_get, position, Option, Some, None, is_none, option_and_then, ◌==◌, codes, if◌then◌else◌}
+use Rattle.std.specs.Prelude.{ℕ, ◌+◌, ◌-◌, ◌&&◌, Bool, true, false, List, [], ◌++◌, slice_get, position, Option, Some, None, is_none, option_and_then, ◌==◌, codes}
+use Rattle.std.specs.Prelude.{if◌then◌else◌}
 use Rattle.std.specs.Option.{option_map_or}
 use Rattle.fmp_calls.specs.declared.kinds.NameKind.TheVariants.{Object, Function}
 use Rattle.fmp_calls.specs.declared.kinds.ObjectKind.TheVariants.{Task}

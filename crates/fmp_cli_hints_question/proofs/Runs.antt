@@ -7,7 +7,7 @@ use Rattle.std.specs.List.{position_or_len}
 use Rattle.std.specs.Option.{option_map_or}
 use Rattle.fmp_cli_hints_question.specs.Known.{hints_of, run_hint}
 use Rattle.fmp_names.specs.Names.{NameLists}
-use Rattle.fmp_search_question.specs.Words.{is_outside, cut_run, runs_of}
+use Rattle.fmp_search_words.specs.Words.{is_outside, cut_run, runs_of}
 
 abbrev pub runs_left : Option (List ℕ) → List (List ℕ)
 runs_left rest = option_map_or runs_of rest []

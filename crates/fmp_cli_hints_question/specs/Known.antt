@@ -12,7 +12,7 @@ use Rattle.fmp_cli_hints.specs.Rows.{told_of}
 use Rattle.fmp_cli_hints.specs.Things.{near_thing}
 use Rattle.fmp_cli_hints.specs.Wanted.{processors}
 use Rattle.fmp_names.specs.Names.{NameLists, is_object, is_processor_word, is_taken}
-use Rattle.fmp_search_question.specs.Words.{begins_with_digit, runs_of, star}
+use Rattle.fmp_search_words.specs.Words.{begins_with_digit, runs_of, star}
 use Rattle.fmp_text.specs.Lines.{processor_in}
 
 -- the nearest of what may stand in a line of a trace or of a state: an object or a word, or else a call or a code

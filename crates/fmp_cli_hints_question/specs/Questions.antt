@@ -85,4 +85,5 @@ empty_words (b ∷ bytes) = []
 -- the question, a caret under the byte at which the fault begins, what is wanted there, and what is told of the word
 unfoldable pub question_context : NameLists → List ℕ → QuestionFault → ℕ → List ℕ
 question_context names text fault place =
-    excerpt text (min place (length text)) ++ label ++ words fault ++ empty_words text ++ hint names fault (take (min place (length text)) text) (drop (min place (length text)) text)
+    excerpt text (min place (length text)) ++ label ++ words fault ++ empty_words text
+    ++ hint names fault (take (min place (length text)) text) (drop (min place (length text)) text)

@@ -4,7 +4,7 @@ ghost use Rattle.std.specs.List.{list_any};
 ghost use Rattle.std.specs.Option.{option_copied};
 ghost use Rattle.fmp_cli_help.specs.Near.{nearest};
 ghost use Rattle.fmp_cli_hints_question.specs.Known as spec;
-ghost use Rattle.fmp_search_question.specs.Words as words;
+ghost use Rattle.fmp_search_words.specs.Words as words;
 
 use crate::rows::QUESTION_ROWS;
 use fmp_bytes::Class;
@@ -203,7 +203,7 @@ fn end_of_run(word: &[u8]) -> Option<usize>
 }
 
 /// The first run of a word, and what follows the byte that ends it, which is in neither. None follows where the whole word is one run.
-#[tactic(auto, unfolding(fmp_search_question::specs::Words::cut_run))]
+#[tactic(auto, unfolding(fmp_search_words::specs::Words::cut_run))]
 fn cut_run(word: &[u8]) -> (&[u8], Option<&[u8]>)
     ensures prefix { result.0.now ≡ (words.cut_run word.now).0 }
     ensures rest { option_copied result.1 ≡ (words.cut_run word.now).1 }

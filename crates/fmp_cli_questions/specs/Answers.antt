@@ -14,7 +14,7 @@ use Rattle.fmp_cli_questions.specs.declared.reading.RowKind.TheVariants.{Form, T
 
 -- the words of a fault
 abbrev pub fault_words : RowKind → List ℕ
-fault_words Form = codes "wanted a name, never or shown, and a question"
+fault_words Form = codes "expected a name, never or shown, and a question"
 fault_words Twice = codes "an earlier line has this name"
 fault_words TooMany = codes "there are more than 1000 questions"
 

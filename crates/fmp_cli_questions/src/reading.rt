@@ -134,7 +134,7 @@ impl RowFault {
         ensures { result.now ≡ fault_words self.now.kind }
     {
         match self.kind {
-            RowKind::Form => "wanted a name, never or shown, and a question",
+            RowKind::Form => "expected a name, never or shown, and a question",
             RowKind::Twice => "an earlier line has this name",
             RowKind::TooMany => "there are more than 1000 questions",
         }

@@ -38,7 +38,8 @@ pub fn answer<R: Source, S: Source, W: Sink>(
 
     // Both texts were read to their ends, and what is asked for was written: the trace, or each state with it.
     ensures answered { IsKnown (R.left config.old) → IsKnown (S.left events.old) → IsKnown (W.written trace.old)
-        → OnOk result (IsWritten (writing_of told) (bytes_of (R.left config.old)) (bytes_of (S.left events.old)) (bytes_of (W.written trace.old)) (bytes_of (W.written trace.new))) }
+        → OnOk result (IsWritten (writing_of told) (bytes_of (R.left config.old)) (bytes_of (S.left events.old)) (bytes_of (W.written trace.old))
+        (bytes_of (W.written trace.new))) }
     ensures lines { told ≡ Told.Line → IsKnown (R.left config.old) → IsKnown (S.left events.old) → IsKnown (W.written trace.old)
         → OnOk result (IsAnswered (bytes_of (R.left config.old)) (bytes_of (S.left events.old)) (bytes_of (W.written trace.old)) (bytes_of (W.written trace.new))) }
     ensures known { IsKnown (W.written trace.old) → IsKnown (W.written trace.new) }
@@ -52,12 +53,14 @@ pub fn answer<R: Source, S: Source, W: Sink>(
 
     // A fault of a text is its first one.
     ensures config_fault { IsKnown (R.left config.old) → IfErr result (FirstConfigFault (bytes_of (R.left config.old))) }
-    ensures text_fault { IsKnown (R.left config.old) → IsKnown (S.left events.old) → IfErr result (FirstTextFault (bytes_of (R.left config.old)) (bytes_of (S.left events.old))) }
+    ensures text_fault { IsKnown (R.left config.old) → IsKnown (S.left events.old)
+        → IfErr result (FirstTextFault (bytes_of (R.left config.old)) (bytes_of (S.left events.old))) }
 
     // What is out after each fault.
     ensures unwritten { IsKnown (W.written trace.old) → IfErr result (λ fault. is_config fault ≡ true → bytes_of (W.written trace.new) ≡ bytes_of (W.written trace.old)) }
     ensures leaves { IsKnown (R.left config.old) → IsKnown (S.left events.old) → IsKnown (W.written trace.old)
-        → IfErr result (LeavesWritten (writing_of told) (bytes_of (R.left config.old)) (bytes_of (S.left events.old)) (bytes_of (W.written trace.old)) (bytes_of (W.written trace.new))) }
+        → IfErr result (LeavesWritten (writing_of told) (bytes_of (R.left config.old)) (bytes_of (S.left events.old)) (bytes_of (W.written trace.old))
+        (bytes_of (W.written trace.new))) }
 
     // However the run ends, nothing is held back, unless a write failed.
     ensures passed { OnOk result (W.buffered trace.new ≡ []) }
@@ -75,7 +78,9 @@ pub fn answer<R: Source, S: Source, W: Sink>(
     // flush alone: then what is written of some prefix of the events is out, each line whole.
     ensures reads { result ≢ Err RunFault.Write → CountsReads result (R.failures config.old) (R.failures config.new) (S.failures events.old) (S.failures events.new) }
     ensures flush { result ≡ Err RunFault.Write → (R.failures config.new ≡ R.failures config.old) × FlushFails (S.failures events.old) (S.failures events.new)
-        (IsKnown (R.left config.old) → IsKnown (S.left events.old) → IsKnown (W.written trace.old) → IsPrefix (writing_of told) (bytes_of (R.left config.old)) (bytes_of (S.left events.old)) (bytes_of (W.written trace.old)) (bytes_of (W.written trace.new))) }
+        (IsKnown (R.left config.old) → IsKnown (S.left events.old) → IsKnown (W.written trace.old)
+        → IsPrefix (writing_of told) (bytes_of (R.left config.old)) (bytes_of (S.left events.old)) (bytes_of (W.written trace.old))
+        (bytes_of (W.written trace.new))) }
     ensures writes { W.failures trace.new ≡ W.failures trace.old + (if failed_write result then 1 else 0) }
 {
     run_events(alloc, detail_for(told), config, events, trace)?;

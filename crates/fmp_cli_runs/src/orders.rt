@@ -48,10 +48,13 @@ pub fn search<R: Source, S: Source, W: Sink, P: Progress>(
 
     // Both texts were read to their ends, and what is written says what is known of all orders by these rules. None of it is held back.
     ensures explored { IsKnown (R.left config.old) → IsKnown (S.left scripts.old) → IsKnown (W.written output.old)
-        → IfOk result (λ o. IsExplored (bytes_of (R.left config.old)) (bytes_of (S.left scripts.old)) request.now.question.now (asked.rules_of request.now) request.now.bounds.turns (request.now.bounds.places - 1) (bytes_of (W.written output.old)) (bytes_of (W.written output.new)) o.finding) }
+        → IfOk result (λ o. IsExplored (bytes_of (R.left config.old)) (bytes_of (S.left scripts.old)) request.now.question.now
+        (asked.rules_of request.now) request.now.bounds.turns (request.now.bounds.places - 1) (bytes_of (W.written output.old))
+        (bytes_of (W.written output.new)) o.finding) }
     ensures ended { IfOk result (λ o. IsEndedBy (P.over progress.new) o.finding) }
     ensures layer { IsKnown (R.left config.old) → IsKnown (S.left scripts.old)
-        → IfOk result (λ o. LeavesLayer (bytes_of (R.left config.old)) (bytes_of (S.left scripts.old)) request.now.question.now (asked.rules_of request.now) request.now.bounds.turns o.finding o.layer) }
+        → IfOk result (λ o. LeavesLayer (bytes_of (R.left config.old)) (bytes_of (S.left scripts.old)) request.now.question.now
+        (asked.rules_of request.now) request.now.bounds.turns o.finding o.layer) }
     ensures known { IsKnown (W.written output.old) → IsKnown (W.written output.new) }
     ensures passed { OnOk result (W.buffered output.new ≡ []) }
     ensures config_read { IsKnown (R.left config.old) → OnOk result (bytes_of (R.left config.new) ≡ []) }
@@ -59,13 +62,16 @@ pub fn search<R: Source, S: Source, W: Sink, P: Progress>(
 
     // A fault of a text or of the question is its first one.
     ensures config_fault { IsKnown (R.left config.old) → IfErr result (faults.IsConfigFault (bytes_of (R.left config.old))) }
-    ensures text_fault { IsKnown (R.left config.old) → IsKnown (S.left scripts.old) → IfErr result (faults.IsScriptFault (bytes_of (R.left config.old)) (bytes_of (S.left scripts.old))) }
+    ensures text_fault { IsKnown (R.left config.old) → IsKnown (S.left scripts.old)
+        → IfErr result (faults.IsScriptFault (bytes_of (R.left config.old)) (bytes_of (S.left scripts.old))) }
     ensures question_fault { IsKnown (R.left config.old) → IfErr result (faults.IsQuestionFault (bytes_of (R.left config.old)) request.now.question.now) }
 
     // After a failed write or flush a beginning of what tells it is out, and after any other fault nothing is.
     ensures write { IsKnown (R.left config.old) → IsKnown (S.left scripts.old) → IsKnown (W.written output.old) → (result ≡ Err (ExploreFault.Run RunFault.Write))
-        → IsBegun (bytes_of (R.left config.old)) (bytes_of (S.left scripts.old)) request.now.question.now (asked.rules_of request.now) request.now.bounds.turns (request.now.bounds.places - 1) (bytes_of (W.written output.old)) (bytes_of (W.written output.new)) }
-    ensures unwritten { IsKnown (W.written output.old) → IfErr result (λ fault. fault ≢ ExploreFault.Run RunFault.Write → bytes_of (W.written output.new) ≡ bytes_of (W.written output.old)) }
+        → IsBegun (bytes_of (R.left config.old)) (bytes_of (S.left scripts.old)) request.now.question.now (asked.rules_of request.now) request.now.bounds.turns
+        (request.now.bounds.places - 1) (bytes_of (W.written output.old)) (bytes_of (W.written output.new)) }
+    ensures unwritten { IsKnown (W.written output.old)
+        → IfErr result (λ fault. fault ≢ ExploreFault.Run RunFault.Write → bytes_of (W.written output.new) ≡ bytes_of (W.written output.old)) }
 
     // No thread was started.
     ensures no_thread_fault { IfErr (faults.as_run result) (λ fault. is_thread_fault fault ≡ false) }
@@ -101,7 +107,9 @@ pub fn search_from<R: Source, S: Source, W: Sink, P: Progress>(
     // trace. None of it is held back.
     ensures explored { IsKnown (R.left config.old) → IsKnown (S.left scripts.old) → IsKnown (W.written output.old)
         → IfOk result (λ status. (finding : AnyFinding) × (status ≡ spec.status_of finding) × IsEndedBy (P.over progress.new) finding
-        × IsExploredFrom (bytes_of (R.left config.old)) (bytes_of (S.left scripts.old)) begun.now request.now.question.now (asked.rules_of request.now) request.now.bounds.turns (request.now.bounds.places - 1) (bytes_of (W.written output.old)) (bytes_of (W.written output.new)) finding) }
+        × IsExploredFrom (bytes_of (R.left config.old)) (bytes_of (S.left scripts.old)) begun.now request.now.question.now
+        (asked.rules_of request.now) request.now.bounds.turns (request.now.bounds.places - 1) (bytes_of (W.written output.old))
+        (bytes_of (W.written output.new)) finding) }
     ensures known { IsKnown (W.written output.old) → IsKnown (W.written output.new) }
     ensures passed { OnOk result (W.buffered output.new ≡ []) }
     ensures config_read { IsKnown (R.left config.old) → OnOk result (bytes_of (R.left config.new) ≡ []) }
@@ -109,15 +117,20 @@ pub fn search_from<R: Source, S: Source, W: Sink, P: Progress>(
 
     // A fault of a text or of the question is its first one, and so is a line of the trace that no order has.
     ensures config_fault { IsKnown (R.left config.old) → IfErr result (from_faults.IsConfigFault (bytes_of (R.left config.old))) }
-    ensures text_fault { IsKnown (R.left config.old) → IsKnown (S.left scripts.old) → IfErr result (from_faults.IsScriptFault (bytes_of (R.left config.old)) (bytes_of (S.left scripts.old))) }
+    ensures text_fault { IsKnown (R.left config.old) → IsKnown (S.left scripts.old)
+        → IfErr result (from_faults.IsScriptFault (bytes_of (R.left config.old)) (bytes_of (S.left scripts.old))) }
     ensures question_fault { IsKnown (R.left config.old) → IfErr result (from_faults.IsQuestionFault (bytes_of (R.left config.old)) request.now.question.now) }
-    ensures stray { IsKnown (R.left config.old) → IsKnown (S.left scripts.old) → IfErr result (from_faults.IsStrayFault (bytes_of (R.left config.old)) (bytes_of (S.left scripts.old)) (asked.rules_of request.now) begun.now) }
+    ensures stray { IsKnown (R.left config.old) → IsKnown (S.left scripts.old)
+        → IfErr result (from_faults.IsStrayFault (bytes_of (R.left config.old)) (bytes_of (S.left scripts.old)) (asked.rules_of request.now) begun.now) }
     ensures long { (result ≡ Err FromFault.Long) ↔ (most_bytes < length begun.now) }
 
     // After a failed write or flush a beginning of what tells it is out, and after any other fault nothing is.
-    ensures write { IsKnown (R.left config.old) → IsKnown (S.left scripts.old) → IsKnown (W.written output.old) → (result ≡ Err (FromFault.Explore (ExploreFault.Run RunFault.Write)))
-        → IsBegunFrom (bytes_of (R.left config.old)) (bytes_of (S.left scripts.old)) begun.now request.now.question.now (asked.rules_of request.now) request.now.bounds.turns (request.now.bounds.places - 1) (bytes_of (W.written output.old)) (bytes_of (W.written output.new)) }
-    ensures unwritten { IsKnown (W.written output.old) → IfErr result (λ fault. fault ≢ FromFault.Explore (ExploreFault.Run RunFault.Write) → bytes_of (W.written output.new) ≡ bytes_of (W.written output.old)) }
+    ensures write { IsKnown (R.left config.old) → IsKnown (S.left scripts.old) → IsKnown (W.written output.old)
+        → (result ≡ Err (FromFault.Explore (ExploreFault.Run RunFault.Write)))
+        → IsBegunFrom (bytes_of (R.left config.old)) (bytes_of (S.left scripts.old)) begun.now request.now.question.now
+        (asked.rules_of request.now) request.now.bounds.turns (request.now.bounds.places - 1) (bytes_of (W.written output.old)) (bytes_of (W.written output.new)) }
+    ensures unwritten { IsKnown (W.written output.old)
+        → IfErr result (λ fault. fault ≢ FromFault.Explore (ExploreFault.Run RunFault.Write) → bytes_of (W.written output.new) ≡ bytes_of (W.written output.old)) }
 
     // No thread was started.
     ensures no_thread_fault { IfErr (from_faults.as_run result) (λ fault. is_thread_fault fault ≡ false) }

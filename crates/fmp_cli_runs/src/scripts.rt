@@ -49,7 +49,8 @@ pub fn play<T: Threads + Wait + Sync, R: Source, S: Source, W: Sink>(
     // those of the tasks that wait there.
     ensures played { IsKnown (R.left config.old) → IsKnown (S.left scripts.old) → IsKnown (W.written trace.old)
         → IfOk result (λ played. (ended : AnyEnded) × (played.status ≡ spec.status_by request.now.strict ended played.waiting.items)
-        × IsPlayedToEnd request.now.seed (bytes_of (R.left config.old)) (bytes_of (S.left scripts.old)) request.now.limits.ticks request.now.limits.turns (bytes_of (W.written trace.old)) (bytes_of (W.written trace.new)) ended played.waiting.items) }
+        × IsPlayedToEnd request.now.seed (bytes_of (R.left config.old)) (bytes_of (S.left scripts.old)) request.now.limits.ticks request.now.limits.turns
+        (bytes_of (W.written trace.old)) (bytes_of (W.written trace.new)) ended played.waiting.items) }
     ensures known { IsKnown (W.written trace.old) → IsKnown (W.written trace.new) }
     ensures passed { OnOk result (W.buffered trace.new ≡ []) }
     ensures config_read { IsKnown (R.left config.old) → OnOk result (bytes_of (R.left config.new) ≡ []) }
@@ -60,11 +61,13 @@ pub fn play<T: Threads + Wait + Sync, R: Source, S: Source, W: Sink>(
 
     // A fault of a text is its first one.
     ensures config_fault { IsKnown (R.left config.old) → IfErr result (FirstConfigFault (bytes_of (R.left config.old))) }
-    ensures text_fault { IsKnown (R.left config.old) → IsKnown (S.left scripts.old) → IfErr result (FirstScriptFault (bytes_of (R.left config.old)) (bytes_of (S.left scripts.old))) }
+    ensures text_fault { IsKnown (R.left config.old) → IsKnown (S.left scripts.old)
+        → IfErr result (FirstScriptFault (bytes_of (R.left config.old)) (bytes_of (S.left scripts.old))) }
 
     // After a failed write or flush a beginning of the trace is out, and after any other fault nothing is.
     ensures write { IsKnown (R.left config.old) → IsKnown (S.left scripts.old) → IsKnown (W.written trace.old) → (result ≡ Err RunFault.Write)
-        → IsPlayBegun (bytes_of (R.left config.old)) (bytes_of (S.left scripts.old)) request.now.limits.ticks request.now.limits.turns (bytes_of (W.written trace.old)) (bytes_of (W.written trace.new)) }
+        → IsPlayBegun (bytes_of (R.left config.old)) (bytes_of (S.left scripts.old)) request.now.limits.ticks request.now.limits.turns (bytes_of (W.written trace.old))
+        (bytes_of (W.written trace.new)) }
     ensures unwritten { IsKnown (W.written trace.old) → IfErr result (λ fault. fault ≢ RunFault.Write → bytes_of (W.written trace.new) ≡ bytes_of (W.written trace.old)) }
 
     // Which calls of the devices failed.
@@ -123,7 +126,8 @@ pub fn seek<R: Source, S: Source, W: Sink, P: SeedProgress>(
     // were asked for, and the line where it is, and what is written its trace up to there; or there is none such, and nothing is written. None of it
     // is held back.
     ensures sought { IsKnown (R.left config.old) → IsKnown (S.left scripts.old) → IsKnown (W.written trace.old)
-        → IfOk result (IsSought (bytes_of (R.left config.old)) (bytes_of (S.left scripts.old)) (asked.question_of request.now) (asked.runs_of request.now) first last (bytes_of (W.written trace.old)) (bytes_of (W.written trace.new))) }
+        → IfOk result (IsSought (bytes_of (R.left config.old)) (bytes_of (S.left scripts.old)) (asked.question_of request.now) (asked.runs_of request.now) first last
+        (bytes_of (W.written trace.old)) (bytes_of (W.written trace.new))) }
 
     // Seeds are left only where the search was ended.
     ensures ended { IfOk result (IsEndedBy (P.over progress.new)) }
@@ -134,13 +138,16 @@ pub fn seek<R: Source, S: Source, W: Sink, P: SeedProgress>(
 
     // A fault of a text or of the question is its first one.
     ensures config_fault { IsKnown (R.left config.old) → IfErr result (faults.IsConfigFault (bytes_of (R.left config.old))) }
-    ensures text_fault { IsKnown (R.left config.old) → IsKnown (S.left scripts.old) → IfErr result (faults.IsScriptFault (bytes_of (R.left config.old)) (bytes_of (S.left scripts.old))) }
+    ensures text_fault { IsKnown (R.left config.old) → IsKnown (S.left scripts.old)
+        → IfErr result (faults.IsScriptFault (bytes_of (R.left config.old)) (bytes_of (S.left scripts.old))) }
     ensures question_fault { IsKnown (R.left config.old) → IfErr result (seeds.IsQuestionFault (bytes_of (R.left config.old)) (asked.question_of request.now)) }
 
     // After a failed write or flush a beginning of the trace is out, and after any other fault nothing is.
     ensures write { IsKnown (R.left config.old) → IsKnown (S.left scripts.old) → IsKnown (W.written trace.old) → (result ≡ Err (ExploreFault.Run RunFault.Write))
-        → seeds.IsBegun (bytes_of (R.left config.old)) (bytes_of (S.left scripts.old)) (asked.question_of request.now) (asked.runs_of request.now) first last (bytes_of (W.written trace.old)) (bytes_of (W.written trace.new)) }
-    ensures unwritten { IsKnown (W.written trace.old) → IfErr result (λ fault. fault ≢ ExploreFault.Run RunFault.Write → bytes_of (W.written trace.new) ≡ bytes_of (W.written trace.old)) }
+        → seeds.IsBegun (bytes_of (R.left config.old)) (bytes_of (S.left scripts.old)) (asked.question_of request.now) (asked.runs_of request.now) first last
+        (bytes_of (W.written trace.old)) (bytes_of (W.written trace.new)) }
+    ensures unwritten { IsKnown (W.written trace.old)
+        → IfErr result (λ fault. fault ≢ ExploreFault.Run RunFault.Write → bytes_of (W.written trace.new) ≡ bytes_of (W.written trace.old)) }
 
     // No thread was started.
     ensures no_thread_fault { IfErr (faults.as_run result) (λ fault. is_thread_fault fault ≡ false) }

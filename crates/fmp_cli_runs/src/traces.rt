@@ -42,7 +42,8 @@ pub fn judge<R: Source, S: Source, W: Sink>(
         → IfOk result (Checked (bytes_of (R.left config.old)) (bytes_of (S.left trace.old))) }
     ensures written { asked ≡ Asked.Verdict → IsKnown (W.written output.old)
         → IfOk result (λ verdict. bytes_of (W.written output.new) ≡ bytes_of (W.written output.old) ++ verdict_text verdict) }
-    ensures verdict_begun { asked ≡ Asked.Verdict → IsKnown (R.left config.old) → IsKnown (S.left trace.old) → IsKnown (W.written output.old) → (result ≡ Err RunFault.Write)
+    ensures verdict_begun { asked ≡ Asked.Verdict → IsKnown (R.left config.old) → IsKnown (S.left trace.old) → IsKnown (W.written output.old)
+        → (result ≡ Err RunFault.Write)
         → IsCheckBegun (bytes_of (R.left config.old)) (bytes_of (S.left trace.old)) (bytes_of (W.written output.old)) (bytes_of (W.written output.new)) }
 
     // The verdict on what is written alone.
@@ -50,14 +51,18 @@ pub fn judge<R: Source, S: Source, W: Sink>(
         → IfOk result (CheckedPartly (bytes_of (R.left config.old)) (bytes_of (S.left trace.old))) }
     ensures partial_written { asked ≡ Asked.Partial → IsKnown (W.written output.old)
         → IfOk result (λ verdict. bytes_of (W.written output.new) ≡ bytes_of (W.written output.old) ++ verdict_text verdict) }
-    ensures partly_own { asked ≡ Asked.Partial → IsKnown (R.left config.old) → IsKnown (S.left trace.old) → IsPartlyOwn (bytes_of (R.left config.old)) (bytes_of (S.left trace.old)) → IsYes result }
-    ensures partial_begun { asked ≡ Asked.Partial → IsKnown (R.left config.old) → IsKnown (S.left trace.old) → IsKnown (W.written output.old) → (result ≡ Err RunFault.Write)
+    ensures partly_own { asked ≡ Asked.Partial → IsKnown (R.left config.old) → IsKnown (S.left trace.old)
+        → IsPartlyOwn (bytes_of (R.left config.old)) (bytes_of (S.left trace.old)) → IsYes result }
+    ensures partial_begun { asked ≡ Asked.Partial → IsKnown (R.left config.old) → IsKnown (S.left trace.old) → IsKnown (W.written output.old)
+        → (result ≡ Err RunFault.Write)
         → IsPartialBegun (bytes_of (R.left config.old)) (bytes_of (S.left trace.old)) (bytes_of (W.written output.old)) (bytes_of (W.written output.new)) }
 
     // The lines that differ.
     ensures differences { (shown : AnyShown) → asked ≡ Asked.Differences shown → IsKnown (R.left config.old) → IsKnown (S.left trace.old) → IsKnown (W.written output.old)
-        → IfOk result (IsReported shown (bytes_of (R.left config.old)) (bytes_of (S.left trace.old)) (bytes_of (W.written output.old)) (bytes_of (W.written output.new))) }
-    ensures differences_begun { (shown : AnyShown) → asked ≡ Asked.Differences shown → IsKnown (R.left config.old) → IsKnown (S.left trace.old) → IsKnown (W.written output.old) → (result ≡ Err RunFault.Write)
+        → IfOk result (IsReported shown (bytes_of (R.left config.old)) (bytes_of (S.left trace.old)) (bytes_of (W.written output.old))
+        (bytes_of (W.written output.new))) }
+    ensures differences_begun { (shown : AnyShown) → asked ≡ Asked.Differences shown → IsKnown (R.left config.old) → IsKnown (S.left trace.old)
+        → IsKnown (W.written output.old) → (result ≡ Err RunFault.Write)
         → IsReportBegun shown (bytes_of (R.left config.old)) (bytes_of (S.left trace.old)) (bytes_of (W.written output.old)) (bytes_of (W.written output.new)) }
 
     // The waveform, of a trace that is the machine's own.
@@ -71,9 +76,12 @@ pub fn judge<R: Source, S: Source, W: Sink>(
     ensures page { (kind : AnyKind) → page_asked asked ≡ Some kind → IsKnown (R.left config.old) → IsKnown (S.left trace.old) → IsKnown (W.written output.old)
         → IfOk result (Shown kind (bytes_of (R.left config.old)) (bytes_of (S.left trace.old)) (bytes_of (W.written output.old)) (bytes_of (W.written output.new))) }
     ensures page_same { (kind : AnyKind) → page_asked asked ≡ Some kind → IsKnown (R.left config.old) → IsKnown (S.left trace.old) → IsKnown (W.written output.old)
-        → IfOk result (λ verdict. verdict ≡ Verdict.Yes → Shown PageKind.Own (bytes_of (R.left config.old)) (bytes_of (S.left trace.old)) (bytes_of (W.written output.old)) (bytes_of (W.written output.new)) Verdict.Yes) }
+        → IfOk result (λ verdict. verdict ≡ Verdict.Yes
+        → Shown PageKind.Own (bytes_of (R.left config.old)) (bytes_of (S.left trace.old)) (bytes_of (W.written output.old))
+        (bytes_of (W.written output.new)) Verdict.Yes) }
     ensures page_left { (kind : AnyKind) → page_asked asked ≡ Some kind → IsKnown (R.left config.old) → IsKnown (S.left trace.old) → IsKnown (W.written output.old)
-        → IfErr result (LeavesShown kind (bytes_of (R.left config.old)) (bytes_of (S.left trace.old)) (bytes_of (W.written output.old)) (bytes_of (W.written output.new))) }
+        → IfErr result (LeavesShown kind (bytes_of (R.left config.old)) (bytes_of (S.left trace.old)) (bytes_of (W.written output.old))
+        (bytes_of (W.written output.new))) }
     ensures page_none_held { (kind : AnyKind) → page_asked asked ≡ Some kind → W.buffered output.old ≡ [] → result ≢ Err RunFault.Write → W.buffered output.new ≡ [] }
 
     // Nothing that was written is held back.

@@ -32,7 +32,7 @@ of which no single one can go. `fmpsim calls CFG -` answers it.
 
 Exit status:
   0  done: the events that are left were written
-  1  a fault in a text or in the question, told on standard error with its place
+  1  a fault in a text or in the question, reported on standard error with its place
   2  the command line is wrong
   3  a file could not be read, or the output not be written
   4  want of memory

@@ -2,7 +2,8 @@
 use Rattle.std.specs.Prelude.{◌≡◌, ℕ, pos, true, List, [], ◌∷◌, Option, Some, None, codes, is_some, option_map, if◌then◌else◌}
 use Rattle.std.specs.Borrow.{Bor}
 use Rattle.std.specs.Str.{bytes_eq}
-use Rattle.clap.specs.Words.{AddsArg, AddsInTurn, IsSignedIn, found_of, one_text, without_minus, App, Kinds, Row, Text, app_of, fault_of, first_of, first_value, matches_of, one_of}
+use Rattle.clap.specs.Words.{AddsArg, AddsInTurn, IsSignedIn, found_of, one_text, without_minus, App, Kinds, Row, Text, app_of, fault_of, first_of, first_value}
+use Rattle.clap.specs.Words.{matches_of, one_of}
 use Rattle.clap.specs.declared.builder.arg.Arg.{Arg}
 use Rattle.clap.specs.declared.builder.command.Command.{Command}
 use Rattle.clap.specs.declared.parser.matches.ArgMatches.{ArgMatches}

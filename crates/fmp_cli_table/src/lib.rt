@@ -65,11 +65,11 @@ written, and its seed is told before the tasks. Where there is none, nothing is 
 In these orders a request is taken before the next call of its processor. With --late a seed draws
 one of all orders, as those of `fmpsim explore`, in which it may come later, and with --stalls one
 in which now and then a processor stands still while the others go on. With --seconds N the search
-ends after N seconds; the last seed that was played is told on standard error.
+ends after N seconds; the last seed that was played is reported on standard error.
 
 Exit status:
   0  all ticks were taken, and no processor had anything left to do; or no seed was found
-  1  a fault in a text or in the question, told on standard error with its place
+  1  a fault in a text or in the question, reported on standard error with its place
   2  the command line is wrong
   3  a file could not be read, or the output not be written
   4  want of memory or of threads

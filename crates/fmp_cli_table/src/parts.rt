@@ -64,7 +64,7 @@ pub const EVENTS_PART: Part<'static> = Part {
 pub const CONTEXT_PART: Part<'static> = Part {
     id: "context",
     form: Form::Flag,
-    about: "Shows below a fault its line, its place and what is wanted there; at a terminal by itself, unless there is --no-context",
+    about: "Shows below a fault its line, its place and what is expected there; at a terminal by itself, unless there is --no-context",
 };
 
 /// The option that has it told how far a long run has come.

@@ -51,7 +51,8 @@ choose_timer d f = timer_of d.setup f.pieces.first >>= λ t. Ok (record d { setu
 
 unfoldable pub set_limits : Draft → Form → Result Draft Fault
 set_limits d f =
-    numbers_of d.setup statements.Limits f.pieces >>= λ n. Ok (record d { setup = with_limits d.setup (record { wakeups = n.first; priorities = n.second }); limits_stood = true })
+    numbers_of d.setup statements.Limits f.pieces
+    >>= λ n. Ok (record d { setup = with_limits d.setup (record { wakeups = n.first; priorities = n.second }); limits_stood = true })
 
 unfoldable pub define_class : Draft → Form → Result Draft Fault
 define_class d f = do

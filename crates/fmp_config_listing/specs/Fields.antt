@@ -43,13 +43,15 @@ abbrev pub clear : Bool → List ℕ
 clear clears = if clears then codes "|" ++ text_of attributes.Clear else []
 
 unfoldable pub task_fields : Setup → TaskSetup → List ℕ
-task_fields c t = class_field c t.class ++ field (codes "attr") (text_of (activation t.starts)) ++ field (codes "main") (function_name c t.main) ++ field (codes "itskpri") (decimal t.priority.number)
+task_fields c t = class_field c t.class ++ field (codes "attr") (text_of (activation t.starts)) ++ field (codes "main") (function_name c t.main)
+    ++ field (codes "itskpri") (decimal t.priority.number)
 
 unfoldable pub semaphore_fields : SemaphoreSetup → List ℕ
 semaphore_fields s = field (codes "attr") (text_of (order s.order)) ++ field (codes "isemcnt") (decimal s.initial) ++ field (codes "maxsem") (decimal s.most)
 
 unfoldable pub eventflag_fields : EventflagSetup → List ℕ
-eventflag_fields f = field (codes "attr") (text_of (order f.order)) ++ codes "|" ++ text_of (waiters f.many) ++ clear f.clears ++ field (codes "iflgptn") (decimal f.initial)
+eventflag_fields f = field (codes "attr") (text_of (order f.order)) ++ codes "|" ++ text_of (waiters f.many) ++ clear f.clears
+    ++ field (codes "iflgptn") (decimal f.initial)
 
 unfoldable pub data_queue_fields : DataQueueSetup → List ℕ
 data_queue_fields d = field (codes "attr") (text_of (order d.order)) ++ field (codes "dtqcnt") (decimal d.capacity)
@@ -58,7 +60,8 @@ unfoldable pub pool_fields : PoolSetup → List ℕ
 pool_fields m = field (codes "attr") (text_of (order m.order)) ++ field (codes "blkcnt") (decimal m.blocks)
 
 unfoldable pub cyclic_fields : Setup → CyclicSetup → List ℕ
-cyclic_fields c h = class_field c h.class ++ field (codes "attr") (text_of (start h.starts)) ++ field (codes "handler") (function_name c h.handler) ++ field (codes "cyctim") (decimal h.period) ++ field (codes "cycphs") (decimal h.phase)
+cyclic_fields c h = class_field c h.class ++ field (codes "attr") (text_of (start h.starts)) ++ field (codes "handler") (function_name c h.handler)
+    ++ field (codes "cyctim") (decimal h.period) ++ field (codes "cycphs") (decimal h.phase)
 
 unfoldable pub alarm_fields : Setup → AlarmSetup → List ℕ
 alarm_fields c h = class_field c h.class ++ field (codes "handler") (function_name c h.handler)

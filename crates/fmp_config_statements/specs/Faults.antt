@@ -1,7 +1,8 @@
 -- Faults, and how their kinds are printed.
 use Rattle.std.specs.Prelude.{ℕ, Bool, true, false, List, [], codes}
 use Rattle.fmp_config_statements.specs.declared.fault.ConfigKind.{ConfigKind}
-use Rattle.fmp_config_statements.specs.declared.fault.ConfigKind.TheVariants.{Syntax, CutShort, Unsupported, OutsideClass, UnknownClass, NameTaken, OutOfRange, BadAttribute, TooMany, NoProcessors, BadClass, Memory, ForeignHandler}
+use Rattle.fmp_config_statements.specs.declared.fault.ConfigKind.TheVariants.{Syntax, CutShort, Unsupported, OutsideClass, UnknownClass, NameTaken, OutOfRange}
+use Rattle.fmp_config_statements.specs.declared.fault.ConfigKind.TheVariants.{BadAttribute, TooMany, NoProcessors, BadClass, Memory, ForeignHandler}
 use Rattle.fmp_config_statements.specs.Words.{Word}
 
 -- a fault: its kind, its line, and the bytes of the token at fault, none where no token is; a mark says that it is the name of a directive

@@ -45,7 +45,8 @@ is_stop t = is_mark comma t || is_mark close_parenthesis t
 unfoldable pub next_free : ℕ → Lexeme → Option Scan
 next_free depth t =
     if is_barred t || (depth == 0 && is_stop t) then None
-    else (if is_mark open_parenthesis t then Some (Free (depth + 1) true) else (if is_mark close_parenthesis t then Some (Free (depth - 1) true) else Some (Free depth true)))
+    else (if is_mark open_parenthesis t then Some (Free (depth + 1) true) else
+    (if is_mark close_parenthesis t then Some (Free (depth - 1) true) else Some (Free depth true)))
 
 -- what has to follow behind the word of a timer
 unfoldable pub next_method : Lexeme → Option Scan

@@ -17,7 +17,7 @@ use fmp_codes::{Answer, Event, Record};
 use fmp_kernel_machine::KernelMachine;
 use fmp_kernel_parts::{Digest, Part};
 use fmp_rules::Config;
-use fmp_step::{boot, step_into};
+use fmp_step::{boot, step_told};
 use std::alloc::AllocError;
 use std::marker::Model;
 
@@ -93,8 +93,29 @@ impl Kernel {
         ensures taken { TakesRequest self.old event told.new self.new }
         ensures top { RunsTop listed self.old event told.new self.new }
     {
-        step_into(&mut self.machine, event, told);
+        told.event = event;
+        self.step_told(told);
     }
+
+    /// Plays the event that a record tells, on a processor of the machine, and makes the record tell what the event answers and
+    /// did, whatever it told of that before.
+    pub fn step_told(&mut self, told: &mut Record)
+        requires { (processor_of told.old.event).number ≤ length self.old.processors }
+        ensures stands { (m : State) → Stands self.old m → Stands self.new (step numbered m told.old.event).0 }
+        ensures record { (m : State) → Stands self.old m → told.new ≡ (step numbered m told.old.event).1 }
+        ensures processors { length self.new.processors ≡ length self.old.processors }
+
+        // As of `step`.
+        ensures same { (self.new, told.new) ≡ step listed self.old told.old.event }
+        ensures safe { Safe listed self.new }
+        ensures lists { ListsAreRight self.new }
+        ensures nothing { FindsNothing listed self.old told.old.event told.new self.new }
+        ensures taken { TakesRequest self.old told.old.event told.new self.new }
+        ensures top { RunsTop listed self.old told.old.event told.new self.new }
+    {
+        step_told(&mut self.machine, told);
+    }
+
     /// Whether it is the same as another kernel, so that both answer all events alike. Where it says no, contracts may see the
     /// same all the same.
     pub fn is_same(&self, other: &Kernel) -> bool

@@ -265,7 +265,11 @@ impl Assigned {
 
     /// Lowers the ticks left for which a tick on a processor counts.
     pub fn count_down(&mut self, p: Proc)
-        ensures { self.new ≡ record self.old { waits_left = lowered (λ r. counts_for self.old.timer p r.assigned) self.old.tasks self.old.waits_left; cyclics_left = lowered (λ c. counts_for self.old.timer p c.assigned) self.old.cyclics self.old.cyclics_left; alarms_left = lowered (λ a. counts_for self.old.timer p a.assigned) self.old.alarms self.old.alarms_left } }
+        ensures { self.new ≡ record self.old {
+          waits_left = lowered (λ r. counts_for self.old.timer p r.assigned) self.old.tasks self.old.waits_left;
+          cyclics_left = lowered (λ c. counts_for self.old.timer p c.assigned) self.old.cyclics self.old.cyclics_left;
+          alarms_left = lowered (λ a. counts_for self.old.timer p a.assigned) self.old.alarms self.old.alarms_left;
+        } }
     {
         count_down(&mut self.timers, self.timer, p);
     }

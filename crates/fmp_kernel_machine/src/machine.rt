@@ -46,7 +46,25 @@ impl Model for KernelMachine {
 
     ghost Value = { World Queues };
 
-    ghost view = { λ a. record { timer = a.assigned.timer; limits = record { wakeups = a.most_wakeups; priorities = a.last_priority.number }; tasks = a.assigned.tasks; waits_left = a.assigned.waits_left; processors = a.dispatch.processors; due = a.dispatch.due; semaphores = a.resources.semaphores; eventflags = a.resources.eventflags; data_queues = a.resources.data_queues; contents = a.resources.contents; pools = a.resources.pools; cyclics = a.assigned.cyclics; cyclics_left = a.assigned.cyclics_left; alarms = a.assigned.alarms; alarms_left = a.assigned.alarms_left; holders = a.spins; order = record { ready = a.ready.lists; waits = a.resources.waits; timed = a.assigned.timed } } };
+    ghost view = { λ a. record {
+      timer = a.assigned.timer;
+      limits = record { wakeups = a.most_wakeups; priorities = a.last_priority.number };
+      tasks = a.assigned.tasks;
+      waits_left = a.assigned.waits_left;
+      processors = a.dispatch.processors;
+      due = a.dispatch.due;
+      semaphores = a.resources.semaphores;
+      eventflags = a.resources.eventflags;
+      data_queues = a.resources.data_queues;
+      contents = a.resources.contents;
+      pools = a.resources.pools;
+      cyclics = a.assigned.cyclics;
+      cyclics_left = a.assigned.cyclics_left;
+      alarms = a.assigned.alarms;
+      alarms_left = a.assigned.alarms_left;
+      holders = a.spins;
+      order = record { ready = a.ready.lists; waits = a.resources.waits; timed = a.assigned.timed };
+    } };
 }
 
 impl KernelMachine {

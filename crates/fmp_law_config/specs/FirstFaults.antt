@@ -21,7 +21,8 @@ IsOfEnd Done fault = ((line : ℕ) × (fault ≡ fault_of_line faults.CutShort l
 -- these tokens have no fault: a text within the limit whose tokens are the first of them, be it all, has no fault but one of its end
 abbrev pub HaveNoFault : List Lexeme → Type 0
 HaveNoFault tokens =
-    (first others : List Lexeme) (text : List ℕ) (fault : Fault) → tokens ≡ first ++ others → (lexed_text text).lexemes ≡ first → length text ≤ most_bytes → config_in text ≡ Err fault
+    (first others : List Lexeme) (text : List ℕ) (fault : Fault) → tokens ≡ first ++ others → (lexed_text text).lexemes ≡ first → length text ≤ most_bytes
+    → config_in text ≡ Err fault
     → IsOfEnd (lexed_text text).end fault
 
 -- the fault is found at a token: those before it have none, and are the tokens of a beginning of the text, but for the end of a directive that is cut there;

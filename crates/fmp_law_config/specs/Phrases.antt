@@ -79,7 +79,8 @@ pub record IsFree (glyphs : List Glyph) : Type 0 where
 abbrev pub SpellsMethod : (Phrase → List Glyph → Type 0) → Phrase → List Glyph → Type 0
 SpellsMethod Follows before glyphs =
     ((rest : List Glyph) × (word : Glyph) × (glyphs ≡ word ∷ rest) × (word.text ≡ codes "LOCAL") × Follows before rest)
-    ⊎ ((rest : List Glyph) × (word : Glyph) × (number : Glyph) × (glyphs ≡ word ∷ symbol comma ∷ number ∷ rest) × (word.text ≡ codes "GLOBAL") × (may_be items.First number ≡ true)
+    ⊎ ((rest : List Glyph) × (word : Glyph) × (number : Glyph) × (glyphs ≡ word ∷ symbol comma ∷ number ∷ rest) × (word.text ≡ codes "GLOBAL")
+    × (may_be items.First number ≡ true)
     × Follows (with_word items.First number.text before) rest)
 
 -- the tokens of some parts, and the words with theirs
@@ -91,5 +92,6 @@ SpellsParts (parts.One item ∷ rest) before after glyphs =
 SpellsParts (parts.Series byte item ∷ rest) before after glyphs =
     (words : List Glyph) × (others : List Glyph) × (glyphs ≡ separated (symbol byte) words ++ others) × (1 ≤ length words) × (list_all (may_be item) words ≡ true)
     × SpellsParts rest (with_words item words before) after others
-SpellsParts (parts.Free ∷ rest) before after glyphs = (free : List Glyph) × (others : List Glyph) × (glyphs ≡ free ++ others) × IsFree free × SpellsParts rest before after others
+SpellsParts (parts.Free ∷ rest) before after glyphs = (free : List Glyph) × (others : List Glyph) × (glyphs ≡ free ++ others) × IsFree free
+    × SpellsParts rest before after others
 SpellsParts (parts.Method ∷ rest) before after glyphs = SpellsMethod (λ words others. SpellsParts rest words after others) before glyphs

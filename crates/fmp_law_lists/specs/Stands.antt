@@ -73,7 +73,8 @@ pub record ReadyIs (tasks : List TaskRecord) (ready : List (List Task)) (ns : Li
   pub few : length tasks ≤ 64
 
 -- each queue has the tasks that wait there, with their ranks, and the timed waits are those with ticks left, in the order of their numbers
-pub record WaitsAre (tasks : List TaskRecord) (orders : QueueKind → Object → Order) (left : List (Option ℕ)) (waits : WaitQueues) (ticking : List Task) (ns : List ℕ) (next : ℕ) : Type 0 where
+pub record WaitsAre (tasks : List TaskRecord) (orders : QueueKind → Object → Order) (left : List (Option ℕ)) (waits : WaitQueues) (ticking : List Task) (ns : List ℕ)
+    (next : ℕ) : Type 0 where
   pub lists : (x : QueueKind) (o : Object) → IsListOf (is_waiter_of tasks x o) (comes_before (rank_in (orders x o) tasks) ns) (map task_of (queue waits x o))
   pub ranked : (x : QueueKind) (o : Object) → AreRanked (rank_in (orders x o) tasks) (queue waits x o)
   pub timed : IsListOf (has_ticks left) (comes_before (λ t. 0) ns) ticking
@@ -83,7 +84,8 @@ pub record WaitsAre (tasks : List TaskRecord) (orders : QueueKind → Object →
   pub left_counted : length left ≡ length tasks
 
 -- the ready lists, the queues, as many as there are objects, and the timed waits are those of the tasks
-pub record IsOrderOf (tasks : List TaskRecord) (orders : QueueKind → Object → Order) (counts : QueueKind → ℕ) (left : List (Option ℕ)) (q : Queues) (n : Arrivals) : Type 0 where
+pub record IsOrderOf (tasks : List TaskRecord) (orders : QueueKind → Object → Order) (counts : QueueKind → ℕ) (left : List (Option ℕ)) (q : Queues)
+    (n : Arrivals) : Type 0 where
   pub ready : ReadyIs tasks q.ready n.ready n.next
   pub waits : WaitsAre tasks orders left q.waits q.timed n.begun n.next
   pub sized : (x : QueueKind) → length (queues q.waits x) ≡ counts x

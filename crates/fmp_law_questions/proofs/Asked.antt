@@ -6,11 +6,11 @@ use Rattle.std.specs.Option.{option_map_or}
 use Rattle.std.proofs.lemmas.Bool.{and_parts}
 use Rattle.fmp_bytes.specs.Bytes.{is_of, space}
 use Rattle.fmp_names.specs.Names.{NameLists}
-use Rattle.fmp_search_question.specs.declared.spot.Spot.{Spot}
-use Rattle.fmp_search_question.specs.declared.question.Step.{Step}
-use Rattle.fmp_search_question.specs.Items.{Item, wanted_by}
-use Rattle.fmp_search_question.specs.Reading.{Draft, after_word, nothing_read, with_part, with_pattern, with_refused}
-use Rattle.fmp_search_question.specs.Spots.{is_number}
+use Rattle.fmp_search_words.specs.declared.spot.Spot.{Spot}
+use Rattle.fmp_search_pattern.specs.declared.question.Step.{Step}
+use Rattle.fmp_search_pattern.specs.Items.{Item}
+use Rattle.fmp_search_question.specs.Reading.{Draft, after_word, nothing_read, with_part, with_pattern, with_refused, wanted_by}
+use Rattle.fmp_search_words.specs.Spots.{is_number}
 use Rattle.fmp_law_questions.specs.Rows.{SpellsRow}
 use Rattle.fmp_law_questions.specs.Grammar.{Negated, SpellsItem, SpellsMoment, SpellsPart, SpellsPattern, SpellsWanted, is_pattern_word, placed, spaced}
 use Rattle.fmp_law_questions.proofs.Steps.{Leads, fresh, led, led_first, led_on}
@@ -113,7 +113,7 @@ module _ (names : NameLists) (e f : Draft) where
   or_taken is = rw is refl
 
 module _ (names : NameLists) (steps : List Step) (times : Option ℕ) (moment : Option (List (List Item))) where
-  part_led : (parts : List (List Item)) (items : List Item) (words : List (List ℕ)) (part : List Item) → SpellsPart names words part
+  pub part_led : (parts : List (List Item)) (items : List Item) (words : List (List ℕ)) (part : List Item) → SpellsPart names words part
       → Leads names (fresh steps times moment parts items) words with_pattern (fresh steps times moment parts (items ++ part))
   part_led parts items words part s =
       let one_item = item_led names steps times moment parts in

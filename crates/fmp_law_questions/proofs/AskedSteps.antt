@@ -7,8 +7,8 @@ use Rattle.fmp_bytes.specs.Bytes.{is_of, pieces_of, space}
 use Rattle.fmp_bytes.proofs.Cutting.{pieces_of-join}
 use Rattle.fmp_names.specs.Names.{NameLists}
 use Rattle.fmp_search_question.specs.declared.fault.QuestionFault.{QuestionFault}
-use Rattle.fmp_search_question.specs.declared.question.Step.{Step}
-use Rattle.fmp_search_question.specs.Items.{Item}
+use Rattle.fmp_search_pattern.specs.declared.question.Step.{Step}
+use Rattle.fmp_search_pattern.specs.Items.{Item}
 use Rattle.fmp_search_question.specs.Reading.{Draft, after_word, ended, nothing_read, question_in, step_of, with_moment, with_part, with_pattern, with_step}
 use Rattle.fmp_law_questions.specs.Rows.{SpellsRow}
 use Rattle.fmp_law_questions.specs.Grammar.{Asks, SpellsMoment, SpellsStep, SpellsTimes, SpellsWithout, repeated}

@@ -7,11 +7,11 @@ use Rattle.std.proofs.lemmas.Bool.{and_from, and_parts}
 use Rattle.std.proofs.lemmas.List.Folds.{list_all-append}
 use Rattle.fmp_bytes.specs.Bytes.{pieces_of, space}
 use Rattle.fmp_names.specs.Names.{NameLists}
-use Rattle.fmp_search_question.specs.declared.spot.Spot.{Spot}
-use Rattle.fmp_search_question.specs.Items.{Item, wanted_by}
-use Rattle.fmp_search_question.specs.Reading.{Draft, longer, nothing_read, with_not, with_pattern, with_refused}
-use Rattle.fmp_search_question.specs.Spots.{is_number, may_follow, stepped}
-use Rattle.fmp_search_question.specs.Words.{star}
+use Rattle.fmp_search_words.specs.declared.spot.Spot.{Spot}
+use Rattle.fmp_search_pattern.specs.Items.{Item}
+use Rattle.fmp_search_question.specs.Reading.{Draft, longer, nothing_read, with_not, with_pattern, with_refused, wanted_by}
+use Rattle.fmp_search_words.specs.Spots.{is_number, may_follow, stepped}
+use Rattle.fmp_search_words.specs.Words.{star}
 use Rattle.fmp_law_questions.specs.Grammar.{Negated, SpellsItem, SpellsWanted, is_pattern_word, may_stand, placed, spaced}
 use Rattle.fmp_law_questions.proofs.Patterns.{longer-more, next_place, not_parts, one_parts, or_parts, other_wanted, placed_parts, some_length}
 use Rattle.fmp_law_questions.proofs.Taken.{behind_word, when_false, when_true}
@@ -98,7 +98,7 @@ pub record HasItem (names : NameLists) (words : List (List ℕ)) (d : Draft) : T
 pub no_item : (names : NameLists) (d : Draft) → d.negated ≡ false → d.pattern ≡ [] → d.spot ≡ nothing_read.spot → HasItem names [] d
 no_item names d negated pattern spot = record { rest = []; parts = sym (ap (λ (b : Bool). not_words b ++ []) negated); pattern = nothing refl pattern spot }
 
-negated_spelled : (Spells : List (List ℕ) → Type 0) (negated : Bool) (words rest : List (List ℕ)) → words ≡ not_words negated ++ rest → Spells rest
+pub negated_spelled : (Spells : List (List ℕ) → Type 0) (negated : Bool) (words rest : List (List ℕ)) → words ≡ not_words negated ++ rest → Spells rest
     → Negated Spells negated words
 negated_spelled Spells true words rest are s = (rest, are, s)
 negated_spelled Spells false words rest are s = subst Spells (sym are) s
@@ -121,7 +121,7 @@ item_spelled names words d e s is =
 
 -- ---- `not`, `refused`, and a word more
 
-empty_begun : (names : NameLists) (words : List (List ℕ)) (pattern : List ℕ) (place : Spot) → Begun names words pattern place → eqb (length pattern) 0 ≡ true
+pub empty_begun : (names : NameLists) (words : List (List ℕ)) (pattern : List ℕ) (place : Spot) → Begun names words pattern place → eqb (length pattern) 0 ≡ true
     → words ≡ []
 empty_begun names words pattern place (nothing none empty at) is = none
 empty_begun names words pattern place (refusal only text last) is = absurd (contrary (sym (ap (λ (p : List ℕ). eqb (length p) 0) text) ∙ is)) where

@@ -19,12 +19,12 @@ use Rattle.fmp_bytes.proofs.Spelled.{magnitude_of-small}
 use Rattle.fmp_bytes.proofs.Words.{is_word}
 use Rattle.fmp_names.specs.Names.{NameLists}
 use Rattle.fmp_names.proofs.Listed.{list_all-at}
-use Rattle.fmp_search_question.specs.declared.spot.Spot.{Spot}
-use Rattle.fmp_search_question.specs.declared.question.Step.{Step}
-use Rattle.fmp_search_question.specs.Forms.{spot_of}
+use Rattle.fmp_search_words.specs.declared.spot.Spot.{Spot}
+use Rattle.fmp_search_pattern.specs.declared.question.Step.{Step}
+use Rattle.fmp_search_words.specs.Forms.{spot_of}
 use Rattle.fmp_search_question.specs.Reading.{Draft, after_word, nothing_read, number_in, times_within, with_times}
-use Rattle.fmp_search_question.specs.Spots.{may_follow}
-use Rattle.fmp_search_question.specs.Words.{is_fine, is_outside, runs_of}
+use Rattle.fmp_search_words.specs.Spots.{may_follow}
+use Rattle.fmp_search_words.specs.Words.{is_fine, is_outside, runs_of}
 use Rattle.fmp_law_questions.specs.Grammar.{SpellsCount, is_pattern_word, own_words, spaced}
 use Rattle.fmp_law_questions.proofs.Steps.{fresh, led, led_first}
 use Rattle.fmp_law_questions.proofs.Patterns.{next_place, some_length, word_taken}

@@ -10,3 +10,7 @@ mod ReadSoFar  -- What was read of a question so far, and what one word more mak
 mod CountsRead  -- A number and `times` that are read are spelled.
 mod Moves  -- What one word more makes of what was read.
 mod ReadSteps  -- What is read is asked.
+mod LastingSteps  -- One word of a question of what stays for ever after the other, without the places of faults.
+mod LastingAsked  -- What is asked of what stays for ever is read.
+mod LastingTaken  -- What one word of a question of what stays for ever does, where it is not at fault.
+mod LastingRead  -- What is read of what stays for ever is asked.

@@ -9,12 +9,11 @@ use Rattle.std.proofs.lemmas.Bool.Decides.{nat_tests}
 use Rattle.fmp_bytes.specs.Bytes.{space, pieces_of}
 use Rattle.fmp_bytes.proofs.Words.{other_word, not_word}
 use Rattle.fmp_names.specs.Names.{NameLists}
-use Rattle.fmp_search_question.specs.declared.spot.Spot.{Spot}
-use Rattle.fmp_search_question.specs.Forms.{spot_of}
-use Rattle.fmp_search_question.specs.Items.{wanted_by}
-use Rattle.fmp_search_question.specs.Reading.{Draft, after_word, longer, with_word}
-use Rattle.fmp_search_question.specs.Spots.{stepped}
-use Rattle.fmp_search_question.specs.Words.{is_fine, is_printed, runs_of, star}
+use Rattle.fmp_search_words.specs.declared.spot.Spot.{Spot}
+use Rattle.fmp_search_words.specs.Forms.{spot_of}
+use Rattle.fmp_search_question.specs.Reading.{Draft, after_word, longer, with_word, wanted_by}
+use Rattle.fmp_search_words.specs.Spots.{stepped}
+use Rattle.fmp_search_words.specs.Words.{is_fine, is_printed, runs_of, star}
 use Rattle.fmp_law_questions.specs.Grammar.{is_pattern_word, own_words, placed, spaced}
 use Rattle.fmp_law_questions.proofs.Steps.{led, led_first}
 

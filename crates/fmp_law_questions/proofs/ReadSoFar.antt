@@ -2,8 +2,8 @@
 use Rattle.std.proofs.Common.{◌≡◌, ℕ, inl, inr, List, [], ◌∷◌, ◌++◌, Option, Some, None, refl, sym, ap, ◌∙◌, append_assoc, append-nil}
 use Rattle.std.specs.Prelude.{codes, replicate, unwrap_or}
 use Rattle.fmp_names.specs.Names.{NameLists}
-use Rattle.fmp_search_question.specs.declared.question.Step.{Step}
-use Rattle.fmp_search_question.specs.Items.{Item}
+use Rattle.fmp_search_pattern.specs.declared.question.Step.{Step}
+use Rattle.fmp_search_pattern.specs.Items.{Item}
 use Rattle.fmp_search_question.specs.Reading.{Draft, part_ended, step_of, with_part, with_pattern, with_read, with_step}
 use Rattle.fmp_law_questions.specs.Grammar.{SpellsCount, SpellsItem, SpellsMoment, SpellsPart, SpellsStep, SpellsTimes, repeated}
 use Rattle.fmp_law_questions.proofs.Closed.{Closed, closed_row}

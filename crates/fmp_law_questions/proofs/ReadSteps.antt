@@ -8,7 +8,7 @@ use Rattle.fmp_bytes.proofs.Cutting.{apart-pieces_of, join-pieces_of}
 use Rattle.fmp_names.specs.Names.{NameLists}
 use Rattle.fmp_search_question.specs.declared.fault.QuestionFault.{QuestionFault}
 use Rattle.fmp_search_question.specs.declared.fault.QuestionFault.TheVariants.{TooLong}
-use Rattle.fmp_search_question.specs.declared.question.Step.{Step}
+use Rattle.fmp_search_pattern.specs.declared.question.Step.{Step}
 use Rattle.fmp_search_question.specs.Reading.{Draft, after_words, at_place, ended, limited, nothing_read, or_form, question_in, result_then, with_step}
 use Rattle.fmp_law_questions.specs.Rows.{SpellsRow}
 use Rattle.fmp_law_questions.specs.Grammar.{Asks, AsksWords}

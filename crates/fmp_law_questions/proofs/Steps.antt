@@ -5,8 +5,8 @@ use Rattle.std.specs.List.{join_with_byte}
 use Rattle.fmp_bytes.specs.Bytes.{space}
 use Rattle.fmp_names.specs.Names.{NameLists}
 use Rattle.fmp_search_question.specs.declared.fault.QuestionFault.{QuestionFault}
-use Rattle.fmp_search_question.specs.declared.question.Step.{Step}
-use Rattle.fmp_search_question.specs.Items.{Item}
+use Rattle.fmp_search_pattern.specs.declared.question.Step.{Step}
+use Rattle.fmp_search_pattern.specs.Items.{Item}
 use Rattle.fmp_search_question.specs.Reading.{Draft, after_word, after_words, at_place, nothing_read, result_then}
 
 -- what was read, where it has no fault

@@ -7,14 +7,14 @@ use Rattle.std.specs.Str.Parse.{digits_value}
 use Rattle.fmp_bytes.specs.Bytes.{pieces_of, space}
 use Rattle.fmp_bytes.specs.Numerals.{are_digits}
 use Rattle.fmp_names.specs.Names.{NameLists}
-use Rattle.fmp_search_question.specs.declared.question.Step.{Step}
-use Rattle.fmp_search_question.specs.declared.spot.Spot.{Spot}
-use Rattle.fmp_search_question.specs.declared.spot.Spot.TheVariants.{Front}
-use Rattle.fmp_search_question.specs.Forms.{spot_of}
-use Rattle.fmp_search_question.specs.Items.{Item}
+use Rattle.fmp_search_pattern.specs.declared.question.Step.{Step}
+use Rattle.fmp_search_words.specs.declared.spot.Spot.{Spot}
+use Rattle.fmp_search_words.specs.declared.spot.Spot.TheVariants.{Front}
+use Rattle.fmp_search_words.specs.Forms.{spot_of}
+use Rattle.fmp_search_pattern.specs.Items.{Item}
 use Rattle.fmp_search_question.specs.Reading.{most_pattern, most_steps}
-use Rattle.fmp_search_question.specs.Spots.{is_number, stepped}
-use Rattle.fmp_search_question.specs.Words.{is_fine, is_printed, runs_of, star}
+use Rattle.fmp_search_words.specs.Spots.{is_number, stepped}
+use Rattle.fmp_search_words.specs.Words.{is_fine, is_printed, runs_of, star}
 use Rattle.fmp_law_questions.specs.Rows.{SpellsRow}
 
 -- the words that the language keeps for itself

@@ -4,9 +4,13 @@
 //! `not` and `refused`, and they make items, parts, moments and steps (`Asks` in `specs/Grammar`). It knows no reader and no fault.
 //!
 //! `asked_questions_are_read` and `read_questions_are_asked` are the two directions, and by `questions_ask_one_thing` a text asks
-//! at most one question.
+//! at most one question. `asked_for_ever_is_read`, `read_for_ever_is_asked` and `for_ever_asks_one_thing` say the same of questions of what stays
+//! for ever (`AsksForEver` in `specs/ForEver`).
 #![tactic(auto)]
 
 mod laws;
 
-pub use laws::{asked_questions_are_read, questions_ask_one_thing, read_questions_are_asked};
+pub use laws::{
+    asked_for_ever_is_read, asked_questions_are_read, for_ever_asks_one_thing,
+    questions_ask_one_thing, read_for_ever_is_asked, read_questions_are_asked,
+};

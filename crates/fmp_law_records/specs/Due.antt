@@ -31,7 +31,8 @@ is_at_end timer p told = counts_for timer p told.at && is_last told.left
 -- the handlers that a tick on p makes due there: the alarms and then the cyclic handlers, by number
 abbrev pub made_due : Setup → Proc → HandlersTold → List Runner
 made_due c p before =
-    map runner.Alarm (by_number c.alarms (λ a. is_at_end c.timer p (before.alarms a))) ++ map runner.Cyclic (by_number c.cyclics (λ o. is_at_end c.timer p (before.cyclics o)))
+    map runner.Alarm (by_number c.alarms (λ a. is_at_end c.timer p (before.alarms a)))
+    ++ map runner.Cyclic (by_number c.cyclics (λ o. is_at_end c.timer p (before.cyclics o)))
 
 -- a tick was taken on p
 abbrev pub ticks_on : Proc → Answer → Event → Bool

@@ -100,4 +100,5 @@ number_if false = pos 0
 
 -- where p is locked and disabled so before a record, who asks on p is told it
 abbrev pub TellsFlags : Proc → Bool → Bool → Record → Type 0
-TellsFlags p locked disabled r = (b : Bool) → is_accepted r.answer ≡ true → asked_of (call_on p r.event) locked disabled ≡ Some b → accepted_value r.answer ≡ Some (number_if b)
+TellsFlags p locked disabled r = (b : Bool) → is_accepted r.answer ≡ true → asked_of (call_on p r.event) locked disabled ≡ Some b
+    → accepted_value r.answer ≡ Some (number_if b)

@@ -54,7 +54,11 @@ pending_after p r held pending = if is_among p r.requests then true else if ends
 
 abbrev pub processor_after : Setup → Proc → Record → ProcessorTold → ProcessorTold
 processor_after c p r before =
-    let now : ProcessorTold = record before { handlers = handlers_after c p r before.handlers; locked = locked_after p r before.locked; disabled = disabled_after p r before.disabled } in
+    let now : ProcessorTold = record before {
+      handlers = handlers_after c p r before.handlers;
+      locked = locked_after p r before.locked;
+      disabled = disabled_after p r before.disabled;
+    } in
     record now { pending = pending_after p r (is_held_told now) before.pending }
 
 -- after these records of a run from boot

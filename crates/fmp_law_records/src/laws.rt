@@ -71,7 +71,8 @@ pub fn flags_are_told()
     ensures told { (c : Setup) (events : List Event) → IsValid c → AreOn c.processors events → (n : ℕ) (p : Proc)
         → AreFlagsTold (take n (answers numbered (booted c) events)) (replay numbered (booted c) (take n events)) p }
     ensures answered { (c : Setup) (events : List Event) → IsValid c → AreOn c.processors events → (event : Event) (p : Proc)
-        → TellsFlags p (locked_by p (answers numbered (booted c) events) false) (disabled_by p (answers numbered (booted c) events) false) (step numbered (replay numbered (booted c) events) event).1 }
+        → TellsFlags p (locked_by p (answers numbered (booted c) events) false) (disabled_by p (answers numbered (booted c) events) false)
+        (step numbered (replay numbered (booted c) events) event).1 }
 {}
 
 /// At every prefix of every list of events on the processors of a valid configuration, each spin lock is held by the processor that
@@ -117,7 +118,8 @@ pub fn handlers_due_are_told()
     ensures told { (c : Setup) (events : List Event) → IsValid c → AreOn c.processors events → (n : ℕ) (p : Proc) → p.number ≤ c.processors
         → AreDueTold c (take n (answers numbered (booted c) events)) (replay numbered (booted c) (take n events)) p }
     ensures runs { (c : Setup) (events : List Event) → IsValid c → AreOn c.processors events → (event : Event) → (processor_of event).number ≤ c.processors
-        → RunsFirst (handlers_by c (processor_of event) (answers numbered (booted c) events) (handlers_at_boot c)).due (step numbered (replay numbered (booted c) events) event).1.runner }
+        → RunsFirst (handlers_by c (processor_of event) (answers numbered (booted c) events) (handlers_at_boot c)).due
+        (step numbered (replay numbered (booted c) events) event).1.runner }
 {}
 
 /// At every prefix of every list of events on the processors of a valid configuration, a request is pending on each processor just

@@ -29,7 +29,8 @@ pub fn first_means_least()
     ensures top { (m : State) (p : Proc)
         → IsFirst (is_ready_on m.tasks p) (comes_before (priority_in m.tasks) m.order.ready) (length m.tasks) (ordering.top numbered m p) }
     ensures queue { (m : State) (kind : QueueKind) (o : Object)
-        → IsFirst (waits_at m kind o) (comes_before (rank_in (ordering.order_in m kind o) m.tasks) m.order.begun) (length m.tasks) (world.first (ordering.queue numbered m kind o)) }
+        → IsFirst (waits_at m kind o) (comes_before (rank_in (ordering.order_in m kind o) m.tasks) m.order.begun) (length m.tasks)
+        (world.first (ordering.queue numbered m kind o)) }
 {}
 
 /// The state at boot of a valid configuration is safe, each event on a processor of the machine leads from a safe state to

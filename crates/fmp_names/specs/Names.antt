@@ -1,6 +1,7 @@
 -- believed: see docs/PROOF.md, "What has to be believed"
 -- The names of a configuration, as lists in the order of their numbers.
-use Rattle.std.specs.Prelude.{◌≡◌, ℕ, ◌+◌, ◌-◌, ◌≤◌, ◌<◌, ◌^◌, ◌==◌, nat_lt, nat_le, All, Bool, true, false, not, ◌&&◌, ◌||◌, List, [], ◌∷◌, ◌++◌, length, map, position, Option, None, option_map, is_some, slice_get, slice_set, get_or, if◌then◌else◌, codes}
+use Rattle.std.specs.Prelude.{◌≡◌, ℕ, ◌+◌, ◌-◌, ◌≤◌, ◌<◌, ◌^◌, ◌==◌, nat_lt, nat_le, All, Bool, true, false, not, ◌&&◌, ◌||◌, List, [], ◌∷◌, ◌++◌, length, map, position}
+use Rattle.std.specs.Prelude.{Option, None, option_map, is_some, slice_get, slice_set, get_or, if◌then◌else◌, codes}
 use Rattle.std.specs.List.{list_all, list_any, sum_by}
 use Rattle.std.specs.Map.{keys_of, lookup}
 use Rattle.std.specs.Option.{option_map_or}
@@ -141,7 +142,12 @@ definitions table = map (λ e. (e.0.items, e.1)) table.entries
 
 -- the lists that tables of names hold
 abbrev pub lists_of : {S T : Type 0} → ℕ → List (IndexSet (Vec ℕ) S) → IndexSet (Vec ℕ) S → IndexMap (Vec ℕ) ℕ T → NameLists
-lists_of processors objects functions defined = record { processors = processors; objects = map texts objects; functions = texts functions; defined = definitions defined }
+lists_of processors objects functions defined = record {
+  processors = processors;
+  objects = map texts objects;
+  functions = texts functions;
+  defined = definitions defined;
+}
 
 -- no names yet
 abbrev pub no_names : ℕ → NameLists

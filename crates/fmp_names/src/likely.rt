@@ -1,13 +1,16 @@
 //! Guesses by the first bytes of a word: which call it may name, and which object of a kind. Nothing is said of a guess, since
 //! whoever asks for one compares the name. A word that is guessed wrong is only found more slowly.
-ghost use Rattle.std.specs.Prelude.{◌<◌};
+ghost use Rattle.std.specs.Prelude.{◌<◌, IfSome};
+ghost use Rattle.fmp_calls.specs.Known.{IsKnown};
 
-use fmp_calls::{BUFFER_CALLS, SPIN_CALLS, SYNC_CALLS, SYSTEM_CALLS, TASK_CALLS, TIME_CALLS, form};
-use fmp_codes::Call;
+use fmp_calls::{KnownCall, call_at};
 use std::alloc::{AllocError, Global};
 
 /// How many slots there are for the calls, and for the objects of each kind.
 const SLOTS: usize = 512;
+
+/// At this place of the table there is no call.
+const NO_CALL: u8 = 255;
 
 /// How many kinds of objects there are.
 const KINDS: usize = 8;
@@ -15,8 +18,8 @@ const KINDS: usize = 8;
 /// What a word with a key may name.
 #[derive(Drop)]
 pub struct Likely {
-    /// For each slot a call, or the return of a handler where there is none. Nothing before the first name is added.
-    calls: Vec<Call>,
+    /// For each slot the place of a call in the table of the calls, or 255. Nothing before the first name is added.
+    calls: Vec<u8>,
     /// For each kind of objects, and in that for each slot, the number of an object or 0. Nothing before the first name is added.
     objects: Vec<u8>,
 }
@@ -55,18 +58,6 @@ pub fn word_key(bytes: &[u8]) -> u64 {
     }
 }
 
-/// Writes each call of a family into the slot of its name.
-macro_rules! remember {
-    ($calls:expr, $family:path, $all:expr) => {
-        for call in $all {
-            let call = $family(*call);
-            if let Some(place) = $calls.get_mut(slot_of(word_key(form(call).text))) {
-                *place = call;
-            }
-        }
-    };
-}
-
 impl Likely {
     /// No names yet. It takes no memory.
     pub fn new(alloc: Global) -> Likely {
@@ -79,23 +70,29 @@ impl Likely {
     /// The names of the calls, and no objects.
     fn fill(&mut self) -> Result<(), AllocError> {
         self.objects.resize(KINDS * SLOTS, 0)?;
-        self.calls.resize(SLOTS, Call::RetHdr)?;
-        remember!(self.calls, Call::Task, TASK_CALLS);
-        remember!(self.calls, Call::Sync, SYNC_CALLS);
-        remember!(self.calls, Call::Buffer, BUFFER_CALLS);
-        remember!(self.calls, Call::Time, TIME_CALLS);
-        remember!(self.calls, Call::System, SYSTEM_CALLS);
-        remember!(self.calls, Call::Spin, SPIN_CALLS);
+        self.calls.resize(SLOTS, NO_CALL)?;
+        for place in 0..NO_CALL {
+            self.remember(place);
+        }
         Ok(())
+    }
+
+    /// Writes the place of a call, where there is one, into the slot of its name.
+    fn remember(&mut self, place: u8) {
+        if let Some(known) = call_at(place) {
+            let slot = slot_of(word_key(known.form.text));
+            if let Some(kept) = self.calls.get_mut(slot) {
+                *kept = place;
+            }
+        }
     }
 
     /// The call that a word with this key may name.
     #[inline(always)]
-    pub fn call(&self, key: u64) -> Call {
-        self.calls
-            .get(slot_of(key))
-            .copied()
-            .unwrap_or(Call::RetHdr)
+    pub fn call(&self, key: u64) -> Option<&'static KnownCall>
+        ensures { IfSome result (λ known. IsKnown known.now) }
+    {
+        call_at(*self.calls.get(slot_of(key))?)
     }
 
     /// The numbers of two objects of the kind at this place that a word with this key may name, the likelier first.

@@ -1,18 +1,20 @@
 //! The names of a configuration.
-ghost use Rattle.std.specs.Prelude.{◌≡◌, ◌≤◌, ◌++◌, ◌∷◌, [], ◌<◌, map, get_or, slice_set, OnOk, OnErr, IfSome, slice_get, option_map, pos, true, false, IsTrue, ◌↔◌};
+ghost use Rattle.std.specs.Prelude.{◌≡◌, ◌≤◌, ◌++◌, ◌∷◌, [], ◌<◌, map, get_or, slice_set, OnOk, OnErr, IfSome, Some, slice_get, take, option_map, pos, true, false};
+ghost use Rattle.std.specs.Prelude.{IsTrue, ◌↔◌};
 ghost use Rattle.std.specs.Option.{option_copied};
 ghost use Rattle.std.specs.List.{list_any};
 ghost use Rattle.std.specs.Map.{keys_of};
 ghost use Rattle.indexmap.specs.IndexSet.{index_set_len};
 ghost use Rattle.fmp_calls.specs.declared.kinds.ObjectKind.{ObjectKind};
 ghost use Rattle.fmp_calls.specs.Kinds.{most_of};
+ghost use Rattle.fmp_calls.specs.Known.{IsKnown};
 ghost use Rattle.fmp_names.specs.Names as spec;
 
 use crate::constants::constant_in;
 use crate::likely::Likely;
+use crate::pieces::{Piece, Pieces};
 use fmp_bytes::{are_digits, behind, is_identifier};
-use fmp_calls::{NameKind, ObjectKind};
-use fmp_codes::Call;
+use fmp_calls::{KnownCall, NameKind, ObjectKind};
 use indexmap::{IndexMap, IndexSet};
 use std::alloc::{AllocError, Global};
 use std::marker::Model;
@@ -35,16 +37,20 @@ pub struct Names {
     defined: IndexMap<Vec<u8>, u32>,
     /// What words may name, for readers that compare a name before they believe it.
     likely: Likely,
+    /// The short names of objects, for printing.
+    pieces: Pieces,
 }
 
 impl Model for Names {
-    ghost use Rattle.fmp_names.specs.Names.{NameLists, AreValid, lists_of};
+    ghost use Rattle.std.specs.Prelude.{map};
+    ghost use Rattle.fmp_names.specs.Names.{NameLists, AreValid, lists_of, texts};
+    ghost use Rattle.fmp_names.specs.Pieces.{AreFronts};
 
     ghost Value = { NameLists };
 
     ghost view = { λ n. lists_of n.processors n.objects n.functions n.defined };
 
-    ghost invariant = { λ n. AreValid (lists_of n.processors n.objects n.functions n.defined) };
+    ghost invariant = { λ n. AreValid (lists_of n.processors n.objects n.functions n.defined) × AreFronts (map texts n.objects) n.pieces.pieces.items };
 }
 
 /// Whether the text can be a name: an identifier of at most 64 bytes.
@@ -115,7 +121,8 @@ fn insert_object(
 ) -> Result<(), AllocError>
     requires within { place < 8 }
     requires new { spec.has_name (get_or (map spec.texts objects.old) place []) name.items ≡ false }
-    ensures ok { OnOk result (map spec.texts objects.new ≡ slice_set (map spec.texts objects.old) place (get_or (map spec.texts objects.old) place [] ++ name.items ∷ [])) }
+    ensures ok { OnOk result (map spec.texts objects.new ≡ slice_set (map spec.texts objects.old) place (get_or (map spec.texts objects.old) place [] ++ name.items
+        ∷ [])) }
     ensures err { OnErr result (map spec.texts objects.new ≡ map spec.texts objects.old) }
 {
     insert_name(&mut objects[place], name)
@@ -195,6 +202,7 @@ impl Names {
             functions: IndexSet::new(alloc),
             defined: IndexMap::new(alloc),
             likely: Likely::new(alloc),
+            pieces: Pieces::new(alloc),
         }
     }
 
@@ -226,8 +234,13 @@ impl Names {
         let copy = Vec::from_slice(self.alloc, name)?;
         match kind {
             NameKind::Object(kind) => {
+                let place = kind.place();
+                let number = self.objects[place].len() + 1;
+                self.pieces.prepare()?;
                 remember(&mut self.likely, &self.objects, kind, name)?;
-                insert_object(&mut self.objects, kind.place(), copy)
+                insert_object(&mut self.objects, place, copy)?;
+                self.pieces.set(place, number, name);
+                Ok(())
             }
             NameKind::Function => insert_name(&mut self.functions, copy),
         }
@@ -334,9 +347,11 @@ impl Names {
         Some(number as i32)
     }
 
-    /// A call that a word with this key may name. Nothing is said of it: the caller compares the name.
+    /// A call that a word with this key may name. Nothing is said of which one it is: the caller compares the name.
     #[inline(always)]
-    pub fn likely_call(&self, key: u64) -> Call {
+    pub fn likely_call(&self, key: u64) -> Option<&'static KnownCall>
+        ensures { IfSome result (λ known. IsKnown known.now) }
+    {
         self.likely.call(key)
     }
 
@@ -345,6 +360,16 @@ impl Names {
     #[inline(always)]
     pub fn likely_objects(&self, kind: ObjectKind, key: u64) -> (u8, u8) {
         self.likely.objects(kind.place(), key)
+    }
+
+    /// The name of the object of this kind with this number as a piece, where it has at most 16 bytes.
+    #[inline(always)]
+    pub fn piece(&self, kind: ObjectKind, number: usize) -> Option<&Piece>
+        requires { number < 128 }
+        ensures few { IfSome result (λ p. p.now.length ≤ 16) }
+        ensures name { IfSome result (λ p. spec.name_of self.now (NameKind.Object kind) number ≡ Some (take p.now.length p.now.bytes)) }
+    {
+        self.pieces.get(kind.place(), number)
     }
 
     /// The name of the kind with this number.

@@ -47,6 +47,10 @@ stands_not_ahead : (a i m b j k : ℕ) → (comes a i b j || (not (comes b j a i
 unfolding Stands comes
 stands_not_ahead a i m b j k x = grind arith
 
+left_true : (b c : Bool) → (b && c) ≡ true → b ≡ true
+left_true true c both = refl
+left_true false c both = both
+
 clash : (b : Bool) → b ≡ true → b ≡ false → ⊥
 clash b x y = grind (arith, x, y)
 
@@ -177,6 +181,20 @@ module _ (rank : Task → ℕ) (ns : List ℕ) where
   least_same q n (Some u) None x y = absurd (clash (q u) x.1.0 (y u x.0))
   least_same q n (Some u) (Some v) x y =
       ap Some (tasks_same u v (stands_both (rank u) (item 0 ns u.number) u.number (rank v) (item 0 ns v.number) v.number (x.1.1 v y.0 y.1.0) (y.1.1 u x.0 x.1.0)))
+
+  -- the first of those that qualify is the first of those that pass a test besides, where it passes it
+  least_among : (q test : Task → Bool) (n : ℕ) (u : Task) → test u ≡ true → IsLeast q n (Some u) → IsLeast (λ t. q t && test t) n (Some u)
+  unfolding IsLeast
+  least_among q test n u passes least = (
+    least.0,
+    (rw (least.1.0, passes) refl, λ v most in_it. least.1.1 v most (left_true (q v) (test v) in_it)),
+  )
+
+  pub first_among : (q test : Task → Bool) (n : ℕ) (u : Task) → n ≤ 64 → first (in_order q (comes_before rank ns) n) ≡ Some u → test u ≡ true
+      → first (in_order (λ t. q t && test t) (comes_before rank ns) n) ≡ Some u
+  first_among q test n u few is passes =
+      least_same (λ t. q t && test t) n _ (Some u) (least_first (λ t. q t && test t) n few)
+      (least_among q test n u passes (subst (λ (o : Option Task). IsLeast q n o) is (least_first q n few)))
 
 -- what a task says of its place
 unfoldable pub Alike : (rank rank' : Task → ℕ) (ns ns' : List ℕ) (q q' : Task → Bool) → Task → Type 0

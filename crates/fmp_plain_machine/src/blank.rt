@@ -2,6 +2,7 @@
 ghost use Rattle.std.specs.Prelude.{◌≡◌, ◌≤◌, [], IfOk, replicate};
 ghost use Rattle.fmp_rules.specs.Boot.{blank, unnumbered};
 
+use crate::counts::Counts;
 use crate::due::Due;
 use crate::handlers::Handlers;
 use crate::kept::{copies, each};
@@ -35,7 +36,7 @@ impl PlainMachine {
         let limits = config.limits();
         Ok(PlainMachine {
             tasks: Tasks::of(config.tasks()),
-            waits_left: each(config.tasks()),
+            waits_left: Counts::new(each(config.tasks())),
             processors: copies(usize::from(config.processors()), Processor::default()),
             due: nothing_due(config.processors()),
             resources,

@@ -1,6 +1,6 @@
 //! Counts of ticks.
-ghost use Rattle.std.specs.Prelude.{◌≡◌, ◌≤◌, None, length, map, filter, slice_index_or, slice_set};
-ghost use Rattle.std.specs.List.{range_with_len};
+ghost use Rattle.std.specs.Prelude.{◌≡◌, ◌≤◌, false, None, length, map, filter, slice_index_or, slice_set};
+ghost use Rattle.std.specs.List.{range_with_len, list_any};
 ghost use Rattle.fmp_codes.specs.Numbers.{as_object};
 ghost use Rattle.fmp_setup.specs.Setup.{counts_for};
 ghost use Rattle.fmp_rules.specs.World.{item};
@@ -9,6 +9,7 @@ ghost use Rattle.fmp_rules.specs.Tick.{is_over, one_less, lowered};
 use arrayvec::ArrayVec;
 use fmp_codes::{Object, Proc};
 use fmp_rules::{Alarm, Cyclic, TaskRecord, Timer};
+use std::marker::Model;
 
 /// What is assigned to a processor.
 pub(crate) trait Assigned {
@@ -65,13 +66,84 @@ fn one_less(left: Option<u64>) -> Option<u64>
     }
 }
 
-/// Lowers the count at a place, if there is one.
-fn lower_at<const N: usize>(counts: &mut ArrayVec<Option<u64>, N>, index: usize)
-    ensures { counts.new.items ≡ slice_set counts.old.items index (one_less (slice_index_or counts.old.items index None)) }
-{
-    if let Some(left) = counts.get_mut(index) {
-        *left = one_less(*left);
+/// Counts of ticks, at most N, and whether one of them may be 0.
+#[derive(Drop)]
+pub(crate) struct Counts<const N: usize> {
+    left: ArrayVec<Option<u64>, N>,
+    may_be_over: bool,
+}
+
+impl<const N: usize> Model for Counts<N> {
+    ghost use Rattle.std.specs.Prelude.{◌≡◌, ℕ, false, List, Option};
+    ghost use Rattle.std.specs.List.{list_any};
+    ghost use Rattle.fmp_rules.specs.Tick.{is_over};
+
+    ghost Value = { List (Option ℕ) };
+
+    ghost view = { λ a. a.left.items };
+
+    ghost invariant = { λ a. a.may_be_over ≡ false → list_any is_over a.left.items ≡ false };
+}
+
+impl<const N: usize> Counts<N> {
+    /// These counts.
+    pub(crate) fn new(left: ArrayVec<Option<u64>, N>) -> Self
+        ensures { result ≡ left.entry.items }
+    {
+        Counts {
+            left,
+            may_be_over: true,
+        }
     }
+
+    /// The counts in their order.
+    pub(crate) fn as_slice(&self) -> &[Option<u64>]
+        ensures value { result.now ≡ self.now }
+        ensures few { length result.now ≤ N }
+    {
+        self.left.as_slice()
+    }
+
+    /// The count at a place, or none where there is no such place.
+    pub(crate) fn at(&self, index: usize) -> Option<u64>
+        ensures { result ≡ slice_index_or self.now index None }
+    {
+        self.left.as_slice().get(index).copied().flatten()
+    }
+
+    /// Whether one of them may be 0. They are looked at only where one became 0 since they were looked at last.
+    pub(crate) fn may_be_over(&self) -> bool
+        ensures { result ≡ false → list_any is_over self.now ≡ false }
+    {
+        self.may_be_over
+    }
+
+    /// Changes the count at a place, if there is one.
+    #[tactic(auto, using(crate::proofs::Over::none_set))]
+    pub(crate) fn set(&mut self, index: usize, left: Option<u64>)
+        ensures { self.new ≡ slice_set self.old index left }
+    {
+        if let Some(place) = self.left.get_mut(index) {
+            *place = left;
+        }
+        self.may_be_over = self.may_be_over || is_over(left);
+    }
+
+    /// Looks at all counts, where one may be 0.
+    fn look(&mut self)
+        ensures { self.new ≡ self.old }
+    {
+        if self.may_be_over {
+            self.may_be_over = any_over(self.left.as_slice());
+        }
+    }
+}
+
+/// Lowers the count at a place, if there is one.
+fn lower_at<const N: usize>(counts: &mut Counts<N>, index: usize)
+    ensures { counts.new ≡ slice_set counts.old index (one_less (slice_index_or counts.old index None)) }
+{
+    counts.set(index, one_less(counts.at(index)));
 }
 
 /// Lowers the counts of what a tick on a processor counts for.
@@ -79,10 +151,11 @@ pub(crate) fn lower<T: Assigned, const N: usize>(
     timer: Timer,
     p: Proc,
     items: &[T],
-    counts: &mut ArrayVec<Option<u64>, N>,
+    counts: &mut Counts<N>,
 )
-    ensures { counts.new.items ≡ lowered (λ x. counts_for timer p (T.assigned x)) items.now counts.old.items }
+    ensures { counts.new ≡ lowered (λ x. counts_for timer p (T.assigned x)) items.now counts.old }
 {
+    counts.look();
     for (index, item) in items.iter().enumerate() {
         if counts_for(timer, p, item.assigned()) {
             lower_at(counts, index);
@@ -98,6 +171,13 @@ pub(crate) fn is_over(left: Option<u64>) -> bool
         None => false,
         Some(ticks) => ticks == 0,
     }
+}
+
+/// Whether any of the counts is 0.
+fn any_over(counts: &[Option<u64>]) -> bool
+    ensures { result ≡ list_any is_over counts.now }
+{
+    counts.iter().any(|left| is_over(*left))
 }
 
 /// Those of so many objects whose ticks left are 0, in the order of their numbers.

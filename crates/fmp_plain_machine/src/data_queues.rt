@@ -39,7 +39,10 @@ fn drop_at(queues: &mut Vec<DataQueue>, index: usize)
 /// Adds a value behind the others of the data queue at a place.
 fn add_at(queues: &mut Vec<DataQueue>, index: usize, value: i64)
     requires { let q = slice_index_or queues.old.items index no_queue in length q.values < q.setup.capacity }
-    ensures { let q = slice_index_or queues.old.items index no_queue in queues.new.items ≡ slice_set queues.old.items index (record q { values = q.values ++ value ∷ [] }) }
+    ensures { let q = slice_index_or queues.old.items index no_queue in queues.new.items ≡ slice_set queues.old.items index (record q {
+      values = q.values ++ value
+          ∷ [];
+    }) }
 {
     if let Some(queue) = queues.get_mut(index) {
         queue.add(value);

@@ -1,4 +1,5 @@
 //! The state of the machine. Where there is none of a number, a read gives a blank record and a write does nothing.
+use crate::counts::Counts;
 use crate::due::Due;
 use crate::handlers::Handlers;
 use crate::resources::Resources;
@@ -12,7 +13,7 @@ use std::marker::Model;
 #[derive(Drop)]
 pub struct PlainMachine {
     pub(crate) tasks: Tasks,
-    pub(crate) waits_left: ArrayVec<Option<u64>, 64>,
+    pub(crate) waits_left: Counts<64>,
     pub(crate) processors: ArrayVec<Processor, 8>,
     pub(crate) due: ArrayVec<Due, 8>,
     pub(crate) resources: Resources,
@@ -31,5 +32,23 @@ impl Model for PlainMachine {
 
     ghost Value = { State };
 
-    ghost view = { λ a. record { timer = a.handlers.timer; limits = record { wakeups = a.most_wakeups; priorities = a.last_priority.number }; tasks = a.tasks.records; waits_left = a.waits_left.items; processors = a.processors.items; due = a.due.items; semaphores = a.resources.semaphores.items; eventflags = a.resources.eventflags.items; data_queues = a.resources.data_queues.setups; contents = a.resources.data_queues.contents; pools = a.resources.pools.items; cyclics = a.handlers.cyclics.items; cyclics_left = a.handlers.cyclics_left.items; alarms = a.handlers.alarms.items; alarms_left = a.handlers.alarms_left.items; holders = a.resources.holders.items; order = record { ready = a.tasks.ready; begun = a.begun.items; next = a.next } } };
+    ghost view = { λ a. record {
+      timer = a.handlers.timer;
+      limits = record { wakeups = a.most_wakeups; priorities = a.last_priority.number };
+      tasks = a.tasks.records;
+      waits_left = a.waits_left;
+      processors = a.processors.items;
+      due = a.due.items;
+      semaphores = a.resources.semaphores.items;
+      eventflags = a.resources.eventflags.items;
+      data_queues = a.resources.data_queues.setups;
+      contents = a.resources.data_queues.contents;
+      pools = a.resources.pools.items;
+      cyclics = a.handlers.cyclics.items;
+      cyclics_left = a.handlers.cyclics_left;
+      alarms = a.handlers.alarms.items;
+      alarms_left = a.handlers.alarms_left;
+      holders = a.resources.holders.items;
+      order = record { ready = a.tasks.ready; begun = a.begun.items; next = a.next };
+    } };
 }

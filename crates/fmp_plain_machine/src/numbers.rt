@@ -36,15 +36,18 @@ impl PlainMachine {
     pub(crate) fn set_wait_left(&mut self, t: Task, left: Option<u64>)
         ensures { self.new ≡ record self.old { waits_left = with_item self.old.waits_left t.number left } }
     {
-        if let Some(place) = self.waits_left.get_mut(t.index()) {
-            *place = left;
-        }
+        self.waits_left.set(t.index(), left);
     }
 
     /// Gives a wait of a task the next number, so that it is the last in its queue and of the timed waits.
     pub(crate) fn join(&mut self, t: Task)
         requires { self.old.order.next + 1 < 2 ^ 64 }
-        ensures { self.new ≡ record self.old { order = record self.old.order { begun = with_item self.old.order.begun t.number self.old.order.next; next = self.old.order.next + 1 } } }
+        ensures { self.new ≡ record self.old {
+          order = record self.old.order {
+            begun = with_item self.old.order.begun t.number self.old.order.next;
+            next = self.old.order.next + 1;
+          };
+        } }
     {
         let number = self.take_number();
         if let Some(place) = self.begun.get_mut(t.index()) {

@@ -119,9 +119,7 @@ impl Objects for PlainMachine {
     }
 
     fn set_cyclic_left(&mut self, c: Object, left: Option<u64>) {
-        if let Some(place) = self.handlers.cyclics_left.get_mut(c.index()) {
-            *place = left;
-        }
+        self.handlers.cyclics_left.set(c.index(), left);
     }
 
     fn assign_cyclic(&mut self, c: Object, p: Proc) {
@@ -140,9 +138,7 @@ impl Objects for PlainMachine {
     }
 
     fn set_alarm_left(&mut self, a: Object, left: Option<u64>) {
-        if let Some(place) = self.handlers.alarms_left.get_mut(a.index()) {
-            *place = left;
-        }
+        self.handlers.alarms_left.set(a.index(), left);
     }
 
     fn assign_alarm(&mut self, a: Object, p: Proc) {

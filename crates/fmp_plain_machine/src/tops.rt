@@ -273,7 +273,8 @@ impl Tasks {
 
     /// The priority of a task.
     pub(crate) fn priority(&self, t: Task) -> u8
-        ensures { result ≡ priority_in self.now.records t }
+        ensures priority { result ≡ priority_in self.now.records t }
+        ensures few { length self.now.records ≤ 64 }
     {
         priority_of(self.records.as_slice(), t)
     }

@@ -88,9 +88,13 @@ impl Words for PlainMachine {
         self.tasks.top(p)
     }
 
+    // What comes first on the processor is the first of its priority, too.
     #[tactic(auto, unfolding(fmp_rules::specs::Arrivals::numbered))]
     fn first_ready(&self, p: Proc, priority: Pri) -> Option<Task> {
-        self.first_of(Group::ReadyAt(p, priority))
+        match self.tasks.top(p) {
+            Some(t) if self.tasks.priority(t) == priority.number => Some(t),
+            _ => self.first_of(Group::ReadyAt(p, priority)),
+        }
     }
 
     fn limits(&self) -> Limits {
@@ -165,8 +169,8 @@ impl Overview for PlainMachine {
         each_top(self)
     }
 
-    // The plain machine looks at all that counts.
+    #[tactic(auto, using(crate::proofs::Over::no_task_over, crate::proofs::Over::no_object_over))]
     fn may_have_expired(&self) -> bool {
-        true
+        self.waits_left.may_be_over() || self.handlers.may_be_over()
     }
 }

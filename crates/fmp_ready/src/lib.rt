@@ -25,7 +25,7 @@ use fmp_kernel_links::Links;
 use fmp_kernel_parts::{Digest, Part};
 use std::marker::Model;
 
-/// A list of tasks for each processor and priority. No task stands in two lists.
+/// A list of tasks for each processor and priority. No task stands in two lists. In TOPPERS/FMP: ready_queue of each PCB.
 #[derive(Drop)]
 pub struct ReadyQueues {
     links: Links<320, 64>,
@@ -90,7 +90,7 @@ impl ReadyQueues {
         }
     }
 
-    /// The first task of a list becomes its last.
+    /// The first task of a list becomes its last. In TOPPERS/FMP: rotate_ready_queue.
     pub fn rotate(&mut self, processor: Proc, priority: Pri)
         ensures { let i = list_number processor priority in self.new ≡ record self.old { lists = slice_set self.old.lists i (rotated (queue_at self.old.lists i)) } }
     {
@@ -99,7 +99,7 @@ impl ReadyQueues {
         find_top(&mut self.tops, &self.words, &self.links, list / 32);
     }
 
-    /// The first task of a processor, by priority and then by place.
+    /// The first task of a processor, by priority and then by place. In TOPPERS/FMP: search_schedtsk.
     pub fn top(&self, processor: Proc) -> Option<Task>
         ensures { result ≡ top_of self.now.lists processor }
     {
@@ -141,7 +141,7 @@ impl ReadyQueues {
         tasks
     }
 
-    /// A bit for each priority of a processor, the lowest for the highest, set where that list is not empty.
+    /// A bit for each priority of a processor, the lowest for the highest, set where that list is not empty. In TOPPERS/FMP: ready_primap.
     pub fn word(&self, processor: Proc) -> u32
         ensures { (priority : AnyPri) → bit_at result (priority.number - 1) ≡ bit_of (queue_at self.now.lists (list_number processor priority)) }
     {

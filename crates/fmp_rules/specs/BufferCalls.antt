@@ -1,6 +1,7 @@
 -- believed: see docs/PROOF.md, "What has to be believed"
 -- The calls on data queues and pools.
-use Rattle.std.specs.Prelude.{ℕ, ℤ, pos, negsuc, ◌||◌, not, Bool, true, false, Option, None, Some, List, [], ◌∷◌, ◌++◌, ◌==◌, nat_lt, if◌then◌else◌, length, take, slice_set, slice_index_or, unwrap_or, is_some, is_none}
+use Rattle.std.specs.Prelude.{ℕ, ℤ, pos, negsuc, ◌||◌, not, Bool, true, false, Option, None, Some, List, [], ◌∷◌, ◌++◌, ◌==◌, nat_lt, if◌then◌else◌, length, take}
+use Rattle.std.specs.Prelude.{slice_set, slice_index_or, unwrap_or, is_some, is_none}
 use Rattle.fmp_codes.specs.Numbers.{as_object}
 use Rattle.fmp_codes.specs.declared.numbers.Proc.{Proc}
 use Rattle.fmp_codes.specs.declared.numbers.Task.{Task}

@@ -16,6 +16,7 @@ pub mod SpinCalls  -- The calls on spin locks, and the return of a handler.
 pub mod Tick  -- A tick: the counts fall, and what reaches 0 is served.
 pub mod Step  -- One step of the machine, and runs.
 pub mod Boot  -- The state at boot.
+pub mod Telling  -- How a record tells an effect, and the parts of which the code makes one.
 pub mod Outcomes  -- How the code of a call answers: with an effect, or with the code that refuses the call.
 pub mod Due  -- The least ticks left for which a tick on a processor counts.
 pub mod TaskStates  -- What the state of a task is called.

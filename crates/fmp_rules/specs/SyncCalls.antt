@@ -1,6 +1,7 @@
 -- believed: see docs/PROOF.md, "What has to be believed"
 -- The calls on semaphores and eventflags.
-use Rattle.std.specs.Prelude.{ℕ, ℤ, pos, ◌+◌, ◌-◌, ◌&&◌, not, Bool, false, Option, None, Some, List, [], ◌∷◌, ◌==◌, nat_lt, nat_le, if◌then◌else◌, is_some, is_none, bit_and, bit_or}
+use Rattle.std.specs.Prelude.{ℕ, ℤ, pos, ◌+◌, ◌-◌, ◌&&◌, not, Bool, false, Option, None, Some, List, [], ◌∷◌, ◌==◌, nat_lt, nat_le, if◌then◌else◌, is_some, is_none}
+use Rattle.std.specs.Prelude.{bit_and, bit_or}
 use Rattle.fmp_codes.specs.declared.numbers.Proc.{Proc}
 use Rattle.fmp_codes.specs.declared.numbers.Task.{Task}
 use Rattle.fmp_codes.specs.declared.numbers.Object.{Object}

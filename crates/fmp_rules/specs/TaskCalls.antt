@@ -14,7 +14,8 @@ use Rattle.fmp_rules.specs.World.{World, task}
 use Rattle.fmp_rules.specs.Ordering.{Ordering, with_task, place, begin_wait}
 use Rattle.fmp_rules.specs.Tasks.{activate, finish, migrate, change_priority}
 use Rattle.fmp_rules.specs.Rows.{Row, row, on_task, no_errors, in_handler, when_locked, unheld_if, waiting, at_processor, done_or_wait, release, done, with_value, plain}
-use Rattle.fmp_rules.specs.Arguments.{task_named, task_or_caller, class_of, processor_or_initial, caller, is_caller, priority_or, is_priority_or_zero, is_time, forever, ticks_of}
+use Rattle.fmp_rules.specs.Arguments.{task_named, task_or_caller, class_of, processor_or_initial, caller, is_caller, priority_or, is_priority_or_zero, is_time, forever}
+use Rattle.fmp_rules.specs.Arguments.{ticks_of}
 use Rattle.fmp_rules.specs.Processors.{opened}
 
 abbrev pub is_sleep : Option Wait → Bool

@@ -76,7 +76,8 @@ module _ {Q : Type 0} where
   cyclics_due w p (c ∷ others) =
       cyclics_due (with_cyclic_left (with_due w p (runner.Cyclic c)) c (Some (cyclic w c).setup.period)) p others
 
-  -- the alarms whose time is over become due on p, and then the cyclic handlers: they are assigned to it, since no other count fell (under a global timer all are the master's)
+  -- the alarms whose time is over become due on p, and then the cyclic handlers: they are assigned to it, since no other count fell (under a global
+  -- timer all are the master's)
   unfoldable pub with_handlers_due : World Q → Proc → World Q
   with_handlers_due w p = cyclics_due (alarms_due w p (expired w.alarms_left w.alarms)) p (expired w.cyclics_left w.cyclics)
 

@@ -50,12 +50,13 @@ pub struct TaskRecord {
 /// A processor.
 #[derive(Clone, Copy)]
 pub struct Processor {
+    /// The task that it runs. In TOPPERS/FMP: p_runtsk.
     pub running: Option<Task>,
     /// It is in the CPU-locked state.
     pub locked: bool,
-    /// Its dispatching is disabled.
+    /// Its dispatching is disabled. In TOPPERS/FMP: not dspflg.
     pub disabled: bool,
-    /// A request to it is pending.
+    /// A request to it is pending. In TOPPERS/FMP: the interrupt of a dispatch request, and reqflg.
     pub latch: bool,
 }
 

@@ -1,5 +1,6 @@
 -- What devices do.
-use Rattle.std.specs.Prelude.{◌≡◌, ◌≤◌, ℕ, zero, suc, Bool, true, false, List, [], ◌++◌, ◌==◌, ◌&&◌, nat_lt, length, take, is_some, IsTrue, Option, None, Some, Result, Ok, Err}
+use Rattle.std.specs.Prelude.{◌≡◌, ◌≤◌, ℕ, zero, suc, Bool, true, false, List, [], ◌++◌, ◌==◌, ◌&&◌, nat_lt, length, take, is_some, IsTrue, Option, None, Some, Result}
+use Rattle.std.specs.Prelude.{Ok, Err}
 use Rattle.fmp_run_devices.specs.declared.whole.ReadFault.{ReadFault}
 use Rattle.fmp_run_devices.specs.declared.whole.ReadFault.TheVariants.{Failed, Memory}
 

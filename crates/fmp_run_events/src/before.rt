@@ -55,7 +55,8 @@ pub(crate) fn put_state_before(
     trace: &[u8],
     n: u32,
 ) -> Result<(), AllocError>
-    ensures { (records : List AnyRecord) → PrintsWithin config.now.names trace.now records → OnOk result (out.new.items ≡ out.old.items ++ spec.state_before config.now records n) }
+    ensures { (records : List AnyRecord) → PrintsWithin config.now.names trace.now records
+        → OnOk result (out.new.items ≡ out.old.items ++ spec.state_before config.now records n) }
 {
     let names = config.names();
     names.validity();

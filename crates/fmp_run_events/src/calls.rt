@@ -11,7 +11,8 @@ ghost use Rattle.fmp_run_stream.specs.Details.{detail_of};
 ghost use Rattle.fmp_run_devices.specs.Devices.{IsKnown, bytes_of};
 ghost use Rattle.fmp_run_texts.specs.Faults.{failed_read, failed_write, is_config, is_thread_fault};
 ghost use Rattle.fmp_run_texts.specs.Texts.{CountsReads, FirstConfigFault, FlushFails, SaysConfig};
-ghost use Rattle.fmp_run_stream.specs.Runs.{FirstEventFault, FirstTextFault, HasShortLines, IsAnswered, IsNoFaultOfText, IsPrefix, IsPrefixOut, IsWantOfMemory, IsWritten, LeavesOut, LeavesWritten, trace_of};
+ghost use Rattle.fmp_run_stream.specs.Runs.{FirstEventFault, FirstTextFault, HasShortLines, IsAnswered, IsNoFaultOfText, IsPrefix, IsPrefixOut, IsWantOfMemory};
+ghost use Rattle.fmp_run_stream.specs.Runs.{IsWritten, LeavesOut, LeavesWritten, trace_of};
 ghost use Rattle.fmp_run_stream.specs.Streams.{IsAllOut, Leaves, Streams};
 
 use fmp_rules::Config;
@@ -73,11 +74,13 @@ fn answer_from_boot<S: Source, W: Sink>(
     requires trace_calls { W.failures trace.old < 2 ^ 64 - 1 }
     ensures known { IsKnown (W.written trace.old) → IsKnown (W.written trace.new) }
     ensures answered { IsKnown (S.left events.old) → IsKnown (W.written trace.old)
-        → OnOk result (IsAllOut detail config.now (reading_by_line config.now.names (bytes_of (S.left events.old))) (bytes_of (W.written trace.old)) (bytes_of (W.written trace.new))) }
+        → OnOk result (IsAllOut detail config.now (reading_by_line config.now.names (bytes_of (S.left events.old))) (bytes_of (W.written trace.old))
+        (bytes_of (W.written trace.new))) }
     ensures valid { OnOk result (IsValid config.now) }
     ensures first { IsKnown (S.left events.old) → IfErr result (FirstEventFault (reading_by_line config.now.names (bytes_of (S.left events.old)))) }
     ensures leaves { IsKnown (S.left events.old) → IsKnown (W.written trace.old)
-        → IfErr result (Leaves detail config.now (bytes_of (S.left events.old)) (reading_by_line config.now.names (bytes_of (S.left events.old))) (bytes_of (W.written trace.old)) (bytes_of (W.written trace.new))) }
+        → IfErr result (Leaves detail config.now (bytes_of (S.left events.old)) (reading_by_line config.now.names (bytes_of (S.left events.old)))
+        (bytes_of (W.written trace.old)) (bytes_of (W.written trace.new))) }
     ensures events_read { IsKnown (S.left events.old) → OnOk result (bytes_of (S.left events.new) ≡ []) }
     ensures kinds { IfErr result (λ fault. is_config fault ≡ false) }
     ensures no_thread_fault { IfErr result (λ fault. is_thread_fault fault ≡ false) }
@@ -102,18 +105,21 @@ pub(crate) fn answer_text<S: Source, W: Sink>(
     requires trace_calls { W.failures trace.old < 2 ^ 64 - 1 }
     ensures known { IsKnown (W.written trace.old) → IsKnown (W.written trace.new) }
     ensures answered { IsKnown (S.left events.old) → IsKnown (W.written trace.old)
-        → OnOk result (IsAllOut detail config.now (reading_by_line config.now.names (bytes_of (S.left events.old))) (bytes_of (W.written trace.old)) (bytes_of (W.written trace.new))) }
+        → OnOk result (IsAllOut detail config.now (reading_by_line config.now.names (bytes_of (S.left events.old))) (bytes_of (W.written trace.old))
+        (bytes_of (W.written trace.new))) }
     ensures valid { OnOk result (IsValid config.now) }
     ensures passed { result ≢ Err RunFault.Write → W.buffered trace.new ≡ [] }
     ensures first { IsKnown (S.left events.old) → IfErr result (FirstEventFault (reading_by_line config.now.names (bytes_of (S.left events.old)))) }
     ensures leaves { IsKnown (S.left events.old) → IsKnown (W.written trace.old)
-        → IfErr result (Leaves detail config.now (bytes_of (S.left events.old)) (reading_by_line config.now.names (bytes_of (S.left events.old))) (bytes_of (W.written trace.old)) (bytes_of (W.written trace.new))) }
+        → IfErr result (Leaves detail config.now (bytes_of (S.left events.old)) (reading_by_line config.now.names (bytes_of (S.left events.old)))
+        (bytes_of (W.written trace.old)) (bytes_of (W.written trace.new))) }
     ensures events_read { IsKnown (S.left events.old) → OnOk result (bytes_of (S.left events.new) ≡ []) }
     ensures kinds { IfErr result (λ fault. is_config fault ≡ false) }
     ensures no_thread_fault { IfErr result (λ fault. is_thread_fault fault ≡ false) }
     ensures reads { result ≢ Err RunFault.Write → S.failures events.new ≡ S.failures events.old + (if failed_read result then 1 else 0) }
     ensures flush { FlushFails (S.failures events.old) (S.failures events.new) (IsKnown (S.left events.old) → IsKnown (W.written trace.old)
-        → IsPrefixOut (detail_of detail) config.now (reading_by_line config.now.names (bytes_of (S.left events.old))).events (bytes_of (W.written trace.old)) (bytes_of (W.written trace.new))) }
+        → IsPrefixOut (detail_of detail) config.now (reading_by_line config.now.names (bytes_of (S.left events.old))).events (bytes_of (W.written trace.old))
+        (bytes_of (W.written trace.new))) }
     ensures writes { W.failures trace.new ≡ W.failures trace.old + (if failed_write result then 1 else 0) }
 {
     let ended = answer_from_boot(alloc, detail, config, events, trace);
@@ -135,7 +141,9 @@ pub fn run_events<R: Source, S: Source, W: Sink>(
     requires trace_calls { W.failures trace.old < 2 ^ 64 - 1 }
 
     // Both texts were read to their ends, and what is written is what is told of the machine over the events.
-    ensures answered { IsKnown (R.left config.old) → IsKnown (S.left events.old) → IsKnown (W.written trace.old) → OnOk result (IsWritten (detail_of detail) (bytes_of (R.left config.old)) (bytes_of (S.left events.old)) (bytes_of (W.written trace.old)) (bytes_of (W.written trace.new))) }
+    ensures answered { IsKnown (R.left config.old) → IsKnown (S.left events.old) → IsKnown (W.written trace.old)
+        → OnOk result (IsWritten (detail_of detail) (bytes_of (R.left config.old)) (bytes_of (S.left events.old)) (bytes_of (W.written trace.old))
+        (bytes_of (W.written trace.new))) }
     ensures known { IsKnown (W.written trace.old) → IsKnown (W.written trace.new) }
     ensures config_read { IsKnown (R.left config.old) → OnOk result (bytes_of (R.left config.new) ≡ []) }
     ensures events_read { IsKnown (S.left events.old) → OnOk result (bytes_of (S.left events.new) ≡ []) }
@@ -146,13 +154,16 @@ pub fn run_events<R: Source, S: Source, W: Sink>(
 
     // A fault of a text is its first one.
     ensures config_fault { IsKnown (R.left config.old) → IfErr result (FirstConfigFault (bytes_of (R.left config.old))) }
-    ensures text_fault { IsKnown (R.left config.old) → IsKnown (S.left events.old) → IfErr result (FirstTextFault (bytes_of (R.left config.old)) (bytes_of (S.left events.old))) }
+    ensures text_fault { IsKnown (R.left config.old) → IsKnown (S.left events.old)
+        → IfErr result (FirstTextFault (bytes_of (R.left config.old)) (bytes_of (S.left events.old))) }
 
     // After a fault of the configuration nothing is written. After one of the events what is told of those before it is out,
     // after a failed read or want of memory what is told of some prefix of them, and after a failed write or flush a beginning
     // of all.
     ensures unwritten { IsKnown (W.written trace.old) → IfErr result (λ fault. is_config fault ≡ true → bytes_of (W.written trace.new) ≡ bytes_of (W.written trace.old)) }
-    ensures leaves { IsKnown (R.left config.old) → IsKnown (S.left events.old) → IsKnown (W.written trace.old) → IfErr result (LeavesWritten (detail_of detail) (bytes_of (R.left config.old)) (bytes_of (S.left events.old)) (bytes_of (W.written trace.old)) (bytes_of (W.written trace.new))) }
+    ensures leaves { IsKnown (R.left config.old) → IsKnown (S.left events.old) → IsKnown (W.written trace.old)
+        → IfErr result (LeavesWritten (detail_of detail) (bytes_of (R.left config.old)) (bytes_of (S.left events.old)) (bytes_of (W.written trace.old))
+        (bytes_of (W.written trace.new))) }
 
     // Where lines alone are told, and none of the events has more than 32 KiB, memory is wanting before the first line is written,
     // or not at all.
@@ -170,7 +181,9 @@ pub fn run_events<R: Source, S: Source, W: Sink>(
     // flush alone: then what is written of some prefix of the events is out, each line whole.
     ensures reads { result ≢ Err RunFault.Write → CountsReads result (R.failures config.old) (R.failures config.new) (S.failures events.old) (S.failures events.new) }
     ensures flush { result ≡ Err RunFault.Write → (R.failures config.new ≡ R.failures config.old) × FlushFails (S.failures events.old) (S.failures events.new)
-        (IsKnown (R.left config.old) → IsKnown (S.left events.old) → IsKnown (W.written trace.old) → IsPrefix (detail_of detail) (bytes_of (R.left config.old)) (bytes_of (S.left events.old)) (bytes_of (W.written trace.old)) (bytes_of (W.written trace.new))) }
+        (IsKnown (R.left config.old) → IsKnown (S.left events.old) → IsKnown (W.written trace.old)
+        → IsPrefix (detail_of detail) (bytes_of (R.left config.old)) (bytes_of (S.left events.old)) (bytes_of (W.written trace.old))
+        (bytes_of (W.written trace.new))) }
     ensures writes { W.failures trace.new ≡ W.failures trace.old + (if failed_write result then 1 else 0) }
 {
     let configuration = config_from(alloc, config)?;
@@ -192,7 +205,8 @@ pub fn run_calls<R: Source, S: Source, W: Sink>(
     requires trace_calls { W.failures trace.old < 2 ^ 64 - 1 }
 
     // Both texts were read to their ends, and what is written is the trace of the answers to the events.
-    ensures answered { IsKnown (R.left config.old) → IsKnown (S.left events.old) → IsKnown (W.written trace.old) → OnOk result (IsAnswered (bytes_of (R.left config.old)) (bytes_of (S.left events.old)) (bytes_of (W.written trace.old)) (bytes_of (W.written trace.new))) }
+    ensures answered { IsKnown (R.left config.old) → IsKnown (S.left events.old) → IsKnown (W.written trace.old)
+        → OnOk result (IsAnswered (bytes_of (R.left config.old)) (bytes_of (S.left events.old)) (bytes_of (W.written trace.old)) (bytes_of (W.written trace.new))) }
     ensures known { IsKnown (W.written trace.old) → IsKnown (W.written trace.new) }
     ensures config_read { IsKnown (R.left config.old) → OnOk result (bytes_of (R.left config.new) ≡ []) }
     ensures events_read { IsKnown (S.left events.old) → OnOk result (bytes_of (S.left events.new) ≡ []) }
@@ -203,13 +217,15 @@ pub fn run_calls<R: Source, S: Source, W: Sink>(
 
     // A fault of a text is its first one.
     ensures config_fault { IsKnown (R.left config.old) → IfErr result (FirstConfigFault (bytes_of (R.left config.old))) }
-    ensures text_fault { IsKnown (R.left config.old) → IsKnown (S.left events.old) → IfErr result (FirstTextFault (bytes_of (R.left config.old)) (bytes_of (S.left events.old))) }
+    ensures text_fault { IsKnown (R.left config.old) → IsKnown (S.left events.old)
+        → IfErr result (FirstTextFault (bytes_of (R.left config.old)) (bytes_of (S.left events.old))) }
 
     // After a fault of the configuration nothing is written. After one of the events the trace of those before it is out, after
     // a failed read or want of memory the trace of some prefix of them, and after a failed write or flush a beginning of the
     // trace.
     ensures unwritten { IsKnown (W.written trace.old) → IfErr result (λ fault. is_config fault ≡ true → bytes_of (W.written trace.new) ≡ bytes_of (W.written trace.old)) }
-    ensures leaves { IsKnown (R.left config.old) → IsKnown (S.left events.old) → IsKnown (W.written trace.old) → IfErr result (LeavesOut (bytes_of (R.left config.old)) (bytes_of (S.left events.old)) (bytes_of (W.written trace.old)) (bytes_of (W.written trace.new))) }
+    ensures leaves { IsKnown (R.left config.old) → IsKnown (S.left events.old) → IsKnown (W.written trace.old)
+        → IfErr result (LeavesOut (bytes_of (R.left config.old)) (bytes_of (S.left events.old)) (bytes_of (W.written trace.old)) (bytes_of (W.written trace.new))) }
 
     // Memory is wanting before the first line is written, or not at all, where no line of the events has more than 32 KiB.
     ensures early { IsKnown (S.left events.old) → IsKnown (W.written trace.old) → HasShortLines (bytes_of (S.left events.old))
@@ -226,7 +242,8 @@ pub fn run_calls<R: Source, S: Source, W: Sink>(
     // flush alone: then what is written of some prefix of the events is out, each line whole.
     ensures reads { result ≢ Err RunFault.Write → CountsReads result (R.failures config.old) (R.failures config.new) (S.failures events.old) (S.failures events.new) }
     ensures flush { result ≡ Err RunFault.Write → (R.failures config.new ≡ R.failures config.old) × FlushFails (S.failures events.old) (S.failures events.new)
-        (IsKnown (R.left config.old) → IsKnown (S.left events.old) → IsKnown (W.written trace.old) → IsPrefix trace_of (bytes_of (R.left config.old)) (bytes_of (S.left events.old)) (bytes_of (W.written trace.old)) (bytes_of (W.written trace.new))) }
+        (IsKnown (R.left config.old) → IsKnown (S.left events.old) → IsKnown (W.written trace.old)
+        → IsPrefix trace_of (bytes_of (R.left config.old)) (bytes_of (S.left events.old)) (bytes_of (W.written trace.old)) (bytes_of (W.written trace.new))) }
     ensures writes { W.failures trace.new ≡ W.failures trace.old + (if failed_write result then 1 else 0) }
 {
     run_events(alloc, Detail::Line, config, events, trace)

@@ -26,7 +26,8 @@ pub fn run_check<R: Source, S: Source, W: Sink>(
 
     // The verdict is right, and what is written is the verdict. None of it is held back.
     ensures checked { IsKnown (R.left config.old) → IsKnown (S.left trace.old) → IfOk result (Checked (bytes_of (R.left config.old)) (bytes_of (S.left trace.old))) }
-    ensures written { IsKnown (W.written answer.old) → IfOk result (λ verdict. bytes_of (W.written answer.new) ≡ bytes_of (W.written answer.old) ++ verdict_text verdict) }
+    ensures written { IsKnown (W.written answer.old)
+        → IfOk result (λ verdict. bytes_of (W.written answer.new) ≡ bytes_of (W.written answer.old) ++ verdict_text verdict) }
     ensures known { IsKnown (W.written answer.old) → IsKnown (W.written answer.new) }
     ensures passed { OnOk result (W.buffered answer.new ≡ []) }
 
@@ -37,7 +38,8 @@ pub fn run_check<R: Source, S: Source, W: Sink>(
     // After a failed write or flush a beginning of the verdict is out, and after any other fault nothing is.
     ensures write { IsKnown (R.left config.old) → IsKnown (S.left trace.old) → IsKnown (W.written answer.old) → (result ≡ Err RunFault.Write)
         → IsCheckBegun (bytes_of (R.left config.old)) (bytes_of (S.left trace.old)) (bytes_of (W.written answer.old)) (bytes_of (W.written answer.new)) }
-    ensures unwritten { IsKnown (W.written answer.old) → IfErr result (λ fault. fault ≢ RunFault.Write → bytes_of (W.written answer.new) ≡ bytes_of (W.written answer.old)) }
+    ensures unwritten { IsKnown (W.written answer.old)
+        → IfErr result (λ fault. fault ≢ RunFault.Write → bytes_of (W.written answer.new) ≡ bytes_of (W.written answer.old)) }
 
     // Which calls of the devices failed.
     ensures reads { CountsReads result (R.failures config.old) (R.failures config.new) (S.failures trace.old) (S.failures trace.new) }

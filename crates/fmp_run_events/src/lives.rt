@@ -60,26 +60,31 @@ pub fn run_life<R: Source, S: Source, W: Sink>(
 
     // Both texts were read to their ends, and what is written is what is told of the things at boot, and each event that changes it.
     ensures answered { IsKnown (R.left config.old) → IsKnown (S.left events.old) → IsKnown (W.written trace.old)
-        → OnOk result (IsLifeTold names.now (bytes_of (R.left config.old)) (bytes_of (S.left events.old)) (bytes_of (W.written trace.old)) (bytes_of (W.written trace.new))) }
+        → OnOk result (IsLifeTold names.now (bytes_of (R.left config.old)) (bytes_of (S.left events.old)) (bytes_of (W.written trace.old))
+        (bytes_of (W.written trace.new))) }
     ensures known { IsKnown (W.written trace.old) → IsKnown (W.written trace.new) }
     ensures config_read { IsKnown (R.left config.old) → OnOk result (bytes_of (R.left config.new) ≡ []) }
     ensures events_read { IsKnown (S.left events.old) → OnOk result (bytes_of (S.left events.new) ≡ []) }
 
     // Texts and names that are right in all are answered, but for want of memory or a device that fails.
-    ensures right { IsKnown (R.left config.old) → IsKnown (S.left events.old) → (c : Setup) (es : List AnyEvent) (xs : List Thing) → SaysConfig (bytes_of (R.left config.old)) c
+    ensures right { IsKnown (R.left config.old) → IsKnown (S.left events.old) → (c : Setup) (es : List AnyEvent) (xs : List Thing)
+        → SaysConfig (bytes_of (R.left config.old)) c
         → SpellsText c.names (bytes_of (S.left events.old)) es → chosen_in c.names names.now ≡ Ok xs → IfErr result faults.IsNoFault }
 
     // A fault of a text is its first one, and so is one of the names.
     ensures config_fault { IsKnown (R.left config.old) → IfErr (faults.as_run result) (FirstConfigFault (bytes_of (R.left config.old))) }
-    ensures text_fault { IsKnown (R.left config.old) → IsKnown (S.left events.old) → IfErr (faults.as_run result) (FirstTextFault (bytes_of (R.left config.old)) (bytes_of (S.left events.old))) }
+    ensures text_fault { IsKnown (R.left config.old) → IsKnown (S.left events.old)
+        → IfErr (faults.as_run result) (FirstTextFault (bytes_of (R.left config.old)) (bytes_of (S.left events.old))) }
     ensures name_fault { IsKnown (R.left config.old) → IfErr result (faults.IsNameFault (bytes_of (R.left config.old)) names.now) }
 
     // After a fault of the configuration or of the names nothing is written. After one of the events what is told of those before it
     // is out, after a failed read or want of memory what is told of some prefix of them, and after a failed write or flush a
     // beginning of all.
-    ensures unwritten { IsKnown (W.written trace.old) → IfErr result (λ fault. faults.is_early fault ≡ true → bytes_of (W.written trace.new) ≡ bytes_of (W.written trace.old)) }
+    ensures unwritten { IsKnown (W.written trace.old)
+        → IfErr result (λ fault. faults.is_early fault ≡ true → bytes_of (W.written trace.new) ≡ bytes_of (W.written trace.old)) }
     ensures leaves { IsKnown (R.left config.old) → IsKnown (S.left events.old) → IsKnown (W.written trace.old)
-        → IfErr (faults.as_run result) (LeavesWritten (named_life names.now) (bytes_of (R.left config.old)) (bytes_of (S.left events.old)) (bytes_of (W.written trace.old)) (bytes_of (W.written trace.new))) }
+        → IfErr (faults.as_run result) (LeavesWritten (named_life names.now) (bytes_of (R.left config.old)) (bytes_of (S.left events.old))
+        (bytes_of (W.written trace.old)) (bytes_of (W.written trace.new))) }
 
     // However the run ends, nothing is held back, unless a write failed.
     ensures passed { OnOk result (W.buffered trace.new ≡ []) }
@@ -90,10 +95,13 @@ pub fn run_life<R: Source, S: Source, W: Sink>(
 
     // Which calls of the devices failed. Where a write or a flush did, no read failed; or one of the events did, and behind it the
     // flush alone: then what is written of some prefix of the events is out, each line whole.
-    ensures reads { result ≢ Err (LifeFault.Run RunFault.Write) → CountsReads (faults.as_run result) (R.failures config.old) (R.failures config.new) (S.failures events.old) (S.failures events.new) }
-    ensures flush { result ≡ Err (LifeFault.Run RunFault.Write) → (R.failures config.new ≡ R.failures config.old) × FlushFails (S.failures events.old) (S.failures events.new)
+    ensures reads { result ≢ Err (LifeFault.Run RunFault.Write)
+        → CountsReads (faults.as_run result) (R.failures config.old) (R.failures config.new) (S.failures events.old) (S.failures events.new) }
+    ensures flush { result ≡ Err (LifeFault.Run RunFault.Write) → (R.failures config.new ≡ R.failures config.old)
+        × FlushFails (S.failures events.old) (S.failures events.new)
         (IsKnown (R.left config.old) → IsKnown (S.left events.old) → IsKnown (W.written trace.old)
-        → IsPrefix (named_life names.now) (bytes_of (R.left config.old)) (bytes_of (S.left events.old)) (bytes_of (W.written trace.old)) (bytes_of (W.written trace.new))) }
+        → IsPrefix (named_life names.now) (bytes_of (R.left config.old)) (bytes_of (S.left events.old)) (bytes_of (W.written trace.old))
+        (bytes_of (W.written trace.new))) }
     ensures writes { W.failures trace.new ≡ W.failures trace.old + (if failed_write (faults.as_run result) then 1 else 0) }
 {
     let machine = match config_from(alloc, config) {

@@ -52,7 +52,8 @@ fn comparison_from<S: Source>(
     requires { S.failures source.old < 2 ^ 64 - 1 }
     ensures told { IsKnown (S.left source.old) → IfOk result (λ found. Tells shown config.now (bytes_of (S.left source.old)) found.verdict found.lines.items) }
     ensures verdict { IsKnown (S.left source.old) → IfOk result (λ found. Judges config.now (bytes_of (S.left source.old)) found.verdict) }
-    ensures answers { IsKnown (S.left source.old) → (events : List AnyEvent) → PrintsAnswers config.now (bytes_of (S.left source.old)) events → IsYes (verdict_in result) }
+    ensures answers { IsKnown (S.left source.old) → (events : List AnyEvent) → PrintsAnswers config.now (bytes_of (S.left source.old)) events
+        → IsYes (verdict_in result) }
     ensures read { IsKnown (S.left source.old) → OnOk result (bytes_of (S.left source.new) ≡ []) }
     ensures fault { IsKnown (S.left source.old) → IfErr result (IsFirstOfTrace config.now.names (bytes_of (S.left source.old))) }
     ensures kinds { IfErr result (λ fault. (is_config fault ≡ false) × (is_write fault ≡ false)) }
@@ -80,7 +81,8 @@ fn compared<R: Source, S: Source>(
     requires config_calls { R.failures config.old < 2 ^ 64 - 1 }
     requires trace_calls { S.failures trace.old < 2 ^ 64 - 1 }
 
-    ensures compared { IsKnown (R.left config.old) → IsKnown (S.left trace.old) → IfOk result (λ found. Compared shown (bytes_of (R.left config.old)) (bytes_of (S.left trace.old)) found.verdict found.lines.items) }
+    ensures compared { IsKnown (R.left config.old) → IsKnown (S.left trace.old)
+        → IfOk result (λ found. Compared shown (bytes_of (R.left config.old)) (bytes_of (S.left trace.old)) found.verdict found.lines.items) }
     ensures texts { JudgesTexts FirstTraceFault (R.left config.old) (R.left config.new) (S.left trace.old) (S.left trace.new) (verdict_in result) }
     ensures reads { CountsReads result (R.failures config.old) (R.failures config.new) (S.failures trace.old) (S.failures trace.new) }
     ensures no_write { failed_write result ≡ false }
@@ -117,7 +119,8 @@ fn write_report<W: Sink>(
     ensures known { IsKnown (W.written sink.old) → IsKnown (W.written sink.new) }
     ensures passed { OnOk result (W.buffered sink.new ≡ []) }
     ensures ok { IsKnown (W.written sink.old) → OnOk result (bytes_of (W.written sink.new) ≡ bytes_of (W.written sink.old) ++ (head_text shown verdict ++ lines.now)) }
-    ensures err { IsKnown (W.written sink.old) → OnErr result (BeginsWith (bytes_of (W.written sink.old)) (head_text shown verdict ++ lines.now) (bytes_of (W.written sink.new))) }
+    ensures err { IsKnown (W.written sink.old)
+        → OnErr result (BeginsWith (bytes_of (W.written sink.old)) (head_text shown verdict ++ lines.now) (bytes_of (W.written sink.new))) }
 {
     write_head(sink, shown, verdict)?;
     write_out(sink, lines)
@@ -141,7 +144,8 @@ pub fn run_report<R: Source, S: Source, W: Sink>(
 
     // The report of what differs was written, all of it. None of it is held back.
     ensures reported { IsKnown (R.left config.old) → IsKnown (S.left trace.old) → IsKnown (W.written report.old)
-        → IfOk result (IsReported shown (bytes_of (R.left config.old)) (bytes_of (S.left trace.old)) (bytes_of (W.written report.old)) (bytes_of (W.written report.new))) }
+        → IfOk result (IsReported shown (bytes_of (R.left config.old)) (bytes_of (S.left trace.old)) (bytes_of (W.written report.old))
+        (bytes_of (W.written report.new))) }
     ensures known { IsKnown (W.written report.old) → IsKnown (W.written report.new) }
     ensures passed { OnOk result (W.buffered report.new ≡ []) }
 
@@ -156,7 +160,8 @@ pub fn run_report<R: Source, S: Source, W: Sink>(
     // After a failed write or flush a beginning of the report is out, and after any other fault nothing is.
     ensures write { IsKnown (R.left config.old) → IsKnown (S.left trace.old) → IsKnown (W.written report.old) → (result ≡ Err RunFault.Write)
         → IsReportBegun shown (bytes_of (R.left config.old)) (bytes_of (S.left trace.old)) (bytes_of (W.written report.old)) (bytes_of (W.written report.new)) }
-    ensures unwritten { IsKnown (W.written report.old) → IfErr result (λ fault. fault ≢ RunFault.Write → bytes_of (W.written report.new) ≡ bytes_of (W.written report.old)) }
+    ensures unwritten { IsKnown (W.written report.old)
+        → IfErr result (λ fault. fault ≢ RunFault.Write → bytes_of (W.written report.new) ≡ bytes_of (W.written report.old)) }
 
     // Which calls of the devices failed.
     ensures reads { CountsReads result (R.failures config.old) (R.failures config.new) (S.failures trace.old) (S.failures trace.new) }

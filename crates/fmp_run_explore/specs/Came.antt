@@ -3,7 +3,7 @@ use Rattle.std.specs.Prelude.{◌≡◌, ℕ, suc, ◌<◌, Bool, List, take, le
 use Rattle.fmp_codes.specs.declared.records.Record.{Record}
 use Rattle.fmp_text_scripts.specs.Scripts.{Steps}
 use Rattle.fmp_setup.specs.Setup.{Setup}
-use Rattle.fmp_search_question.specs.declared.question.Step.{Step}
+use Rattle.fmp_search_pattern.specs.declared.question.Step.{Step}
 use Rattle.fmp_search_orders.specs.declared.rules.Rules.{Rules}
 use Rattle.fmp_search_orders.specs.Orders.{IsOrder}
 use Rattle.fmp_search_orders.specs.Shown.{Shows, NoneShows}

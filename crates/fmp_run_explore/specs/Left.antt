@@ -3,7 +3,7 @@ use Rattle.std.specs.Prelude.{◌≡◌, ◌<◌, ℕ, List, [], Ok}
 use Rattle.fmp_setup.specs.Setup.{Setup}
 use Rattle.fmp_text_scripts.specs.ScriptGrammar.{SpellsScripts}
 use Rattle.fmp_text_scripts.specs.Scripts.{Steps}
-use Rattle.fmp_search_question.specs.declared.question.Step.{Step}
+use Rattle.fmp_search_pattern.specs.declared.question.Step.{Step}
 use Rattle.fmp_search_question.specs.Reading.{question_in}
 use Rattle.fmp_search_orders.specs.declared.rules.Rules.{Rules}
 use Rattle.fmp_search_orders.specs.Joined.{IsLayer}

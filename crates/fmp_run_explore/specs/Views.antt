@@ -5,7 +5,7 @@ use Rattle.fmp_setup.specs.Setup.{Setup}
 use Rattle.fmp_text_scripts.specs.Scripts.{Steps}
 use Rattle.fmp_trace.specs.Lines.{lines_from}
 use Rattle.fmp_search.specs.Runs.{run}
-use Rattle.fmp_search_question.specs.declared.question.Step.{Step}
+use Rattle.fmp_search_pattern.specs.declared.question.Step.{Step}
 use Rattle.fmp_search_orders.specs.declared.rules.Rules.{Rules}
 use Rattle.fmp_search_orders.specs.Places.{Place, after, origin, records}
 

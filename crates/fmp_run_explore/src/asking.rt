@@ -13,7 +13,8 @@ use fmp_names::Names;
 use fmp_rules::Config;
 use fmp_run_devices::Source;
 use fmp_run_texts::{RunFault, texts_from};
-use fmp_search_question::{Question, ReadFault, read_question};
+use fmp_search_pattern::Question;
+use fmp_search_question::{ReadFault, read_question};
 use fmp_text_scripts::Scripts;
 use std::alloc::Global;
 
@@ -54,7 +55,8 @@ pub(crate) fn asked_from<R: Source, S: Source>(
     ensures config_read { IsKnown (R.left config.old) → OnOk result (bytes_of (R.left config.new) ≡ []) }
     ensures scripts_read { IsKnown (S.left scripts.old) → OnOk result (bytes_of (S.left scripts.new) ≡ []) }
     ensures config_fault { IsKnown (R.left config.old) → IfErr result (faults.IsConfigFault (bytes_of (R.left config.old))) }
-    ensures text_fault { IsKnown (R.left config.old) → IsKnown (S.left scripts.old) → IfErr result (faults.IsScriptFault (bytes_of (R.left config.old)) (bytes_of (S.left scripts.old))) }
+    ensures text_fault { IsKnown (R.left config.old) → IsKnown (S.left scripts.old)
+        → IfErr result (faults.IsScriptFault (bytes_of (R.left config.old)) (bytes_of (S.left scripts.old))) }
     ensures question_fault { IsKnown (R.left config.old) → IfErr result (faults.IsQuestionFault (bytes_of (R.left config.old)) question.now) }
     ensures reads { CountsReads (faults.as_run result) (R.failures config.old) (R.failures config.new) (S.failures scripts.old) (S.failures scripts.new) }
     ensures no_write { failed_write (faults.as_run result) ≡ false }

@@ -14,7 +14,7 @@ use crate::telling::trace_along;
 use fmp_names::Names;
 use fmp_search::{Progress, Roots};
 use fmp_search_orders::Rules;
-use fmp_search_question::Question;
+use fmp_search_pattern::Question;
 use std::alloc::{AllocError, Global};
 use std::marker::Model;
 

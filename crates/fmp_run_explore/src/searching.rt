@@ -15,7 +15,7 @@ use fmp_rules::Config;
 use fmp_search::{Answer, Progress, Roots, Space, explore};
 use fmp_search_kernel::Walker;
 use fmp_search_orders::{Rules, places_answer, roots_answer};
-use fmp_search_question::Question;
+use fmp_search_pattern::Question;
 use fmp_text_scripts::Scripts;
 use std::alloc::{AllocError, Global};
 

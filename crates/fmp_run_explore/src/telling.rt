@@ -8,7 +8,7 @@ use fmp_rules::Config;
 use fmp_search::Space;
 use fmp_search_kernel::Walker;
 use fmp_search_orders::Rules;
-use fmp_search_question::Question;
+use fmp_search_pattern::Question;
 use fmp_text_scripts::Scripts;
 use fmp_trace::put_line;
 use itoa::Buffer;

@@ -37,7 +37,8 @@ pub(crate) fn found_written<W: Sink, P: Progress>(
     requires turns { turns ≤ 1000000 }
     requires in_bits { AreInBits asked.scripts }
     ensures written { IsKnown (W.written output.old)
-        → IfOk result (λ o. IsWritten asked.config asked.scripts rules asked.question turns more (bytes_of (W.written output.old)) (bytes_of (W.written output.new)) o.finding) }
+        → IfOk result (λ o. IsWritten asked.config asked.scripts rules asked.question turns more (bytes_of (W.written output.old))
+        (bytes_of (W.written output.new)) o.finding) }
     ensures left { IfOk result (λ o. IsLeft asked.config asked.scripts rules asked.question turns o.finding o.layer) }
     ensures ended { IfOk result (λ o. IsEndedBy (P.over progress.new) o.finding) }
     ensures known { IsKnown (W.written output.old) → IsKnown (W.written output.new) }

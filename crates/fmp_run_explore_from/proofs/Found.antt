@@ -10,7 +10,7 @@ use Rattle.fmp_setup.specs.Valid.{IsValid}
 use Rattle.fmp_trace.specs.Lines.{lines_from}
 use Rattle.fmp_smp_histories.specs.Histories.{events_of}
 use Rattle.fmp_search.specs.Guides.{IsShortestAlong}
-use Rattle.fmp_search_question.specs.declared.question.Step.{Step}
+use Rattle.fmp_search_pattern.specs.declared.question.Step.{Step}
 use Rattle.fmp_search_question.specs.Reading.{question_in}
 use Rattle.fmp_search_orders.specs.declared.rules.Rules.{Rules}
 use Rattle.fmp_search_orders.specs.Begun.{BegunAnswer, choices_of}

@@ -10,7 +10,7 @@ use Rattle.fmp_run_devices.specs.Devices.{BeginsWith}
 use Rattle.fmp_smp_histories.specs.Histories.{events_of}
 use Rattle.fmp_search.specs.Answers.{UsedUp}
 use Rattle.fmp_search.specs.Guides.{guide, guided_after}
-use Rattle.fmp_search_question.specs.declared.question.Step.{Step}
+use Rattle.fmp_search_pattern.specs.declared.question.Step.{Step}
 use Rattle.fmp_search_question.specs.Reading.{question_in}
 use Rattle.fmp_search_orders.specs.declared.rules.Rules.{Rules}
 use Rattle.fmp_search_orders.specs.Orders.{IsOrder}
@@ -41,7 +41,8 @@ FindsFrom c scripts rules question begun turns room text (finding.Ended n) =
     (n < turns) × NoneShowsWithinFrom c scripts rules question begun n × (text ≡ codes "not within " ++ decimal n ++ codes "\n")
 
 -- a text is the trace of an order, and the other tells what is known of those that go on from it
-pub record IsFoundFrom (c : Setup) (scripts : List Steps) (rules : Rules) (begun_text : List ℕ) (question : List Step) (turns room : ℕ) (text : List ℕ) (found : Finding) : Type 0 where
+pub record IsFoundFrom (c : Setup) (scripts : List Steps) (rules : Rules) (begun_text : List ℕ) (question : List Step) (turns room : ℕ) (text : List ℕ)
+    (found : Finding) : Type 0 where
   pub begun : List Record
   pub order : IsOrder c scripts rules begun
   pub trace : begun_text ≡ lines_from c.names 1 begun

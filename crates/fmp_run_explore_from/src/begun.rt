@@ -16,7 +16,7 @@ use fmp_rules::Config;
 use fmp_search::{Choice, Space};
 use fmp_search_kernel::{Walker, choice_of};
 use fmp_search_orders::Rules;
-use fmp_search_question::Question;
+use fmp_search_pattern::Question;
 use fmp_text_scripts::Scripts;
 use fmp_trace::{event_of, is_line, next_line};
 use std::alloc::{AllocError, AllocFailed, Global};
@@ -50,7 +50,8 @@ impl<T: Drop> From<AllocFailed<T>> for BegunFault {
 fn happen<'a>(walker: &mut Walker<'a>, names: &Names, line: &[u8]) -> Option<Event>
     requires room { 0 < walker.old.left }
     ensures happened { IfSome result (HasHappened walker.old.place walker.new) }
-    ensures told { (event : AnyEvent) → event_told names.now line.now ≡ Some event → places.event_of walker.old.place (choice_for event).step ≡ Some event → result ≡ Some event }
+    ensures told { (event : AnyEvent) → event_told names.now line.now ≡ Some event → places.event_of walker.old.place (choice_for event).step ≡ Some event
+        → result ≡ Some event }
     ensures room { walker.old.left ≤ walker.new.left + 1 }
 {
     let told = event_of(names, line)?;

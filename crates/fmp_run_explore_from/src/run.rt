@@ -45,7 +45,8 @@ pub fn run_explore_from<R: Source, S: Source, W: Sink, P: Progress>(
 
     // Both texts were read to their ends, and what is written says what is known of all orders that go on from the trace. None of it is held back.
     ensures explored { IsKnown (R.left config.old) → IsKnown (S.left scripts.old) → IsKnown (W.written output.old)
-        → IfOk result (IsExploredFrom (bytes_of (R.left config.old)) (bytes_of (S.left scripts.old)) begun.now question.now rules turns (places - 1) (bytes_of (W.written output.old)) (bytes_of (W.written output.new))) }
+        → IfOk result (IsExploredFrom (bytes_of (R.left config.old)) (bytes_of (S.left scripts.old)) begun.now question.now rules turns (places - 1)
+        (bytes_of (W.written output.old)) (bytes_of (W.written output.new))) }
 
     // Less is known than was asked for, with room that is left, only where the search was ended.
     ensures ended { IfOk result (IsEndedBy (P.over progress.new)) }
@@ -56,17 +57,22 @@ pub fn run_explore_from<R: Source, S: Source, W: Sink, P: Progress>(
 
     // A fault of a text or of the question is its first one, and so is a line of the trace that no order has.
     ensures config_fault { IsKnown (R.left config.old) → IfErr result (faults.IsConfigFault (bytes_of (R.left config.old))) }
-    ensures text_fault { IsKnown (R.left config.old) → IsKnown (S.left scripts.old) → IfErr result (faults.IsScriptFault (bytes_of (R.left config.old)) (bytes_of (S.left scripts.old))) }
+    ensures text_fault { IsKnown (R.left config.old) → IsKnown (S.left scripts.old)
+        → IfErr result (faults.IsScriptFault (bytes_of (R.left config.old)) (bytes_of (S.left scripts.old))) }
     ensures question_fault { IsKnown (R.left config.old) → IfErr result (faults.IsQuestionFault (bytes_of (R.left config.old)) question.now) }
-    ensures stray { IsKnown (R.left config.old) → IsKnown (S.left scripts.old) → IfErr result (faults.IsStrayFault (bytes_of (R.left config.old)) (bytes_of (S.left scripts.old)) rules begun.now) }
+    ensures stray { IsKnown (R.left config.old) → IsKnown (S.left scripts.old)
+        → IfErr result (faults.IsStrayFault (bytes_of (R.left config.old)) (bytes_of (S.left scripts.old)) rules begun.now) }
 
     // A trace is too long whatever the texts are.
     ensures long { (result ≡ Err FromFault.Long) ↔ (most_bytes < length begun.now) }
 
     // After a failed write or flush a beginning of what tells it is out, and after any other fault nothing is.
-    ensures write { IsKnown (R.left config.old) → IsKnown (S.left scripts.old) → IsKnown (W.written output.old) → (result ≡ Err (FromFault.Explore (ExploreFault.Run RunFault.Write)))
-        → IsBegunFrom (bytes_of (R.left config.old)) (bytes_of (S.left scripts.old)) begun.now question.now rules turns (places - 1) (bytes_of (W.written output.old)) (bytes_of (W.written output.new)) }
-    ensures unwritten { IsKnown (W.written output.old) → IfErr result (λ fault. fault ≢ FromFault.Explore (ExploreFault.Run RunFault.Write) → bytes_of (W.written output.new) ≡ bytes_of (W.written output.old)) }
+    ensures write { IsKnown (R.left config.old) → IsKnown (S.left scripts.old) → IsKnown (W.written output.old)
+        → (result ≡ Err (FromFault.Explore (ExploreFault.Run RunFault.Write)))
+        → IsBegunFrom (bytes_of (R.left config.old)) (bytes_of (S.left scripts.old)) begun.now question.now rules turns (places - 1) (bytes_of (W.written output.old))
+        (bytes_of (W.written output.new)) }
+    ensures unwritten { IsKnown (W.written output.old)
+        → IfErr result (λ fault. fault ≢ FromFault.Explore (ExploreFault.Run RunFault.Write) → bytes_of (W.written output.new) ≡ bytes_of (W.written output.old)) }
 
     // No thread was started.
     ensures no_thread_fault { IfErr (faults.as_run result) (λ fault. is_thread_fault fault ≡ false) }

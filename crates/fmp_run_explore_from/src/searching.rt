@@ -18,7 +18,7 @@ use fmp_rules::Config;
 use fmp_run_explore::{Finding, never, not_within, trace_along, two_walkers};
 use fmp_search::{Answer, Choice, Progress, Space, explore_along};
 use fmp_search_orders::{Rules, begun_answer};
-use fmp_search_question::Question;
+use fmp_search_pattern::Question;
 use fmp_text_scripts::Scripts;
 use std::alloc::{AllocError, Global};
 

@@ -8,7 +8,7 @@ use Rattle.fmp_setup.specs.Setup.{Setup}
 use Rattle.fmp_setup.specs.Valid.{IsValid}
 use Rattle.fmp_trace.specs.Lines.{lines_from}
 use Rattle.fmp_smp_histories.specs.Histories.{events_of}
-use Rattle.fmp_search_question.specs.Lasting.{Lasting}
+use Rattle.fmp_search_pattern.specs.Lasting.{Lasting}
 use Rattle.fmp_search_orders.specs.declared.rules.Rules.{Rules}
 use Rattle.fmp_search_orders.specs.Places.{origin, records}
 use Rattle.fmp_search_orders.specs.Watched.{WatchedAnswer, WatchedEnds}

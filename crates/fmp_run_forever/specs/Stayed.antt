@@ -8,7 +8,8 @@ use Rattle.fmp_trace.specs.Lines.{lines_from}
 use Rattle.fmp_trace_check.specs.Checking.{PrintsAnswers}
 use Rattle.fmp_run_devices.specs.Devices.{BeginsWith}
 use Rattle.fmp_smp_histories.specs.Histories.{events_of}
-use Rattle.fmp_search_question.specs.Lasting.{Lasting, is_so, lasting_in}
+use Rattle.fmp_search_pattern.specs.Lasting.{Lasting, is_so}
+use Rattle.fmp_search_question.specs.Lasting.{lasting_in}
 use Rattle.fmp_search_orders.specs.declared.rules.Rules.{Rules}
 use Rattle.fmp_search_orders.specs.Lasting.{EndsSo, NoneEndsSo}
 use Rattle.fmp_search_orders.specs.Watched.{lasting_at}
@@ -43,7 +44,8 @@ Finds c scripts rules lasting turns text staying.Never =
 Finds c scripts rules lasting turns text (staying.NotWithin n) = (n ≤ turns) × (text ≡ codes "not within " ++ decimal n ++ codes "\n")
 
 -- the output says what stays in the orders of the one text's machine, by the other's scripts, of what the third asks
-pub record Explored (config_text script_text question_text : List ℕ) (rules : Rules) (turns : ℕ) (output : List ℕ) (lasting : List Lasting) (found : Staying) : Type 0 where
+pub record Explored (config_text script_text question_text : List ℕ) (rules : Rules) (turns : ℕ) (output : List ℕ) (lasting : List Lasting)
+    (found : Staying) : Type 0 where
   pub config : Setup
   pub scripts : List Steps
   pub says : SaysConfig config_text config

@@ -40,7 +40,8 @@ pub fn run_forever<R: Source, S: Source, W: Sink, P: Progress>(
 
     // Both texts were read to their ends, and what is written says what is known of all orders. None of it is held back.
     ensures explored { IsKnown (R.left config.old) → IsKnown (S.left scripts.old) → IsKnown (W.written output.old)
-        → IfOk result (λ s. IsExplored (bytes_of (R.left config.old)) (bytes_of (S.left scripts.old)) question.now rules turns (bytes_of (W.written output.old)) (bytes_of (W.written output.new)) s.lasting.items s.staying) }
+        → IfOk result (λ s. IsExplored (bytes_of (R.left config.old)) (bytes_of (S.left scripts.old)) question.now rules turns (bytes_of (W.written output.old))
+        (bytes_of (W.written output.new)) s.lasting.items s.staying) }
     ensures known { IsKnown (W.written output.old) → IsKnown (W.written output.new) }
     ensures passed { OnOk result (W.buffered output.new ≡ []) }
     ensures config_read { IsKnown (R.left config.old) → OnOk result (bytes_of (R.left config.new) ≡ []) }
@@ -48,13 +49,16 @@ pub fn run_forever<R: Source, S: Source, W: Sink, P: Progress>(
 
     // A fault of a text or of the question is its first one.
     ensures config_fault { IsKnown (R.left config.old) → IfErr result (faults.IsConfigFault (bytes_of (R.left config.old))) }
-    ensures text_fault { IsKnown (R.left config.old) → IsKnown (S.left scripts.old) → IfErr result (faults.IsScriptFault (bytes_of (R.left config.old)) (bytes_of (S.left scripts.old))) }
+    ensures text_fault { IsKnown (R.left config.old) → IsKnown (S.left scripts.old)
+        → IfErr result (faults.IsScriptFault (bytes_of (R.left config.old)) (bytes_of (S.left scripts.old))) }
     ensures question_fault { IsKnown (R.left config.old) → IfErr result (asked.IsQuestionFault (bytes_of (R.left config.old)) question.now) }
 
     // After a failed write or flush a beginning of what tells it is out, and after any other fault nothing is.
     ensures write { IsKnown (R.left config.old) → IsKnown (S.left scripts.old) → IsKnown (W.written output.old) → (result ≡ Err (ExploreFault.Run RunFault.Write))
-        → IsBegun (bytes_of (R.left config.old)) (bytes_of (S.left scripts.old)) question.now rules turns (bytes_of (W.written output.old)) (bytes_of (W.written output.new)) }
-    ensures unwritten { IsKnown (W.written output.old) → IfErr result (λ fault. fault ≢ ExploreFault.Run RunFault.Write → bytes_of (W.written output.new) ≡ bytes_of (W.written output.old)) }
+        → IsBegun (bytes_of (R.left config.old)) (bytes_of (S.left scripts.old)) question.now rules turns (bytes_of (W.written output.old))
+        (bytes_of (W.written output.new)) }
+    ensures unwritten { IsKnown (W.written output.old)
+        → IfErr result (λ fault. fault ≢ ExploreFault.Run RunFault.Write → bytes_of (W.written output.new) ≡ bytes_of (W.written output.old)) }
 
     // No thread was started.
     ensures no_thread_fault { IfErr (faults.as_run result) (λ fault. is_thread_fault fault ≡ false) }

@@ -12,7 +12,7 @@ use fmp_run_explore::{never, not_within, trace_along};
 use fmp_search::{Progress, Space, Stay, for_ever};
 use fmp_search_kernel::Watcher;
 use fmp_search_orders::{Rules, watched_answer};
-use fmp_search_question::{Lasting, Question};
+use fmp_search_pattern::{Lasting, Question};
 use fmp_text_scripts::Scripts;
 use std::alloc::{AllocError, Global};
 
@@ -90,7 +90,8 @@ fn answered<P: Progress>(
     requires turns { turns ≤ 1000000 }
     requires none { none.now ≡ [] }
     requires few { length lasting.now ≤ 64 }
-    ensures { IfOk result (λ s. SaysForEver watched.watched_after watched.watched_passes (watched.watched lasting.now (places.origin config.now scripts.now rules [])) (length lasting.now) turns s) }
+    ensures { IfOk result (λ s. SaysForEver watched.watched_after watched.watched_passes (watched.watched lasting.now (places.origin config.now scripts.now rules []))
+        (length lasting.now) turns s) }
 {
     let walkers = two_watchers(config, scripts, rules, none, lasting)?;
     let others = two_watchers(config, scripts, rules, none, lasting)?;

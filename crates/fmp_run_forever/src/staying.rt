@@ -3,7 +3,7 @@ ghost use Rattle.std.specs.Prelude.{◌≡◌};
 ghost use Rattle.fmp_run_forever.specs.Stayed as spec;
 
 use fmp_run_texts::Status;
-use fmp_search_question::Lasting;
+use fmp_search_pattern::Lasting;
 
 /// What is known of all orders, by a search through them.
 #[derive(Clone, Copy)]

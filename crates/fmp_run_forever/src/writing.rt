@@ -36,7 +36,8 @@ pub(crate) fn found_written<W: Sink, P: Progress>(
     requires few { length asked.now.lasting.items ≤ 64 }
     requires in_bits { AreInBits asked.now.scripts }
     ensures written { IsKnown (W.written output.old)
-        → IfOk result (λ s. IsWritten asked.now.config asked.now.scripts rules asked.now.lasting.items turns (bytes_of (W.written output.old)) (bytes_of (W.written output.new)) s) }
+        → IfOk result (λ s. IsWritten asked.now.config asked.now.scripts rules asked.now.lasting.items turns (bytes_of (W.written output.old))
+        (bytes_of (W.written output.new)) s) }
     ensures known { IsKnown (W.written output.old) → IsKnown (W.written output.new) }
     ensures passed { OnOk result (W.buffered output.new ≡ []) }
     ensures part { IsKnown (W.written output.old) → (result ≡ Err WriteFault.Write)

@@ -44,7 +44,8 @@ fn judged_texts<R: Source, S: Source>(
 ) -> Result<Verdict, RunFault>
     requires config_calls { R.failures config.old < 2 ^ 64 - 1 }
     requires trace_calls { S.failures trace.old < 2 ^ 64 - 1 }
-    ensures checked { IsKnown (R.left config.old) → IsKnown (S.left trace.old) → IfOk result (CheckedPartly (bytes_of (R.left config.old)) (bytes_of (S.left trace.old))) }
+    ensures checked { IsKnown (R.left config.old) → IsKnown (S.left trace.old)
+        → IfOk result (CheckedPartly (bytes_of (R.left config.old)) (bytes_of (S.left trace.old))) }
     ensures partly { IsKnown (R.left config.old) → IsKnown (S.left trace.old) → IsPartlyOwn (bytes_of (R.left config.old)) (bytes_of (S.left trace.old)) → IsYes result }
     ensures texts { JudgesTexts FirstPartialFault (R.left config.old) (R.left config.new) (S.left trace.old) (S.left trace.new) result }
     ensures reads { CountsReads result (R.failures config.old) (R.failures config.new) (S.failures trace.old) (S.failures trace.new) }
@@ -68,8 +69,10 @@ pub fn run_partial<R: Source, S: Source, W: Sink>(
     requires answer_calls { W.failures answer.old < 2 ^ 64 - 1 }
 
     // The verdict is right, and what is written is the verdict. None of it is held back.
-    ensures checked { IsKnown (R.left config.old) → IsKnown (S.left trace.old) → IfOk result (CheckedPartly (bytes_of (R.left config.old)) (bytes_of (S.left trace.old))) }
-    ensures written { IsKnown (W.written answer.old) → IfOk result (λ verdict. bytes_of (W.written answer.new) ≡ bytes_of (W.written answer.old) ++ verdict_text verdict) }
+    ensures checked { IsKnown (R.left config.old) → IsKnown (S.left trace.old)
+        → IfOk result (CheckedPartly (bytes_of (R.left config.old)) (bytes_of (S.left trace.old))) }
+    ensures written { IsKnown (W.written answer.old)
+        → IfOk result (λ verdict. bytes_of (W.written answer.new) ≡ bytes_of (W.written answer.old) ++ verdict_text verdict) }
     ensures known { IsKnown (W.written answer.old) → IsKnown (W.written answer.new) }
     ensures passed { OnOk result (W.buffered answer.new ≡ []) }
 
@@ -83,7 +86,8 @@ pub fn run_partial<R: Source, S: Source, W: Sink>(
     // After a failed write or flush a beginning of the verdict is out, and after any other fault nothing is.
     ensures write { IsKnown (R.left config.old) → IsKnown (S.left trace.old) → IsKnown (W.written answer.old) → (result ≡ Err RunFault.Write)
         → IsPartialBegun (bytes_of (R.left config.old)) (bytes_of (S.left trace.old)) (bytes_of (W.written answer.old)) (bytes_of (W.written answer.new)) }
-    ensures unwritten { IsKnown (W.written answer.old) → IfErr result (λ fault. fault ≢ RunFault.Write → bytes_of (W.written answer.new) ≡ bytes_of (W.written answer.old)) }
+    ensures unwritten { IsKnown (W.written answer.old)
+        → IfErr result (λ fault. fault ≢ RunFault.Write → bytes_of (W.written answer.new) ≡ bytes_of (W.written answer.old)) }
 
     // Which calls of the devices failed.
     ensures reads { CountsReads result (R.failures config.old) (R.failures config.new) (S.failures trace.old) (S.failures trace.new) }

@@ -20,7 +20,7 @@ use Rattle.fmp_rules.specs.Boot.{booted}
 use Rattle.fmp_rules.specs.Step.{answers}
 use Rattle.fmp_trace.specs.Lines.{lines_from}
 use Rattle.fmp_trace_check.specs.Checking.{PrintsAnswers}
-use Rattle.fmp_search_question.specs.declared.question.Step.{Step}
+use Rattle.fmp_search_pattern.specs.declared.question.Step.{Step}
 use Rattle.fmp_search_orders.proofs.Bits.{order_fits}
 use Rattle.fmp_search_random.specs.Drawn as drawn
 use Rattle.fmp_search_showing.proofs.Short.{question_short}

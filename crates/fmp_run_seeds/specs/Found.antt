@@ -12,7 +12,7 @@ use Rattle.fmp_text_scripts.specs.ScriptGrammar.{SpellsScripts}
 use Rattle.fmp_text_scripts.specs.Scripts.{Steps}
 use Rattle.fmp_trace_check.specs.Checking.{PrintsAnswers}
 use Rattle.fmp_run_devices.specs.Devices.{BeginsWith}
-use Rattle.fmp_search_question.specs.declared.question.Step.{Step}
+use Rattle.fmp_search_pattern.specs.declared.question.Step.{Step}
 use Rattle.fmp_search_question.specs.Reading.{question_in}
 use Rattle.fmp_search_showing.specs.Seen.{IsShownAt}
 use Rattle.fmp_show_state.specs.Waits.{waiting_lines}
@@ -111,7 +111,8 @@ IsQuestionFault config_text None (Run fault) = Unit {0}
 IsQuestionFault config_text None (Question fault place) = ⊥
 
 -- the same of the one text's machine by the other's scripts, and what the third asks
-pub record Sought (config_text script_text : List ℕ) (question_text : Option (List ℕ)) (runs : SeedRuns) (first last : ℕ) (output : List ℕ) (found : SeedSearch) : Type 0 where
+pub record Sought (config_text script_text : List ℕ) (question_text : Option (List ℕ)) (runs : SeedRuns) (first last : ℕ) (output : List ℕ)
+    (found : SeedSearch) : Type 0 where
   pub config : Setup
   pub scripts : List Steps
   pub asked : Option (List Step)

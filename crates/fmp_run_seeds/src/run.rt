@@ -15,7 +15,7 @@ use fmp_names::Names;
 use fmp_run_devices::{Sink, Source, write_out};
 use fmp_run_explore::{ExploreFault, question_from};
 use fmp_run_texts::{RunFault, texts_from};
-use fmp_search_question::Question;
+use fmp_search_pattern::Question;
 use std::alloc::Global;
 
 /// The question of a text, if there is one, or its first fault.
@@ -60,7 +60,8 @@ pub fn run_seeds<R: Source, S: Source, W: Sink, P: SeedProgress>(
     // Both texts were read to their ends, and what is told is the first of these seeds whose run is looked for, with the line where it is, and
     // what is written its trace up to there; or there is none such, and nothing is written. None of it is held back.
     ensures sought { IsKnown (R.left config.old) → IsKnown (S.left scripts.old) → IsKnown (W.written trace.old)
-        → IfOk result (IsSought (bytes_of (R.left config.old)) (bytes_of (S.left scripts.old)) (option_map (λ q. q.now) question.entry) runs first last (bytes_of (W.written trace.old)) (bytes_of (W.written trace.new))) }
+        → IfOk result (IsSought (bytes_of (R.left config.old)) (bytes_of (S.left scripts.old)) (option_map (λ q. q.now) question.entry) runs first last
+        (bytes_of (W.written trace.old)) (bytes_of (W.written trace.new))) }
 
     // Seeds are left only where the search was ended.
     ensures ended { IfOk result (IsEndedBy (P.over progress.new)) }
@@ -71,13 +72,16 @@ pub fn run_seeds<R: Source, S: Source, W: Sink, P: SeedProgress>(
 
     // A fault of a text or of the question is its first one.
     ensures config_fault { IsKnown (R.left config.old) → IfErr result (faults.IsConfigFault (bytes_of (R.left config.old))) }
-    ensures text_fault { IsKnown (R.left config.old) → IsKnown (S.left scripts.old) → IfErr result (faults.IsScriptFault (bytes_of (R.left config.old)) (bytes_of (S.left scripts.old))) }
+    ensures text_fault { IsKnown (R.left config.old) → IsKnown (S.left scripts.old)
+        → IfErr result (faults.IsScriptFault (bytes_of (R.left config.old)) (bytes_of (S.left scripts.old))) }
     ensures question_fault { IsKnown (R.left config.old) → IfErr result (spec.IsQuestionFault (bytes_of (R.left config.old)) (option_map (λ q. q.now) question.entry)) }
 
     // After a failed write or flush a beginning of the trace is out, and after any other fault nothing is.
     ensures write { IsKnown (R.left config.old) → IsKnown (S.left scripts.old) → IsKnown (W.written trace.old) → (result ≡ Err (ExploreFault.Run RunFault.Write))
-        → IsBegun (bytes_of (R.left config.old)) (bytes_of (S.left scripts.old)) (option_map (λ q. q.now) question.entry) runs first last (bytes_of (W.written trace.old)) (bytes_of (W.written trace.new)) }
-    ensures unwritten { IsKnown (W.written trace.old) → IfErr result (λ fault. fault ≢ ExploreFault.Run RunFault.Write → bytes_of (W.written trace.new) ≡ bytes_of (W.written trace.old)) }
+        → IsBegun (bytes_of (R.left config.old)) (bytes_of (S.left scripts.old)) (option_map (λ q. q.now) question.entry) runs first last
+        (bytes_of (W.written trace.old)) (bytes_of (W.written trace.new)) }
+    ensures unwritten { IsKnown (W.written trace.old)
+        → IfErr result (λ fault. fault ≢ ExploreFault.Run RunFault.Write → bytes_of (W.written trace.new) ≡ bytes_of (W.written trace.old)) }
 
     // No thread was started.
     ensures no_thread_fault { IfErr (faults.as_run result) (λ fault. is_thread_fault fault ≡ false) }

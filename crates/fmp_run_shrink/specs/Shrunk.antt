@@ -5,7 +5,7 @@ use Rattle.fmp_run_devices.specs.Devices.{BeginsWith}
 use Rattle.fmp_run_texts.specs.declared.status.Status.{Status}
 use Rattle.fmp_run_texts.specs.declared.status.Status.TheVariants.{Done, Different}
 use Rattle.fmp_run_texts.specs.Texts.{SaysConfig}
-use Rattle.fmp_search_question.specs.declared.question.Step.{Step}
+use Rattle.fmp_search_pattern.specs.declared.question.Step.{Step}
 use Rattle.fmp_search_question.specs.Reading.{question_in}
 use Rattle.fmp_setup.specs.Setup.{Setup}
 use Rattle.fmp_search_shrink.specs.Shrinking.{AnswersShow, IsShrunk}

@@ -51,7 +51,8 @@ pub(crate) fn texts_from<R: Source, S: Source>(
     ensures config_read { IsKnown (R.left config.old) → OnOk result (bytes_of (R.left config.new) ≡ []) }
     ensures events_read { IsKnown (S.left events.old) → OnOk result (bytes_of (S.left events.new) ≡ []) }
     ensures config_fault { IsKnown (R.left config.old) → IfErr result (FirstConfigFault (bytes_of (R.left config.old))) }
-    ensures text_fault { IsKnown (R.left config.old) → IsKnown (S.left events.old) → IfErr result (FirstEventsFault (bytes_of (R.left config.old)) (bytes_of (S.left events.old))) }
+    ensures text_fault { IsKnown (R.left config.old) → IsKnown (S.left events.old)
+        → IfErr result (FirstEventsFault (bytes_of (R.left config.old)) (bytes_of (S.left events.old))) }
     ensures reads { CountsReads result (R.failures config.old) (R.failures config.new) (S.failures events.old) (S.failures events.new) }
     ensures no_write { failed_write result ≡ false }
     ensures no_thread_fault { IfErr result (λ fault. is_thread_fault fault ≡ false) }

@@ -99,7 +99,8 @@ pub(crate) fn write_history<W: Sink>(
 ) -> Result<Vec<u8>, RunFault>
     requires calls { W.failures trace.old < 2 ^ 64 - 1 }
     requires few { length history.now.records < 2 ^ 32 }
-    ensures written { IsKnown (W.written trace.old) → OnOk result (bytes_of (W.written trace.new) ≡ bytes_of (W.written trace.old) ++ lines_from names.now 1 history.now.records) }
+    ensures written { IsKnown (W.written trace.old)
+        → OnOk result (bytes_of (W.written trace.new) ≡ bytes_of (W.written trace.old) ++ lines_from names.now 1 history.now.records) }
     ensures waiting { IfOk result (λ v. v.items ≡ waiting_lines names.now (state_after history.now.config history.now.records)) }
     ensures known { IsKnown (W.written trace.old) → IsKnown (W.written trace.new) }
     ensures passed { OnOk result (W.buffered trace.new ≡ []) }

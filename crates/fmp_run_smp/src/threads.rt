@@ -112,7 +112,8 @@ pub fn run_scripts<T: Threads + Wait + Sync, R: Source, S: Source, W: Sink, G: G
     // scripts, in the order of the seed where one is given. None of it is held back. The lines that are told are those of the tasks that
     // wait at the end of this run.
     ensures answered { IsKnown (R.left config.old) → IsKnown (S.left scripts.old) → IsKnown (W.written trace.old)
-        → IfOk result (λ end. IsPlayedToEnd seed (bytes_of (R.left config.old)) (bytes_of (S.left scripts.old)) ticks turns (bytes_of (W.written trace.old)) (bytes_of (W.written trace.new)) end.ended end.waiting.items) }
+        → IfOk result (λ end. IsPlayedToEnd seed (bytes_of (R.left config.old)) (bytes_of (S.left scripts.old)) ticks turns (bytes_of (W.written trace.old))
+        (bytes_of (W.written trace.new)) end.ended end.waiting.items) }
     ensures known { IsKnown (W.written trace.old) → IsKnown (W.written trace.new) }
     ensures passed { OnOk result (W.buffered trace.new ≡ []) }
     ensures config_read { IsKnown (R.left config.old) → OnOk result (bytes_of (R.left config.new) ≡ []) }
@@ -120,7 +121,8 @@ pub fn run_scripts<T: Threads + Wait + Sync, R: Source, S: Source, W: Sink, G: G
 
     // A fault of a text is its first one.
     ensures config_fault { IsKnown (R.left config.old) → IfErr result (FirstConfigFault (bytes_of (R.left config.old))) }
-    ensures text_fault { IsKnown (R.left config.old) → IsKnown (S.left scripts.old) → IfErr result (FirstScriptFault (bytes_of (R.left config.old)) (bytes_of (S.left scripts.old))) }
+    ensures text_fault { IsKnown (R.left config.old) → IsKnown (S.left scripts.old)
+        → IfErr result (FirstScriptFault (bytes_of (R.left config.old)) (bytes_of (S.left scripts.old))) }
 
     // After a failed write or flush a beginning of the trace is out, and after any other fault nothing is.
     ensures write { IsKnown (R.left config.old) → IsKnown (S.left scripts.old) → IsKnown (W.written trace.old) → (result ≡ Err RunFault.Write)
@@ -167,7 +169,8 @@ pub fn run_threads<T: Threads + Wait + Sync, R: Source, S: Source, W: Sink, G: G
     // Both texts were read to their ends, and what is written is the trace of a run of the one text's machine by the other's
     // scripts. None of it is held back.
     ensures answered { IsKnown (R.left config.old) → IsKnown (S.left scripts.old) → IsKnown (W.written trace.old)
-        → IfOk result (IsPlayed (bytes_of (R.left config.old)) (bytes_of (S.left scripts.old)) ticks turns (bytes_of (W.written trace.old)) (bytes_of (W.written trace.new))) }
+        → IfOk result (IsPlayed (bytes_of (R.left config.old)) (bytes_of (S.left scripts.old)) ticks turns (bytes_of (W.written trace.old))
+        (bytes_of (W.written trace.new))) }
     ensures known { IsKnown (W.written trace.old) → IsKnown (W.written trace.new) }
     ensures passed { OnOk result (W.buffered trace.new ≡ []) }
     ensures config_read { IsKnown (R.left config.old) → OnOk result (bytes_of (R.left config.new) ≡ []) }
@@ -175,7 +178,8 @@ pub fn run_threads<T: Threads + Wait + Sync, R: Source, S: Source, W: Sink, G: G
 
     // A fault of a text is its first one.
     ensures config_fault { IsKnown (R.left config.old) → IfErr result (FirstConfigFault (bytes_of (R.left config.old))) }
-    ensures text_fault { IsKnown (R.left config.old) → IsKnown (S.left scripts.old) → IfErr result (FirstScriptFault (bytes_of (R.left config.old)) (bytes_of (S.left scripts.old))) }
+    ensures text_fault { IsKnown (R.left config.old) → IsKnown (S.left scripts.old)
+        → IfErr result (FirstScriptFault (bytes_of (R.left config.old)) (bytes_of (S.left scripts.old))) }
 
     // After a failed write or flush a beginning of the trace is out, and after any other fault nothing is.
     ensures write { IsKnown (R.left config.old) → IsKnown (S.left scripts.old) → IsKnown (W.written trace.old) → (result ≡ Err RunFault.Write)

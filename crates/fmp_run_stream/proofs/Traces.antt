@@ -139,7 +139,7 @@ detail_none detail.State c = append-nil (state_text c.names (booted c))
 detail_none (detail.Life seen) c = append-nil (flat_map (told_since c.names (booted c)) seen)
 
 -- a beginning of some bytes is one of more bytes
-begins_on : (old prefix line behind new : List ℕ) → BeginsWith (old ++ prefix) line new → BeginsWith old ((prefix ++ line) ++ behind) new
+pub begins_on : (old prefix line behind new : List ℕ) → BeginsWith (old ++ prefix) line new → BeginsWith old ((prefix ++ line) ++ behind) new
 begins_on old prefix line behind new (n, is) =
     let j = min n (length line) in
     let within : j ≤ length line = omega arith in
@@ -147,14 +147,6 @@ begins_on old prefix line behind new (n, is) =
     ap (take (length prefix + j)) (append_assoc prefix line behind) ∙ take-append-add prefix (line ++ behind) j
     ∙ ap (λ xs. prefix ++ xs) (take-append-le j line behind within ∙ take_min n line) in
     (length prefix + j, is ∙ append_assoc old prefix (take n line) ∙ ap (λ xs. old ++ xs) (sym same))
-
--- behind what is written of a prefix a beginning of the next entry is out: so a beginning of all is
-pub begun : (d : Detail) (c : Setup) (given more : List Event) (event : Event) (old written new : List ℕ) → written ≡ old ++ detail_of d c given
-    → BeginsWith written (entry_behind d c given event) new → BeginsWith old (detail_of d c (given ++ event ∷ more)) new
-begun d c given more event old written new text begins =
-    let parts = ap (detail_of d c) (sym (append_assoc given (event ∷ []) more)) ∙ detail_append d c (given ++ event ∷ []) more
-    ∙ ap (λ xs. xs ++ rest_of d c (given ++ event ∷ []) more) (detail_more d c given event) in
-    rw (parts) (begins_on old (detail_of d c given) (entry_behind d c given event) _ new (rw text at begins))
 
 -- a beginning of what is written at boot is one of all
 pub boot_begun : (d : Detail) (c : Setup) (events : List Event) (old new : List ℕ) → BeginsWith old (boot_text d c.names (booted c)) new

@@ -1,5 +1,6 @@
 //! Answering each event as it comes.
-ghost use Rattle.std.specs.Prelude.{◌≡◌, ◌≢◌, ◌⊎◌, ◌≤◌, ◌+◌, ◌-◌, ◌^◌, ◌<◌, ◌++◌, ℕ, Bool, List, [], true, false, IsTrue, OnOk, IfOk, IfErr, Err, Ok, length, map, vec_capacity, if◌then◌else◌};
+ghost use Rattle.std.specs.Prelude.{◌≡◌, ◌≢◌, ◌⊎◌, ◌≤◌, ◌+◌, ◌-◌, ◌^◌, ◌<◌, ◌++◌, ℕ, Bool, List, [], true, false, IsTrue, OnOk, IfOk, IfErr, Err, OnErr, Ok, length, map};
+ghost use Rattle.std.specs.Prelude.{is_err, if◌then◌else◌};
 ghost use Rattle.fmp_codes.specs.Records.{processor_of};
 ghost use Rattle.fmp_text_feed.specs.Feed.{IsDone, IsWanting, new_feed};
 ghost use Rattle.fmp_law_lists.specs.Stands.{Stands};
@@ -17,8 +18,9 @@ ghost use Rattle.fmp_show_life.specs.Lives.{renewed, told_since};
 ghost use Rattle.fmp_run_devices.specs.Devices.{BeginsWith, IsKnown, bytes_of};
 ghost use Rattle.fmp_run_texts.specs.Faults.{failed_read, failed_write, is_config, is_read, is_write, is_thread_fault};
 ghost use Rattle.fmp_run_stream.specs.Runs.{FirstEventFault};
-ghost use Rattle.fmp_trace.specs.Lines.{most_line_bytes};
-ghost use Rattle.fmp_run_stream.specs.Streams.{FirstFrom, Leaves, LeavesFrom, Streams, StreamsOn};
+ghost use Rattle.fmp_trace.specs.Lines.{line_text};
+ghost use Rattle.fmp_run_stream.specs.Streams.{Answers, AnswersOn, BeginsFrom, FirstFrom, GathersOn, Leaves, LeavesFrom, PassesSome, Streams, StreamsOn, pending};
+ghost use Rattle.fmp_trace_buffer.specs.Filled.{full_bytes};
 
 use fmp_codes::{Answer, Event, Proc, Record};
 use fmp_kernel::Kernel;
@@ -29,7 +31,8 @@ use fmp_show_life::Life;
 use fmp_show_state::put_state;
 use fmp_text::Names;
 use fmp_text_feed::EventFeed;
-use fmp_trace::{Count, counted_line};
+use fmp_trace::trace_line;
+use fmp_trace_buffer::{Count, LineBuffer, line_is_short};
 use std::alloc::{AllocError, Global};
 
 /// What is written of an event.
@@ -97,19 +100,18 @@ fn put_behind(
     }
 }
 
-/// How much a record can tell of at most, for proofs. It does nothing.
-fn few_told(told: &Record)
-    ensures releases { length told.now.releases ≤ 64 }
-    ensures requests { length told.now.requests ≤ 8 }
+/// Whether a run ended with a failed write.
+fn has_failed_write(ended: &Result<(), RunFault>) -> bool
+    ensures { result ≡ failed_write ended.now }
 {
-    let _releases = told.releases.len();
-    let _requests = told.requests.as_slice();
+    matches!(ended, Err(RunFault::Write))
 }
 
-/// The room that a run takes for a line before it reads an event: no line of a trace has more bytes.
-const LINE_ROOM: usize = 10_394;
+/// From so many bytes on what is told is passed on.
+const FULL: usize = 65_536;
 
-/// A run that answers each event as it comes. It keeps the unread rest of one line, the last record, and the line that it writes.
+/// A run that answers each event as it comes. It keeps the unread rest of one line, the last record, and what is told and not
+/// passed on yet.
 #[derive(Drop)]
 pub struct Answering {
     detail: Detail,
@@ -117,7 +119,12 @@ pub struct Answering {
     kernel: Kernel,
     count: Count,
     told: Record,
-    line: Vec<u8>,
+    /// What is told of one event, where that is more than its line.
+    entry: Vec<u8>,
+    /// What is told of events and not passed on yet, where that is more than their lines.
+    entries: Vec<u8>,
+    /// The lines that are not passed on yet. They come after the entries.
+    lines: LineBuffer,
 }
 
 impl Answering {
@@ -128,7 +135,7 @@ impl Answering {
         ensures stands { IfOk result (λ a. Stands a.kernel (booted config.now)) }
         ensures processors { IfOk result (λ a. length a.kernel.processors ≡ config.now.processors) }
         ensures count { IfOk result (λ a. a.count ≡ 0) }
-        ensures room { IfOk result (λ a. most_line_bytes ≤ vec_capacity a.line) }
+        ensures passed { IfOk result (λ a. pending a ≡ []) }
         ensures valid { OnOk result (IsValid config.now) }
     {
         Ok(Answering {
@@ -137,7 +144,9 @@ impl Answering {
             kernel: Kernel::boot(config)?,
             count: Count::new(),
             told: Record::answer(Event::Tick(Proc::new(1)), None, Answer::Nothing),
-            line: Vec::with_capacity(alloc, LINE_ROOM)?,
+            entry: Vec::new(alloc),
+            entries: Vec::new(alloc),
+            lines: LineBuffer::new(alloc)?,
         })
     }
 
@@ -153,7 +162,7 @@ impl Answering {
         requires calls { W.failures trace.old < 2 ^ 64 - 1 }
         ensures detail { (m : State) → Stands self.old.kernel m → OnOk result (self.new.detail ≡ told_in self.old.detail names.now m) }
         ensures same { (self.new.feed ≡ self.old.feed) × (self.new.kernel ≡ self.old.kernel) × (self.new.count ≡ self.old.count) }
-        ensures line { self.old.detail ≡ Detail.Line → vec_capacity self.old.line ≤ vec_capacity self.new.line }
+        ensures passed { pending self.new ≡ pending self.old }
         ensures known { IsKnown (W.written trace.old) → IsKnown (W.written trace.new) }
         ensures ok { IsKnown (W.written trace.old) → (m : State) → Stands self.old.kernel m
             → OnOk result (bytes_of (W.written trace.new) ≡ bytes_of (W.written trace.old) ++ boot_text self.old.detail names.now m) }
@@ -164,57 +173,102 @@ impl Answering {
         ensures no_thread_fault { IfErr result (λ fault. is_thread_fault fault ≡ false) }
         ensures writes { W.failures trace.new ≡ W.failures trace.old + (if failed_write result then 1 else 0) }
     {
-        self.line.clear();
-        put_boot(&mut self.detail, names, &self.kernel, &mut self.line)?;
-        Ok(write_all(trace, self.line.as_slice())?)
+        self.entry.clear();
+        put_boot(&mut self.detail, names, &self.kernel, &mut self.entry)?;
+        Ok(write_all(trace, self.entry.as_slice())?)
     }
 
-    /// Answers one event, and writes what is told of it.
-    fn answer<W: Sink>(
-        &mut self,
-        names: &Names,
-        event: Event,
-        trace: &mut W,
-    ) -> Result<(), RunFault>
-        requires calls { W.failures trace.old < 2 ^ 64 - 1 }
+    /// Adds what is told of the last event, where that is more than its line.
+    fn put_entry(&mut self, names: &Names) -> Result<(), AllocError>
+        ensures detail { (m : State) → Stands self.old.kernel m → OnOk result (self.new.detail ≡ told_in self.old.detail names.now m) }
+        ensures same { (self.new.feed ≡ self.old.feed) × (self.new.kernel ≡ self.old.kernel) × (self.new.count ≡ self.old.count) }
+        ensures ok { (m : State) → Stands self.old.kernel m
+            → OnOk result (pending self.new ≡ pending self.old ++ finished self.old.detail names.now (line_text names.now self.old.count self.old.told) m) }
+        ensures err { OnErr result (pending self.new ≡ pending self.old) }
+    {
+        self.entries.extend_from_slice(self.lines.as_slice())?;
+        self.lines.clear();
+        trace_line(self.count.number(), &self.told, names, &mut self.entry)?;
+        put_behind(&mut self.detail, names, &self.kernel, &mut self.entry)?;
+        self.entries.extend_from_slice(self.entry.as_slice())
+    }
+
+    /// Answers the event that the last record tells, and keeps what is told of it.
+    fn answer(&mut self, names: &Names) -> Result<(), AllocError>
         requires counts { self.old.count < 2 ^ 32 - 1 }
-        requires on { (processor_of event).number ≤ length self.old.kernel.processors }
-        ensures detail { (m : State) → Stands self.old.kernel m → OnOk result (self.new.detail ≡ told_in self.old.detail names.now (step_of numbered m event).0) }
+        requires on { (processor_of self.old.told.event).number ≤ length self.old.kernel.processors }
+        requires room { length self.old.lines < full_bytes }
+        ensures detail { (m : State) → Stands self.old.kernel m
+            → OnOk result (self.new.detail ≡ told_in self.old.detail names.now (step_of numbered m self.old.told.event).0) }
         ensures feed { self.new.feed ≡ self.old.feed }
-        ensures stands { (m : State) → Stands self.old.kernel m → Stands self.new.kernel (step_of numbered m event).0 }
+        ensures stands { (m : State) → Stands self.old.kernel m → Stands self.new.kernel (step_of numbered m self.old.told.event).0 }
         ensures processors { length self.new.kernel.processors ≡ length self.old.kernel.processors }
         ensures count { self.new.count ≡ self.old.count + 1 }
-        ensures known { IsKnown (W.written trace.old) → IsKnown (W.written trace.new) }
-        ensures ok { IsKnown (W.written trace.old) → (m : State) → Stands self.old.kernel m
-            → OnOk result (bytes_of (W.written trace.new) ≡ bytes_of (W.written trace.old) ++ entry_text self.old.detail names.now (self.old.count + 1) (step_of numbered m event)) }
-        ensures memory { IsKnown (W.written trace.old) → result ≡ Err RunFault.Memory → bytes_of (W.written trace.new) ≡ bytes_of (W.written trace.old) }
-        ensures line { self.old.detail ≡ Detail.Line → vec_capacity self.old.line ≤ vec_capacity self.new.line }
-        ensures room { self.old.detail ≡ Detail.Line → most_line_bytes ≤ vec_capacity self.old.line → result ≢ Err RunFault.Memory }
-        ensures write { IsKnown (W.written trace.old) → (m : State) → Stands self.old.kernel m → result ≡ Err RunFault.Write
-            → BeginsWith (bytes_of (W.written trace.old)) (entry_text self.old.detail names.now (self.old.count + 1) (step_of numbered m event)) (bytes_of (W.written trace.new)) }
-        ensures kinds { IfErr result (λ fault. (fault ≡ RunFault.Memory) ⊎ (fault ≡ RunFault.Write)) }
-        ensures no_thread_fault { IfErr result (λ fault. is_thread_fault fault ≡ false) }
-        ensures writes { W.failures trace.new ≡ W.failures trace.old + (if failed_write result then 1 else 0) }
+        ensures ok { (m : State) → Stands self.old.kernel m
+            → OnOk result (pending self.new ≡ pending self.old ++ entry_text self.old.detail names.now (self.old.count + 1) (step_of numbered m self.old.told.event)) }
+        ensures err { OnErr result (pending self.new ≡ pending self.old) }
+        ensures lines { self.old.detail ≡ Detail.Line → result ≡ Ok tt }
     {
-        names.validity();
-        self.kernel.step_into(event, &mut self.told);
-        few_told(&self.told);
+        self.kernel.step_told(&mut self.told);
         self.count.increase();
-        counted_line(&self.count, &self.told, names, &mut self.line)?;
-        put_behind(&mut self.detail, names, &self.kernel, &mut self.line)?;
-        Ok(write_all(trace, self.line.as_slice())?)
+        match self.detail {
+            Detail::Line => {
+                line_is_short(names, &self.told);
+                self.lines.put_line(names, &self.count, &self.told);
+                Ok(())
+            }
+            _ => self.put_entry(names),
+        }
+    }
+
+    /// Passes on what is told.
+    fn pass<W: Sink>(&mut self, trace: &mut W) -> Result<(), Failed>
+        requires calls { W.failures trace.old < 2 ^ 64 - 1 }
+        ensures same { (self.new.feed ≡ self.old.feed) × (self.new.kernel ≡ self.old.kernel) × (self.new.count ≡ self.old.count) × (self.new.detail ≡ self.old.detail) }
+        ensures known { IsKnown (W.written trace.old) → IsKnown (W.written trace.new) }
+        ensures passed { OnOk result (pending self.new ≡ []) }
+        ensures lines { OnOk result (self.new.lines ≡ []) }
+        ensures ok { IsKnown (W.written trace.old) → OnOk result (bytes_of (W.written trace.new) ≡ bytes_of (W.written trace.old) ++ pending self.old) }
+        ensures err { IsKnown (W.written trace.old) → OnErr result (BeginsWith (bytes_of (W.written trace.old)) (pending self.old) (bytes_of (W.written trace.new))) }
+        ensures writes { W.failures trace.new ≡ W.failures trace.old + (if is_err result then 1 else 0) }
+    {
+        write_all(trace, self.entries.as_slice())?;
+        self.entries.clear();
+        write_all(trace, self.lines.as_slice())?;
+        self.lines.clear();
+        Ok(())
+    }
+
+    /// Passes on what is told, where that is much.
+    #[inline(always)]
+    fn make_room<W: Sink>(&mut self, trace: &mut W) -> Result<(), Failed>
+        requires calls { W.failures trace.old < 2 ^ 64 - 1 }
+        ensures same { (self.new.feed ≡ self.old.feed) × (self.new.kernel ≡ self.old.kernel) × (self.new.count ≡ self.old.count) × (self.new.detail ≡ self.old.detail) }
+        ensures known { IsKnown (W.written trace.old) → IsKnown (W.written trace.new) }
+        ensures room { OnOk result (length self.new.lines < full_bytes) }
+        ensures ok { IsKnown (W.written trace.old)
+            → OnOk result (PassesSome (bytes_of (W.written trace.old)) (pending self.old) (bytes_of (W.written trace.new)) (pending self.new)) }
+        ensures err { IsKnown (W.written trace.old) → OnErr result (BeginsWith (bytes_of (W.written trace.old)) (pending self.old) (bytes_of (W.written trace.new))) }
+        ensures writes { W.failures trace.new ≡ W.failures trace.old + (if is_err result then 1 else 0) }
+    {
+        if self.lines.is_full() || FULL <= self.entries.len() {
+            return self.pass(trace);
+        }
+        Ok(())
     }
 
     /// Answers the next event whose line is whole, and says whether there was one.
-    fn answer_next<W: Sink>(&mut self, config: &Config, trace: &mut W) -> Result<bool, RunFault>
-        requires calls { W.failures trace.old < 2 ^ 64 - 1 }
+    fn answer_next(&mut self, config: &Config) -> Result<bool, RunFault>
         requires counted { self.old.count ≡ self.old.feed.events }
         requires few { self.old.feed.events ≤ most_events }
         requires processors { length self.old.kernel.processors ≡ config.now.processors }
-        ensures known { IsKnown (W.written trace.old) → IsKnown (W.written trace.new) }
-        ensures streams { OnOk result (StreamsOn config.now self.old self.new (W.written trace.old) (W.written trace.new)) }
-        ensures first { IfErr result (FirstFrom config.now self.old (bytes_of (W.written trace.old))) }
-        ensures leaves { IsKnown (W.written trace.old) → IfErr result (LeavesFrom config.now self.old (bytes_of (W.written trace.old)) (bytes_of (W.written trace.new))) }
+        requires room { length self.old.lines < full_bytes }
+        ensures answers { OnOk result (AnswersOn config.now self.old self.new) }
+        ensures first { IfErr result (λ fault. (d : Detail) (text : List ℕ) (whole : Reading) (old out remaining : List ℕ)
+            → Answers d false config.now text whole old self.old out remaining → FirstEventFault whole fault) }
+        ensures leaves { IfErr result (λ fault. (d : Detail) (text : List ℕ) (whole : Reading) (old out remaining : List ℕ)
+            → Answers d true config.now text whole old self.old out remaining → Leaves d config.now text whole old out fault) }
+        ensures kept { OnErr result (pending self.new ≡ pending self.old) }
         ensures counted { OnOk result (self.new.count ≡ self.new.feed.events) }
         ensures moves { IfOk result (λ more. self.new.feed.events ≡ self.old.feed.events + (if more then 1 else 0)) }
         ensures few { OnOk result (self.new.feed.events ≤ most_events) }
@@ -222,25 +276,53 @@ impl Answering {
         ensures wanting { IfOk result (λ more. more ≡ false → IsWanting self.new.feed) }
         ensures done { IfOk result (λ more. more ≡ false → self.new.feed.ended ≡ true → IsDone config.now.names self.new.feed) }
         ensures same { (self.new.feed.ended ≡ self.old.feed.ended) × (self.new.feed.taken ≡ self.old.feed.taken) × (self.new.feed.dropped ≡ self.old.feed.dropped) }
+        ensures kinds { IfErr result (λ fault. (is_read fault ≡ false) × (is_config fault ≡ false) × (is_write fault ≡ false)) }
+        ensures no_thread_fault { IfErr result (λ fault. is_thread_fault fault ≡ false) }
+    {
+        let names = config.names();
+        match self.feed.next_into(names, &mut self.told.event) {
+            Ok(true) => {
+                self.answer(names)?;
+                Ok(true)
+            }
+            Ok(false) => Ok(false),
+            Err(fault) => Err(RunFault::Text(fault)),
+        }
+    }
+
+    /// Answers each event whose line is whole, and passes on what is told as often as that is much.
+    fn gather<W: Sink>(&mut self, config: &Config, trace: &mut W) -> Result<(), RunFault>
+        requires calls { W.failures trace.old < 2 ^ 64 - 1 }
+        requires counted { self.old.count ≡ self.old.feed.events }
+        requires few { self.old.feed.events ≤ most_events }
+        requires processors { length self.old.kernel.processors ≡ config.now.processors }
+        ensures known { IsKnown (W.written trace.old) → IsKnown (W.written trace.new) }
+        ensures answers { OnOk result (GathersOn config.now self.old self.new (W.written trace.old) (W.written trace.new)) }
+        ensures first { IfErr result (FirstFrom config.now self.old (bytes_of (W.written trace.old))) }
+        ensures leaves { IsKnown (W.written trace.old) → IfErr result (λ fault. is_write fault ≡ false
+            → LeavesFrom config.now self.old (bytes_of (W.written trace.old)) (bytes_of (W.written trace.new) ++ pending self.new) fault) }
+        ensures begun { IsKnown (W.written trace.old) → failed_write result ≡ false
+            → BeginsFrom config.now self.old self.new (bytes_of (W.written trace.old)) (bytes_of (W.written trace.new)) }
+        ensures write { IsKnown (W.written trace.old) → failed_write result ≡ true
+            → LeavesFrom config.now self.old (bytes_of (W.written trace.old)) (bytes_of (W.written trace.new)) RunFault.Write }
+        ensures counted { OnOk result (self.new.count ≡ self.new.feed.events) }
+        ensures few { OnOk result (self.new.feed.events ≤ most_events) }
+        ensures processors { length self.new.kernel.processors ≡ length self.old.kernel.processors }
+        ensures wanting { OnOk result (IsWanting self.new.feed) }
+        ensures done { OnOk result (self.new.feed.ended ≡ true → IsDone config.now.names self.new.feed) }
+        ensures same { (self.new.feed.ended ≡ self.old.feed.ended) × (self.new.feed.taken ≡ self.old.feed.taken) × (self.new.feed.dropped ≡ self.old.feed.dropped) }
         ensures kinds { IfErr result (λ fault. (is_read fault ≡ false) × (is_config fault ≡ false)) }
         ensures no_thread_fault { IfErr result (λ fault. is_thread_fault fault ≡ false) }
         ensures writes { W.failures trace.new ≡ W.failures trace.old + (if failed_write result then 1 else 0) }
     {
-        let names = config.names();
-        let found = match self.feed.next(names) {
-            Ok(found) => found,
-            Err(fault) => return Err(RunFault::Text(fault)),
-        };
-        match found {
-            None => Ok(false),
-            Some(event) => {
-                self.answer(names, event, trace)?;
-                Ok(true)
-            }
+        self.make_room(trace)?;
+        while self.answer_next(config)? {
+            self.make_room(trace)?;
         }
+        Ok(())
     }
 
-    /// Answers each event whose line is whole.
+    /// Answers each event whose line is whole. What is told of them is passed on, also before a fault.
     pub fn drain<W: Sink>(&mut self, config: &Config, trace: &mut W) -> Result<(), RunFault>
         requires calls { W.failures trace.old < 2 ^ 64 - 1 }
         requires counted { self.old.count ≡ self.old.feed.events }
@@ -260,8 +342,12 @@ impl Answering {
         ensures no_thread_fault { IfErr result (λ fault. is_thread_fault fault ≡ false) }
         ensures writes { W.failures trace.new ≡ W.failures trace.old + (if failed_write result then 1 else 0) }
     {
-        while self.answer_next(config, trace)? {}
-        Ok(())
+        let gathered = self.gather(config, trace);
+        if has_failed_write(&gathered) {
+            return gathered;
+        }
+        self.pass(trace)?;
+        gathered
     }
 
     /// Reads a further piece of the text, or its end. The trace holds nothing back meanwhile, so who gives events one by one has
@@ -287,9 +373,11 @@ impl Answering {
             → IfErr result (Leaves d c text whole old written) }
         ensures first { (whole : Reading) → IfErr result (FirstEventFault whole) }
         ensures end { IsKnown (S.left events.old) → OnOk result (self.new.feed.ended ≡ true → bytes_of (S.left events.new) ≡ []) }
-        ensures counts { (self.new.count ≡ self.old.count) × (self.new.feed.events ≡ self.old.feed.events) × (self.new.kernel ≡ self.old.kernel) × (self.new.detail ≡ self.old.detail) × (self.new.line ≡ self.old.line) }
+        ensures counts { (self.new.count ≡ self.old.count) × (self.new.feed.events ≡ self.old.feed.events) × (self.new.kernel ≡ self.old.kernel)
+            × (self.new.detail ≡ self.old.detail) × (pending self.new ≡ pending self.old) }
         ensures fits { OnOk result (self.new.feed.taken ≤ most_bytes) }
-        ensures moves { OnOk result (self.new.feed.ended ≡ false → self.new.feed.dropped ≡ false → (self.old.feed.taken < self.new.feed.taken) × (self.new.feed.taken ≤ most_bytes)) }
+        ensures moves { OnOk result (self.new.feed.ended ≡ false → self.new.feed.dropped ≡ false → (self.old.feed.taken < self.new.feed.taken)
+            × (self.new.feed.taken ≤ most_bytes)) }
         ensures kinds { IfErr result (λ fault. (is_write fault ≡ false) × (is_config fault ≡ false)) }
         ensures no_thread_fault { IfErr result (λ fault. is_thread_fault fault ≡ false) }
         ensures reads { S.failures events.new ≡ S.failures events.old + (if failed_read result then 1 else 0) }

@@ -58,7 +58,8 @@ FirstTraceFault config_text trace_text other = Unit {0}
 
 -- What a run over a configuration and a trace owes to both texts, whatever it writes. Of each text it speaks by what its device had left to
 -- read before and after, where that is known. When a fault of the trace is its first one is the run's own matter.
-pub record JudgesTexts (IsFirst : List ℕ → List ℕ → RunFault → Type 0) (config_old config_new trace_old trace_new : Option (List ℕ)) (result : Result Verdict RunFault) : Type 0 where
+pub record JudgesTexts (IsFirst : List ℕ → List ℕ → RunFault → Type 0) (config_old config_new trace_old trace_new : Option (List ℕ))
+    (result : Result Verdict RunFault) : Type 0 where
   -- where there is a verdict, the configuration was read to its end
   pub config_read : IsKnown config_old → OnOk result (bytes_of config_new ≡ [])
   -- and so was the trace

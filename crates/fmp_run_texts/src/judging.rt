@@ -60,7 +60,8 @@ pub fn judged_texts<R: Source, S: Source>(
     ensures says { IsKnown (R.left config.old) → IfOk result (λ judged. SaysConfig (bytes_of (R.left config.old)) judged.config) }
     ensures text { IsKnown (S.left trace.old) → IfOk result (λ judged. judged.text.items ≡ bytes_of (S.left trace.old)) }
     ensures judged { IfOk result (λ judged. Judges judged.config judged.text.items judged.verdict) }
-    ensures checked { IsKnown (R.left config.old) → IsKnown (S.left trace.old) → IfOk result (λ judged. Checked (bytes_of (R.left config.old)) (bytes_of (S.left trace.old)) judged.verdict) }
+    ensures checked { IsKnown (R.left config.old) → IsKnown (S.left trace.old)
+        → IfOk result (λ judged. Checked (bytes_of (R.left config.old)) (bytes_of (S.left trace.old)) judged.verdict) }
     ensures texts { JudgesTexts FirstTraceFault (R.left config.old) (R.left config.new) (S.left trace.old) (S.left trace.new) (verdict_in result) }
     ensures reads { CountsReads result (R.failures config.old) (R.failures config.new) (S.failures trace.old) (S.failures trace.new) }
     ensures no_write { failed_write result ≡ false }

@@ -67,7 +67,8 @@ pub fn texts_from<R: Source, S: Source>(
     ensures config_read { IsKnown (R.left config.old) → OnOk result (bytes_of (R.left config.new) ≡ []) }
     ensures scripts_read { IsKnown (S.left scripts.old) → OnOk result (bytes_of (S.left scripts.new) ≡ []) }
     ensures config_fault { IsKnown (R.left config.old) → IfErr result (FirstConfigFault (bytes_of (R.left config.old))) }
-    ensures text_fault { IsKnown (R.left config.old) → IsKnown (S.left scripts.old) → IfErr result (FirstScriptFault (bytes_of (R.left config.old)) (bytes_of (S.left scripts.old))) }
+    ensures text_fault { IsKnown (R.left config.old) → IsKnown (S.left scripts.old)
+        → IfErr result (FirstScriptFault (bytes_of (R.left config.old)) (bytes_of (S.left scripts.old))) }
     ensures reads { CountsReads result (R.failures config.old) (R.failures config.new) (S.failures scripts.old) (S.failures scripts.new) }
     ensures no_write { failed_write result ≡ false }
     ensures no_thread_fault { IfErr result (λ fault. is_thread_fault fault ≡ false) }

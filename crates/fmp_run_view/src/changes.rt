@@ -69,7 +69,8 @@ fn put_change(
     index: usize,
 ) -> Result<(), AllocError>
     requires { index < most signal }
-    ensures { OnOk result (out.new.items ≡ out.old.items ++ spec.lines_of (spec.change_if all signal index (value_text before.now signal index) (value_text after.now signal index))) }
+    ensures { OnOk result (out.new.items ≡ out.old.items
+        ++ spec.lines_of (spec.change_if all signal index (value_text before.now signal index) (value_text after.now signal index))) }
 {
     if !all && before.shows_as(after, signal, index) {
         return Ok(());

@@ -45,7 +45,8 @@ fn show<W: Sink>(
     ensures shown { IsKnown (W.written page.old) → (records : List AnyRecord) → PrintsWithin config.now.names text.now records
         → OnOk result (bytes_of (W.written page.new) ≡ bytes_of (W.written page.old) ++ page_of config.now trace.now given.now (map (λ r. r.event) records)) }
     ensures begun { IsKnown (W.written page.old) → (records : List AnyRecord) → PrintsWithin config.now.names text.now records
-        → OnErr result (BeginsWith (bytes_of (W.written page.old)) (page_of config.now trace.now given.now (map (λ r. r.event) records)) (bytes_of (W.written page.new))) }
+        → OnErr result (BeginsWith (bytes_of (W.written page.old)) (page_of config.now trace.now given.now (map (λ r. r.event) records))
+        (bytes_of (W.written page.new))) }
     ensures kinds { (records : List AnyRecord) → PrintsWithin config.now.names text.now records → IfErr result IsLate }
     ensures no_thread_fault { IfErr result (λ fault. is_thread_fault fault ≡ false) }
     ensures writes { W.failures page.new ≡ W.failures page.old + (if failed_write result then 1 else 0) }
@@ -83,13 +84,15 @@ fn show_judged<W: Sink>(
     requires calls { W.failures page.old < 2 ^ 64 - 1 }
     requires judged { Judges judged.now.config judged.now.text.items judged.now.verdict }
     ensures known { IsKnown (W.written page.old) → IsKnown (W.written page.new) }
-    ensures shown { IsKnown (W.written page.old) → OnOk result (IsShownBy kind judged.now.config judged.now.text.items (bytes_of (W.written page.old)) (bytes_of (W.written page.new)) judged.now.verdict) }
+    ensures shown { IsKnown (W.written page.old)
+        → OnOk result (IsShownBy kind judged.now.config judged.now.text.items (bytes_of (W.written page.old)) (bytes_of (W.written page.new)) judged.now.verdict) }
     ensures same { IsKnown (W.written page.old) → judged.now.verdict ≡ Verdict.Yes
         → OnOk result (IsPageOut PageKind.Own judged.now.config judged.now.text.items (bytes_of (W.written page.old)) (bytes_of (W.written page.new))) }
     ensures passed { OnOk result (judged.now.verdict ≡ Verdict.Yes → W.buffered page.new ≡ []) }
     ensures all_passed { kind ≡ PageKind.Differences → OnOk result (W.buffered page.new ≡ []) }
     ensures none_held { W.buffered page.old ≡ [] → result ≢ Err RunFault.Write → W.buffered page.new ≡ [] }
-    ensures leaves { IsKnown (W.written page.old) → IfErr result (Leaves (Shows kind judged.now.config judged.now.text.items) (bytes_of (W.written page.old)) (bytes_of (W.written page.new))) }
+    ensures leaves { IsKnown (W.written page.old)
+        → IfErr result (Leaves (Shows kind judged.now.config judged.now.text.items) (bytes_of (W.written page.old)) (bytes_of (W.written page.new))) }
     ensures kinds { IfErr result IsLate }
     ensures no_thread_fault { IfErr result (λ fault. is_thread_fault fault ≡ false) }
     ensures writes { W.failures page.new ≡ W.failures page.old + (if failed_write result then 1 else 0) }
@@ -137,7 +140,9 @@ pub fn run_view<R: Source, S: Source, W: Sink>(
 
     // Of a trace that is the machine's own both kinds are the same page, on which no line differs.
     ensures same { IsKnown (R.left config.old) → IsKnown (S.left trace.old) → IsKnown (W.written page.old)
-        → IfOk result (λ verdict. verdict ≡ Verdict.Yes → Shown PageKind.Own (bytes_of (R.left config.old)) (bytes_of (S.left trace.old)) (bytes_of (W.written page.old)) (bytes_of (W.written page.new)) Verdict.Yes) }
+        → IfOk result (λ verdict. verdict ≡ Verdict.Yes
+        → Shown PageKind.Own (bytes_of (R.left config.old)) (bytes_of (S.left trace.old)) (bytes_of (W.written page.old))
+        (bytes_of (W.written page.new)) Verdict.Yes) }
 
     // What it owes to both texts: they were read to their ends, a trace that is the machine's own has the verdict yes, a fault of a text is its
     // first one, and no thread was started.

@@ -7,7 +7,8 @@ use Rattle.fmp_trace.specs.Values.{named}
 use Rattle.fmp_run_wave.specs.declared.signal.Scope.{Scope}
 use Rattle.fmp_run_wave.specs.declared.signal.Scope.TheVariants as scopes
 use Rattle.fmp_run_wave.specs.declared.signal.Signal.{Signal}
-use Rattle.fmp_run_wave.specs.declared.signal.Signal.TheVariants.{Running, Call, Locked, Disabled, Latch, Due, Tick, State, Wait, Priority, Activations, Wakeups, Count, Pattern, Values, Free, Holder}
+use Rattle.fmp_run_wave.specs.declared.signal.Signal.TheVariants.{Running, Call, Locked, Disabled, Latch, Due, Tick, State, Wait, Priority, Activations, Wakeups, Count}
+use Rattle.fmp_run_wave.specs.declared.signal.Signal.TheVariants.{Pattern, Values, Free, Holder}
 
 abbrev pub letter : Signal → List ℕ
 letter Running = codes "r"

@@ -14,6 +14,7 @@ use fmp_rules::Config;
 use fmp_trace_check::Watcher;
 use std::alloc::{AllocError, Global};
 use std::marker::Model;
+use std::mem;
 
 /// Adds what stands before the values at time 0.
 #[tactic(auto, unfolding(crate::specs::Waves::start_begin))]
@@ -46,6 +47,8 @@ fn put_start(out: &mut Vec<u8>, config: &Config, shown: &Snapshot) -> Result<(),
 #[derive(Drop)]
 pub(crate) struct Drawing {
     shown: Snapshot,
+    /// Room for what is shown of the next state.
+    spare: Snapshot,
     texts: Texts,
     wave: Vec<u8>,
 }
@@ -69,6 +72,7 @@ impl Drawing {
         put_start(&mut wave, config, &shown)?;
         Ok(Drawing {
             shown,
+            spare: Snapshot::empty(),
             texts: Texts::new(alloc),
             wave,
         })
@@ -81,9 +85,15 @@ impl Drawing {
         if self.shown.shows(machine) {
             return Ok(());
         }
-        let shown = Snapshot::of(machine);
-        put_changes(&mut self.wave, &mut self.texts, names, &self.shown, &shown)?;
-        self.shown = shown;
+        self.spare.renew(machine);
+        put_changes(
+            &mut self.wave,
+            &mut self.texts,
+            names,
+            &self.shown,
+            &self.spare,
+        )?;
+        mem::swap(&mut self.shown, &mut self.spare);
         Ok(())
     }
 

@@ -52,9 +52,12 @@ fn drawn_by<S: Source>(alloc: Global, config: &Config, trace: &mut S) -> Result<
 fn write_drawn<W: Sink>(judged: &Judged, wave: &mut W) -> Result<(), RunFault>
     requires calls { W.failures wave.old < 2 ^ 64 - 1 }
     ensures known { IsKnown (W.written wave.old) → IsKnown (W.written wave.new) }
-    ensures yes { IsKnown (W.written wave.old) → OnOk result (judged.now.verdict ≡ Verdict.Yes → bytes_of (W.written wave.new) ≡ bytes_of (W.written wave.old) ++ judged.now.wave.items) }
-    ensures no { IsKnown (W.written wave.old) → OnOk result ((n : ℕ) → judged.now.verdict ≡ Verdict.No n → bytes_of (W.written wave.new) ≡ bytes_of (W.written wave.old)) }
-    ensures begun { IsKnown (W.written wave.old) → OnErr result ((judged.now.verdict ≡ Verdict.Yes) × BeginsWith (bytes_of (W.written wave.old)) judged.now.wave.items (bytes_of (W.written wave.new))) }
+    ensures yes { IsKnown (W.written wave.old)
+        → OnOk result (judged.now.verdict ≡ Verdict.Yes → bytes_of (W.written wave.new) ≡ bytes_of (W.written wave.old) ++ judged.now.wave.items) }
+    ensures no { IsKnown (W.written wave.old)
+        → OnOk result ((n : ℕ) → judged.now.verdict ≡ Verdict.No n → bytes_of (W.written wave.new) ≡ bytes_of (W.written wave.old)) }
+    ensures begun { IsKnown (W.written wave.old)
+        → OnErr result ((judged.now.verdict ≡ Verdict.Yes) × BeginsWith (bytes_of (W.written wave.old)) judged.now.wave.items (bytes_of (W.written wave.new))) }
     ensures passed { OnOk result (judged.now.verdict ≡ Verdict.Yes → W.buffered wave.new ≡ []) }
     ensures none_held { W.buffered wave.old ≡ [] → OnOk result (W.buffered wave.new ≡ []) }
     ensures kinds { IfErr result (λ fault. fault ≡ RunFault.Write) }

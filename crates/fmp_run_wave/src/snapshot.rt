@@ -151,14 +151,13 @@ fn runs_with(processors: &[ShownProcessor], places: &[u8], t: Task) -> Option<Ta
     runs_at(processors, byte_of(places, t, 1))
 }
 
-/// A list of these bytes.
-fn copied(bytes: &[u8]) -> ArrayVec<u8, 64>
+/// Makes a list one of these bytes.
+fn renew_bytes(list: &mut ArrayVec<u8, 64>, bytes: &[u8])
     requires { length bytes.now ≤ 64 }
-    ensures { result.items ≡ bytes.now }
+    ensures { list.new.items ≡ bytes.now }
 {
-    let mut list = ArrayVec::new();
+    list.clear();
     let _ = list.try_extend_from_slice(bytes);
-    list
 }
 
 /// What is shown of a processor.
@@ -176,26 +175,24 @@ fn shown_processor(machine: &PlainMachine, p: Proc) -> ShownProcessor
     }
 }
 
-/// What is shown of all processors.
-fn shown_processors(machine: &PlainMachine) -> ArrayVec<ShownProcessor, 8>
-    ensures { result.items ≡ (spec.shown_of machine.now).processors }
+/// Makes a list what is shown of all processors.
+fn renew_processors(shown: &mut ArrayVec<ShownProcessor, 8>, machine: &PlainMachine)
+    ensures { shown.new.items ≡ (spec.shown_of machine.now).processors }
 {
-    let mut shown = ArrayVec::new();
+    shown.clear();
     for index in 0..machine.processor_count() {
         shown.push(shown_processor(machine, Proc::from_index(index)));
     }
-    shown
 }
 
-/// What all tasks wait for.
-fn shown_waits(machine: &PlainMachine) -> ArrayVec<Option<Wait>, 64>
-    ensures { result.items ≡ spec.shown_waits machine.now }
+/// Makes a list what all tasks wait for.
+fn renew_waits(shown: &mut ArrayVec<Option<Wait>, 64>, machine: &PlainMachine)
+    ensures { shown.new.items ≡ spec.shown_waits machine.now }
 {
-    let mut shown = ArrayVec::new();
+    shown.clear();
     for index in 0..machine.task_count() {
         shown.push(machine.task(Task::from_index(index)).wait);
     }
-    shown
 }
 
 /// The numbers of a task.
@@ -213,26 +210,24 @@ fn task_numbers(x: TaskRecord) -> TaskNumbers
     }
 }
 
-/// The numbers of all tasks.
-fn shown_counts(machine: &PlainMachine) -> ArrayVec<TaskNumbers, 64>
-    ensures { result.items ≡ spec.shown_counts machine.now }
+/// Makes a list the numbers of all tasks.
+fn renew_counts(shown: &mut ArrayVec<TaskNumbers, 64>, machine: &PlainMachine)
+    ensures { shown.new.items ≡ spec.shown_counts machine.now }
 {
-    let mut shown = ArrayVec::new();
+    shown.clear();
     for index in 0..machine.task_count() {
         shown.push(task_numbers(machine.task(Task::from_index(index))));
     }
-    shown
 }
 
-/// The numbers of the objects of a kind.
-fn shown_numbers(machine: &PlainMachine, resource: Resource) -> ArrayVec<u64, 32>
-    ensures { result.items ≡ spec.shown_numbers machine.now resource }
+/// Makes a list the numbers of the objects of a kind.
+fn renew_numbers(shown: &mut ArrayVec<u64, 32>, machine: &PlainMachine, resource: Resource)
+    ensures { shown.new.items ≡ spec.shown_numbers machine.now resource }
 {
-    let mut shown = ArrayVec::new();
+    shown.clear();
     for index in 0..count_in(machine, resource) {
         shown.push(number_in(machine, resource, Object::from_index(index)));
     }
-    shown
 }
 
 /// Whether the same task runs, or none.
@@ -384,22 +379,45 @@ fn show_numbers(numbers: &[u64], machine: &PlainMachine, resource: Resource) -> 
 }
 
 impl Snapshot {
+    /// Nothing: no processor, no task and no object.
+    pub(crate) fn empty() -> Snapshot {
+        Snapshot {
+            processors: ArrayVec::new(),
+            kinds: ArrayVec::new(),
+            places: ArrayVec::new(),
+            waits: ArrayVec::new(),
+            counts: ArrayVec::new(),
+            semaphores: ArrayVec::new(),
+            eventflags: ArrayVec::new(),
+            data_queues: ArrayVec::new(),
+            pools: ArrayVec::new(),
+            holders: ArrayVec::new(),
+        }
+    }
+
     /// What is shown of a machine's state.
     pub(crate) fn of(machine: &PlainMachine) -> Snapshot
         ensures { result ≡ spec.shown_of machine.now }
     {
-        Snapshot {
-            processors: shown_processors(machine),
-            kinds: copied(machine.kinds()),
-            places: copied(machine.places()),
-            waits: shown_waits(machine),
-            counts: shown_counts(machine),
-            semaphores: shown_numbers(machine, Resource::Semaphore),
-            eventflags: shown_numbers(machine, Resource::Eventflag),
-            data_queues: shown_numbers(machine, Resource::DataQueue),
-            pools: shown_numbers(machine, Resource::Pool),
-            holders: shown_numbers(machine, Resource::SpinLock),
-        }
+        let mut shown = Snapshot::empty();
+        shown.renew(machine);
+        shown
+    }
+
+    /// Becomes what is shown of a machine's state, in the memory that it has.
+    pub(crate) fn renew(&mut self, machine: &PlainMachine)
+        ensures { self.new ≡ spec.shown_of machine.now }
+    {
+        renew_processors(&mut self.processors, machine);
+        renew_bytes(&mut self.kinds, machine.kinds());
+        renew_bytes(&mut self.places, machine.places());
+        renew_waits(&mut self.waits, machine);
+        renew_counts(&mut self.counts, machine);
+        renew_numbers(&mut self.semaphores, machine, Resource::Semaphore);
+        renew_numbers(&mut self.eventflags, machine, Resource::Eventflag);
+        renew_numbers(&mut self.data_queues, machine, Resource::DataQueue);
+        renew_numbers(&mut self.pools, machine, Resource::Pool);
+        renew_numbers(&mut self.holders, machine, Resource::SpinLock);
     }
 
     /// How many processors there are.

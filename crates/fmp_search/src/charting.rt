@@ -38,8 +38,10 @@ fn join_step<W: Space>(
     requires origins { (W.origin base.now ≡ W.origin walker.old) × (W.origin other.old ≡ W.origin walker.old) × (W.origin trunk.now ≡ W.origin walker.old) }
     requires trunk { StandsAt W.after (W.origin walker.old) store.now.nodes.items 0 (W.place trunk.now) (W.room trunk.now) }
     ensures joined { IfOk result (λ done. done ≡ true → IsJoined W.after W.passes (W.origin walker.old) store.now.nodes.items edges.new.items at step) }
-    ensures kept { OnOk result ((n : ℕ) (s : ℕ) → IsJoined W.after W.passes (W.origin walker.old) store.now.nodes.items edges.old.items n s → IsJoined W.after W.passes (W.origin walker.old) store.now.nodes.items edges.new.items n s) }
-    ensures sure { OnOk result (AreTrue W.after W.passes (W.origin walker.old) store.now.nodes.items edges.old.items → AreTrue W.after W.passes (W.origin walker.old) store.now.nodes.items edges.new.items) }
+    ensures kept { OnOk result ((n : ℕ) (s : ℕ) → IsJoined W.after W.passes (W.origin walker.old) store.now.nodes.items edges.old.items n s
+        → IsJoined W.after W.passes (W.origin walker.old) store.now.nodes.items edges.new.items n s) }
+    ensures sure { OnOk result (AreTrue W.after W.passes (W.origin walker.old) store.now.nodes.items edges.old.items
+        → AreTrue W.after W.passes (W.origin walker.old) store.now.nodes.items edges.new.items) }
     ensures walker_origin { W.origin walker.new ≡ W.origin walker.old }
     ensures other_origin { W.origin other.new ≡ W.origin other.old }
 {
@@ -82,8 +84,10 @@ fn join_place<W: Space>(
     requires origins { (W.origin base.now ≡ W.origin walker.old) × (W.origin other.old ≡ W.origin walker.old) × (W.origin trunk.now ≡ W.origin walker.old) }
     requires trunk { StandsAt W.after (W.origin walker.old) store.now.nodes.items 0 (W.place trunk.now) (W.room trunk.now) }
     ensures joined { IfOk result (λ done. done ≡ true → (s : ℕ) → IsJoined W.after W.passes (W.origin walker.old) store.now.nodes.items edges.new.items at s) }
-    ensures kept { OnOk result ((n : ℕ) (s : ℕ) → IsJoined W.after W.passes (W.origin walker.old) store.now.nodes.items edges.old.items n s → IsJoined W.after W.passes (W.origin walker.old) store.now.nodes.items edges.new.items n s) }
-    ensures sure { OnOk result (AreTrue W.after W.passes (W.origin walker.old) store.now.nodes.items edges.old.items → AreTrue W.after W.passes (W.origin walker.old) store.now.nodes.items edges.new.items) }
+    ensures kept { OnOk result ((n : ℕ) (s : ℕ) → IsJoined W.after W.passes (W.origin walker.old) store.now.nodes.items edges.old.items n s
+        → IsJoined W.after W.passes (W.origin walker.old) store.now.nodes.items edges.new.items n s) }
+    ensures sure { OnOk result (AreTrue W.after W.passes (W.origin walker.old) store.now.nodes.items edges.old.items
+        → AreTrue W.after W.passes (W.origin walker.old) store.now.nodes.items edges.new.items) }
     ensures walker_origin { W.origin walker.new ≡ W.origin walker.old }
     ensures other_origin { W.origin other.new ≡ W.origin other.old }
 {
@@ -95,7 +99,8 @@ fn join_place<W: Space>(
     Ok(true)
 }
 
-/// Adds the edges of all steps from the place of a number, where `base` stands then, if it was opened. Says whether it is open: it was not opened, or a place to which a step
+/// Adds the edges of all steps from the place of a number, where `base` stands then, if it was opened. Says whether it is open: it was not opened, or
+/// a place to which a step
 /// leads is not found. The error is want of memory.
 fn chart_place<W: Space>(
     alloc: Global,
@@ -113,8 +118,10 @@ fn chart_place<W: Space>(
     requires origins { (W.origin base.old ≡ W.origin walker.old) × (W.origin other.old ≡ W.origin walker.old) × (W.origin trunk.now ≡ W.origin walker.old) }
     requires trunk { StandsAt W.after (W.origin walker.old) found.now.store.nodes.items 0 (W.place trunk.now) (W.room trunk.now) }
     ensures joined { IfOk result (λ left. left ≡ false → (s : ℕ) → IsJoined W.after W.passes (W.origin walker.old) found.now.store.nodes.items edges.new.items at s) }
-    ensures kept { OnOk result ((n : ℕ) (s : ℕ) → IsJoined W.after W.passes (W.origin walker.old) found.now.store.nodes.items edges.old.items n s → IsJoined W.after W.passes (W.origin walker.old) found.now.store.nodes.items edges.new.items n s) }
-    ensures sure { OnOk result (AreTrue W.after W.passes (W.origin walker.old) found.now.store.nodes.items edges.old.items → AreTrue W.after W.passes (W.origin walker.old) found.now.store.nodes.items edges.new.items) }
+    ensures kept { OnOk result ((n : ℕ) (s : ℕ) → IsJoined W.after W.passes (W.origin walker.old) found.now.store.nodes.items edges.old.items n s
+        → IsJoined W.after W.passes (W.origin walker.old) found.now.store.nodes.items edges.new.items n s) }
+    ensures sure { OnOk result (AreTrue W.after W.passes (W.origin walker.old) found.now.store.nodes.items edges.old.items
+        → AreTrue W.after W.passes (W.origin walker.old) found.now.store.nodes.items edges.new.items) }
     ensures walker_origin { W.origin walker.new ≡ W.origin walker.old }
     ensures base_origin { W.origin base.new ≡ W.origin base.old }
     ensures other_origin { W.origin other.new ≡ W.origin other.old }

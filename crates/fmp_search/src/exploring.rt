@@ -56,7 +56,8 @@ pub(crate) fn move_trunk<W: Space>(
 /// walkers stand at places of the same graph: one is made to stand at a place and is copied for each step from there, one makes that step,
 /// one looks at what was found before, and one stands at the last place through which all runs lead that are gone on from.
 ///
-/// Where the room does not do, `NotWithin` says for how many steps it did, and then all of it was used. `Ended` is the answer only where `progress` ends the search. Where it did, and not all is known, the
+/// Where the room does not do, `NotWithin` says for how many steps it did, and then all of it was used. `Ended` is the answer only where `progress`
+/// ends the search. Where it did, and not all is known, the
 /// places that were found last are given beside that, to go on from. The error is want of memory.
 pub fn explore<W: Space, P: Progress>(
     alloc: Global,

@@ -28,8 +28,10 @@ fn steps_from<W: Space>(
     requires tree { IsTree W.after (W.origin _walker.now) nodes.now }
     requires place { at ≤ length nodes.now }
     ensures from { IfOk result (λ r. (r.0 ≡ stem) ⊎ (r.0 ≡ 0)) }
-    ensures leads { IfOk result (λ r. run W.after (found_at W.after (W.origin _walker.now) nodes.now r.0).place r.1.items ≡ Some (found_at W.after (W.origin _walker.now) nodes.now at).place) }
-    ensures count { IfOk result (λ r. (found_at W.after (W.origin _walker.now) nodes.now r.0).depth + length r.1.items ≡ (found_at W.after (W.origin _walker.now) nodes.now at).depth) }
+    ensures leads { IfOk result (λ r. run W.after (found_at W.after (W.origin _walker.now) nodes.now r.0).place r.1.items ≡ Some
+        (found_at W.after (W.origin _walker.now) nodes.now at).place) }
+    ensures count { IfOk result (λ r. (found_at W.after (W.origin _walker.now) nodes.now r.0).depth + length r.1.items ≡
+        (found_at W.after (W.origin _walker.now) nodes.now at).depth) }
 {
     path_from(alloc, nodes, stem, at)
 }

@@ -1,7 +1,8 @@
 //! Steps from which on a test is passed for ever.
 ghost use Rattle.std.specs.Prelude.{◌≡◌, ◌≤◌, ◌<◌, ◌+◌, ◌^◌, ◌⊎◌, ℕ, Some, true, false, length, IfOk};
 ghost use Rattle.fmp_search.specs.Trees.{found_at, IsTree};
-ghost use Rattle.fmp_search.specs.Forever.{is_bit, mark_at, test_of, AreClosed, AreEarned, AreEntered, AreKept, AreMarked, AreNearest, AreTrue, AreWithin, Covers, HasFailing, HasWithin, IsCharted, IsRight, IsTrueEdge, IsWhole, SaysForEver, Surveyed};
+ghost use Rattle.fmp_search.specs.Forever.{is_bit, mark_at, test_of, AreClosed, AreEarned, AreEntered, AreKept, AreMarked, AreNearest, AreTrue, AreWithin, Covers};
+ghost use Rattle.fmp_search.specs.Forever.{HasFailing, HasWithin, IsCharted, IsRight, IsTrueEdge, IsWhole, SaysForEver, Surveyed};
 
 use crate::charting::{Chart, chart_places};
 use crate::marks::{Edge, spread};
@@ -144,7 +145,8 @@ fn run_over<W: Space>(
     requires closed { AreClosed W.after (test_of W.passes test) (W.origin walker.now) nodes.now marks.now }
     requires long { length marks.now ≡ length nodes.now + 1 }
     ensures right { IfOk result (λ o. IsRight W.after W.passes (W.origin walker.now) (test + 1) o) }
-    ensures within { IfOk result (λ o. is_bit edge.passes test ≡ true → mark_at marks.now edge.to ≡ false → HasWithin o ((found_at W.after (W.origin walker.now) nodes.now edge.from).depth + 1)) }
+    ensures within { IfOk result (λ o. is_bit edge.passes test ≡ true → mark_at marks.now edge.to ≡ false
+        → HasWithin o ((found_at W.after (W.origin walker.now) nodes.now edge.from).depth + 1)) }
 {
     if !is_bit(edge.passes, test) {
         return Ok(None);

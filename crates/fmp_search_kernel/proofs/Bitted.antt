@@ -3,7 +3,7 @@ use Rattle.std.proofs.Common.{◌≡◌, ◌∙◌, ℕ, suc, ◌+◌, ◌*◌, 
 use Rattle.std.proofs.Math.Nat.{pow-le-pow_right}
 use Rattle.std.proofs.Math.Seq.{drop-cons}
 use Rattle.std.proofs.lemmas.List.{length-map, length-drop}
-use Rattle.fmp_search_question.specs.Lasting.{Lasting}
+use Rattle.fmp_search_pattern.specs.Lasting.{Lasting}
 use Rattle.fmp_search_orders.specs.Watched.{bits_of}
 use Rattle.fmp_search_orders.proofs.Watching.{bits_less}
 

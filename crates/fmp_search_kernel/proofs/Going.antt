@@ -7,7 +7,7 @@ use Rattle.fmp_rules.specs.World.{World}
 use Rattle.fmp_rules.specs.Step.{step}
 use Rattle.fmp_kernel_order.specs.Queues.{Queues, listed}
 use Rattle.fmp_search.specs.Runs.{Goes}
-use Rattle.fmp_search_question.specs.Questions.{allows}
+use Rattle.fmp_search_pattern.specs.Questions.{allows}
 use Rattle.fmp_search_kernel.specs.Walked.{Walked}
 use Rattle.fmp_search_orders.specs.Places.{Place, event_of, is_marked, went, sight_at, after, told_of, told}
 

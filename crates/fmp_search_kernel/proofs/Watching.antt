@@ -6,8 +6,8 @@ use Rattle.fmp_codes.specs.declared.records.Record.{Record}
 use Rattle.fmp_rules.specs.Step.{step}
 use Rattle.fmp_kernel_order.specs.Queues.{listed}
 use Rattle.fmp_search.specs.Runs.{Goes, Watches}
-use Rattle.fmp_search_question.specs.Questions.{allows}
-use Rattle.fmp_search_question.specs.Lasting.{Lasting, is_so}
+use Rattle.fmp_search_pattern.specs.Questions.{allows}
+use Rattle.fmp_search_pattern.specs.Lasting.{Lasting, is_so}
 use Rattle.fmp_search_orders.specs.Lasting.{step_test, test_there}
 use Rattle.fmp_search_orders.specs.Places.{Place, origin, event_of, is_marked, went, sight_at, allowed, next_place, after}
 use Rattle.fmp_search_orders.specs.Watched.{Watched, watched, watched_after, origin_at, bits_of}

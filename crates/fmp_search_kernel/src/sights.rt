@@ -4,8 +4,8 @@ ghost use Rattle.fmp_kernel_order.specs.Queues.{listed};
 ghost use Rattle.fmp_search_orders.specs.Orders.{each};
 ghost use Rattle.fmp_search_orders.specs.Sights as sights;
 ghost use Rattle.fmp_search_orders.specs.Watched.{bits_of};
-ghost use Rattle.fmp_search_question.specs.Lasting.{is_so};
-ghost use Rattle.fmp_search_question.specs.Questions as spec;
+ghost use Rattle.fmp_search_pattern.specs.Lasting.{is_so};
+ghost use Rattle.fmp_search_pattern.specs.Questions as spec;
 ghost use Rattle.fmp_show_state.specs.States.{state_lines};
 ghost use Rattle.fmp_trace.specs.Lines.{line_text};
 ghost use Rattle.fmp_search_kernel.specs.Walked.{count_in, is_idle_on};
@@ -16,7 +16,7 @@ use fmp_kernel::Kernel;
 use fmp_names::Names;
 use fmp_rules::Config;
 use fmp_search_orders::Rules;
-use fmp_search_question::{Lasting, Question, allows};
+use fmp_search_pattern::{Lasting, Question, allows};
 use fmp_show_state::put_lines;
 use fmp_trace::trace_line;
 use std::alloc::AllocError;
@@ -68,7 +68,7 @@ pub fn put_sight(
 }
 
 /// Whether it may depend on the lines of an event whether it may be marked so, where so many steps of the question were seen.
-#[tactic(auto, unfolding(fmp_search_question::specs::Questions::allows))]
+#[tactic(auto, unfolding(fmp_search_pattern::specs::Questions::allows))]
 pub fn has_to_look(question: &Question, seen: u32, marked: bool) -> bool
     ensures { result ≡ false → (text : List ℕ) → spec.allows question.now seen marked text ≡ not marked }
 {

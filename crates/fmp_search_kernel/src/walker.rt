@@ -7,8 +7,8 @@ ghost use Rattle.fmp_search_orders.specs.Places as places;
 ghost use Rattle.fmp_search.specs.Runs.{Watches};
 ghost use Rattle.fmp_search_orders.specs.Lasting.{step_test};
 ghost use Rattle.fmp_search_orders.specs.Watched.{bits_of};
-ghost use Rattle.fmp_search_question.specs.Lasting.{is_so};
-ghost use Rattle.fmp_search_question.specs.Questions.{allows};
+ghost use Rattle.fmp_search_pattern.specs.Lasting.{is_so};
+ghost use Rattle.fmp_search_pattern.specs.Questions.{allows};
 ghost use Rattle.fmp_search_kernel.specs.Walked.{origin_of};
 
 use crate::sights::{bits_in, has_to_look, is_over, look, put_sight};
@@ -17,7 +17,7 @@ use fmp_codes::{Answer, Event, Proc, Record, Runner};
 use fmp_kernel::Kernel;
 use fmp_rules::Config;
 use fmp_search_orders::Rules;
-use fmp_search_question::{Lasting, Question};
+use fmp_search_pattern::{Lasting, Question};
 use fmp_smp_histories::{advance_handler, advance_task, asked_at};
 use fmp_text_scripts::Scripts;
 use std::alloc::AllocError;
@@ -61,9 +61,25 @@ impl<'a> Model for Walker<'a> {
 
     ghost Value = { Walked };
 
-    ghost view = { λ w. record { place = record { config = w.config.now; scripts = w.scripts.now; rules = w.rules; question = w.question.now; machine = w.kernel; tasks = w.tasks; handlers = w.handlers; taken = w.taken; idled = w.idled; seen = w.seen }; left = w.left; made = w.made } };
+    ghost view = { λ w. record {
+      place = record {
+        config = w.config.now;
+        scripts = w.scripts.now;
+        rules = w.rules;
+        question = w.question.now;
+        machine = w.kernel;
+        tasks = w.tasks;
+        handlers = w.handlers;
+        taken = w.taken;
+        idled = w.idled;
+        seen = w.seen;
+      };
+      left = w.left;
+      made = w.made;
+    } };
 
-    ghost invariant = { λ w. (length w.kernel.processors ≡ w.config.now.processors) × (w.start ≡ boot listed (no_queues w.config.now) w.config.now) × (length w.start.processors ≡ w.config.now.processors) × IsRoomy w.tasks w.handlers w.taken w.idled w.seen w.left };
+    ghost invariant = { λ w. (length w.kernel.processors ≡ w.config.now.processors) × (w.start ≡ boot listed (no_queues w.config.now) w.config.now)
+        × (length w.start.processors ≡ w.config.now.processors) × IsRoomy w.tasks w.handlers w.taken w.idled w.seen w.left };
 }
 
 /// How many steps were seen after one more event, which is marked or not.
@@ -283,7 +299,8 @@ impl<'a> Walker<'a> {
         requires room { 0 < self.old.left }
         requires none { self.old.place.question ≡ [] }
         requires few { length lasting.now ≤ 64 }
-        ensures goes { IfOk result (λ told. Watches (places.after self.old.place step) (bits_of (map (λ l. step_test (is_so l) self.old.place step) lasting.now)) told self.new.place) }
+        ensures goes { IfOk result (λ told. Watches (places.after self.old.place step)
+            (bits_of (map (λ l. step_test (is_so l) self.old.place step) lasting.now)) told self.new.place) }
         ensures origin { origin_of self.new.place ≡ origin_of self.old.place }
         ensures question { self.new.place.question ≡ self.old.place.question }
     {

@@ -3,13 +3,13 @@ ghost use Rattle.std.specs.Prelude.{◌≡◌, ◌≤◌, ◌<◌, [], IfOk, IfS
 ghost use Rattle.fmp_search_orders.specs.Lasting.{step_test};
 ghost use Rattle.fmp_search_orders.specs.Places as places;
 ghost use Rattle.fmp_search_orders.specs.Watched as watched;
-ghost use Rattle.fmp_search_question.specs.Lasting.{is_so};
+ghost use Rattle.fmp_search_pattern.specs.Lasting.{is_so};
 
 use crate::walker::{Walker, is_marked};
 use fmp_rules::Config;
 use fmp_search::Space;
 use fmp_search_orders::Rules;
-use fmp_search_question::{Lasting, Question};
+use fmp_search_pattern::{Lasting, Question};
 use fmp_text_scripts::Scripts;
 use std::alloc::AllocError;
 use std::marker::Model;

@@ -17,8 +17,8 @@ use Rattle.fmp_smp_histories.specs.Histories.{events_of, state_after}
 use Rattle.fmp_smp_histories.proofs.Histories.{after_more, events_more}
 use Rattle.fmp_search.specs.Runs.{run}
 use Rattle.fmp_search.specs.Guides.{Follows, NoneWithinAlong, NoneEverAlong, IsShortestAlong}
-use Rattle.fmp_search_question.specs.declared.question.Step.{Step}
-use Rattle.fmp_search_question.specs.Questions.{allows, seen}
+use Rattle.fmp_search_pattern.specs.declared.question.Step.{Step}
+use Rattle.fmp_search_pattern.specs.Questions.{allows, seen}
 use Rattle.fmp_search_orders.specs.declared.rules.Rules.{Rules}
 use Rattle.fmp_search_orders.specs.Orders.{MayHappen, AreInOrder, IsOrder}
 use Rattle.fmp_search_orders.specs.Places.{Place, origin, event_of, is_marked, went, sight_at, next_place, after, told_of, told, records}

@@ -34,8 +34,8 @@ use Rattle.fmp_smp_histories.specs.Places.{renewed, released_tasks, moved_tasks,
 use Rattle.fmp_smp_histories.specs.Counted.{taken, is_taken_tick, TasksAre, HandlersAre}
 use Rattle.fmp_smp_histories.proofs.Histories.{after_more, run_more, count_after}
 use Rattle.fmp_smp_histories.proofs.Advancing.{tasks_moved, handlers_moved, called_long, released_long}
-use Rattle.fmp_search_question.specs.declared.question.Step.{Step}
-use Rattle.fmp_search_question.specs.Questions.{allows, seen}
+use Rattle.fmp_search_pattern.specs.declared.question.Step.{Step}
+use Rattle.fmp_search_pattern.specs.Questions.{allows, seen}
 use Rattle.fmp_search_orders.specs.declared.rules.Rules.{Rules}
 use Rattle.fmp_search_orders.specs.Orders.{counts_ticks, counted, each, is_busy, idled_next, idled_after, idled_by, MayHappen, AreInOrder}
 use Rattle.fmp_search_orders.specs.Sights.{sight}

@@ -34,8 +34,8 @@ use Rattle.fmp_smp_histories.specs.Scripted.{next_call, asked_at, position_of, i
 use Rattle.fmp_search.specs.declared.guided.Choice.{Choice}
 use Rattle.fmp_search.specs.Runs.{run}
 use Rattle.fmp_search.specs.Guides.{is_of, Follows}
-use Rattle.fmp_search_question.specs.declared.question.Step.{Step}
-use Rattle.fmp_search_question.specs.Questions.{allows, seen}
+use Rattle.fmp_search_pattern.specs.declared.question.Step.{Step}
+use Rattle.fmp_search_pattern.specs.Questions.{allows, seen}
 use Rattle.fmp_search_orders.specs.declared.rules.Rules.{Rules}
 use Rattle.fmp_search_orders.specs.Orders.{counts_ticks, counted, may_tick, is_busy, idled, keeps_pace, MayHappen, AreInOrder, IsOrder}
 use Rattle.fmp_search_orders.specs.Shown.{last_sight, IsMarked}

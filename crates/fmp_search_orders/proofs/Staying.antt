@@ -16,7 +16,7 @@ use Rattle.fmp_smp_histories.specs.Histories.{events_of, state_after}
 use Rattle.fmp_smp_histories.proofs.Histories.{run_more}
 use Rattle.fmp_search.specs.Runs.{run}
 use Rattle.fmp_search.specs.Forever.{EndsForEver}
-use Rattle.fmp_search_question.specs.Questions.{allows}
+use Rattle.fmp_search_pattern.specs.Questions.{allows}
 use Rattle.fmp_search_orders.specs.declared.rules.Rules.{Rules}
 use Rattle.fmp_search_orders.specs.Orders.{MayHappen, IsOrder}
 use Rattle.fmp_search_orders.specs.Shown.{last_sight}

@@ -9,7 +9,7 @@ use Rattle.fmp_setup.specs.Setup.{Setup}
 use Rattle.fmp_setup.specs.Valid.{IsValid}
 use Rattle.fmp_search.specs.Runs.{run}
 use Rattle.fmp_search.specs.Forever.{EndsForEver, is_bit, test_of}
-use Rattle.fmp_search_question.specs.Lasting.{Lasting, is_so}
+use Rattle.fmp_search_pattern.specs.Lasting.{Lasting, is_so}
 use Rattle.fmp_search_orders.specs.declared.rules.Rules.{Rules}
 use Rattle.fmp_search_orders.specs.Places.{Place, origin, after}
 use Rattle.fmp_search_orders.specs.Lasting.{step_test}

@@ -9,7 +9,7 @@ use Rattle.fmp_setup.specs.Setup.{Setup}
 use Rattle.fmp_smp_histories.specs.Histories.{events_of}
 use Rattle.fmp_search.specs.declared.guided.Choice.{Choice}
 use Rattle.fmp_search.specs.Guides.{NoneWithinAlong, NoneEverAlong, IsShortestAlong}
-use Rattle.fmp_search_question.specs.declared.question.Step.{Step}
+use Rattle.fmp_search_pattern.specs.declared.question.Step.{Step}
 use Rattle.fmp_search_orders.specs.declared.rules.Rules.{Rules}
 use Rattle.fmp_search_orders.specs.Orders.{IsOrder}
 use Rattle.fmp_search_orders.specs.Shown.{Shows}

@@ -4,7 +4,7 @@ use Rattle.fmp_codes.specs.declared.records.Record.{Record}
 use Rattle.fmp_text_scripts.specs.Scripts.{Steps}
 use Rattle.fmp_setup.specs.Setup.{Setup}
 use Rattle.fmp_search.specs.Roots.{AreRoots}
-use Rattle.fmp_search_question.specs.declared.question.Step.{Step}
+use Rattle.fmp_search_pattern.specs.declared.question.Step.{Step}
 use Rattle.fmp_search_orders.specs.declared.rules.Rules.{Rules}
 use Rattle.fmp_search_orders.specs.Orders.{IsOrder}
 use Rattle.fmp_search_orders.specs.Shown.{Shows, NoneShows, NoneShowsWithin, IsShortestShow}
@@ -38,7 +38,8 @@ pub record IsLayer (c : Setup) (scripts : List Steps) (rules : Rules) (question 
   pub within : (m : ℕ) → ((k : ℕ) (begun : List Record) → slice_get histories k ≡ Some begun → NoneShowsWithinFrom c scripts rules question begun m) →
       NoneShowsWithin c scripts rules question m
   pub shortest : (h : List Record) → IsOrder c scripts rules h → Shows c rules question h →
-      ((k : ℕ) (begun : List Record) → slice_get histories k ≡ Some begun → (g : List Record) → IsOrder c scripts rules g → GoesOn begun g → Shows c rules question g → length h ≤ length g) →
+      ((k : ℕ) (begun : List Record) → slice_get histories k ≡ Some begun → (g : List Record) → IsOrder c scripts rules g → GoesOn begun g → Shows c rules question g
+      → length h ≤ length g) →
       IsShortestShow c scripts rules question h
 
 -- what is told along runs over places from which all go on that lead to where the question was seen

@@ -51,5 +51,6 @@ pub record LastingAnswer (c : Setup) (scripts : List Steps) (rules : Rules) (tes
   pub never : NoneForEver after (step_test test) (origin c scripts rules []) → NoneEndsSo c scripts rules test
   pub found : (steps : List ℕ) → EndsForEver after (step_test test) (origin c scripts rules []) steps →
       EndsSo c scripts rules test (records (origin c scripts rules []) steps) × (length (records (origin c scripts rules []) steps) ≡ length steps)
-  pub shortest : (steps : List ℕ) → IsShortestForEver after (step_test test) (origin c scripts rules []) steps → IsShortestSo c scripts rules test (records (origin c scripts rules []) steps)
+  pub shortest : (steps : List ℕ) → IsShortestForEver after (step_test test) (origin c scripts rules []) steps
+      → IsShortestSo c scripts rules test (records (origin c scripts rules []) steps)
   pub runs : (h : List Record) → EndsSo c scripts rules test h → (steps : List ℕ) × IsRunSo c scripts rules test (length h) steps

@@ -9,8 +9,8 @@ use Rattle.fmp_smp_histories.specs.Histories.{state_after}
 use Rattle.fmp_smp_histories.specs.Counted.{TasksAre, HandlersAre}
 use Rattle.fmp_search.specs.Runs.{run}
 use Rattle.fmp_search.specs.Answers.{NoneWithin, NoneEver, IsShortest}
-use Rattle.fmp_search_question.specs.declared.question.Step.{Step}
-use Rattle.fmp_search_question.specs.Questions.{seen}
+use Rattle.fmp_search_pattern.specs.declared.question.Step.{Step}
+use Rattle.fmp_search_pattern.specs.Questions.{seen}
 use Rattle.fmp_search_orders.specs.declared.rules.Rules.{Rules}
 use Rattle.fmp_search_orders.specs.Orders.{counted, idled, IsOrder}
 use Rattle.fmp_search_orders.specs.Shown.{IsMarked, NoneShows, NoneShowsWithin, IsShortestShow}
@@ -47,9 +47,11 @@ pub record LeadsTo (c : Setup) (scripts : List Steps) (rules : Rules) (question 
 -- each run over places is one of all orders, the one that is told along it, and each of these is a run over places, of as many steps
 pub record RunsAreOrders (c : Setup) (scripts : List Steps) (rules : Rules) (question : List Step) : Type 0 where
   pub order : (steps : List ℕ) (w : Place) → run after (origin c scripts rules question) steps ≡ Some w →
-      (h : List Record) × (marks : List Bool) × (length h ≡ length steps) × (h ≡ records (origin c scripts rules question) steps) × LeadsTo c scripts rules question w h marks
+      (h : List Record) × (marks : List Bool) × (length h ≡ length steps) × (h ≡ records (origin c scripts rules question) steps)
+      × LeadsTo c scripts rules question w h marks
   pub steps : (h : List Record) (marks : List Bool) → IsOrder c scripts rules h → IsMarked c rules question h marks →
-      (steps : List ℕ) × (w : Place) × (length steps ≡ length h) × (run after (origin c scripts rules question) steps ≡ Some w) × LeadsTo c scripts rules question w h marks
+      (steps : List ℕ) × (w : Place) × (length steps ≡ length h) × (run after (origin c scripts rules question) steps ≡ Some w)
+      × LeadsTo c scripts rules question w h marks
 
 -- ---- what an answer over places says of all orders
 

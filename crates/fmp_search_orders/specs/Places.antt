@@ -1,6 +1,7 @@
 -- What a run is going on from: the places of all orders, which forget how they were come to. The order of tasks is kept by lists,
 -- which have no numbers of arrivals.
-use Rattle.std.specs.Prelude.{ℕ, zero, suc, ◌+◌, ◌-◌, ◌/◌, ◌%◌, ◌&&◌, ◌||◌, not, Bool, nat_lt, nat_le, is_none, is_some, List, map, [], ◌∷◌, ◌++◌, Option, None, Some, replicate, slice_index, slice_set, if◌then◌else◌}
+use Rattle.std.specs.Prelude.{ℕ, zero, suc, ◌+◌, ◌-◌, ◌/◌, ◌%◌, ◌&&◌, ◌||◌, not, Bool, nat_lt, nat_le, is_none, is_some, List, map, [], ◌∷◌, ◌++◌, Option, None, Some}
+use Rattle.std.specs.Prelude.{replicate, slice_index, slice_set, if◌then◌else◌}
 use Rattle.std.specs.Option.{option_map_or}
 use Rattle.fmp_codes.specs.Numbers.{as_proc}
 use Rattle.fmp_codes.specs.declared.numbers.Proc.{Proc}
@@ -19,8 +20,8 @@ use Rattle.fmp_rules.specs.Boot.{boot}
 use Rattle.fmp_kernel_order.specs.Queues.{Queues, listed, no_queues}
 use Rattle.fmp_smp_histories.specs.Places.{moved_tasks, moved_handlers}
 use Rattle.fmp_smp_histories.specs.Scripted.{asked_at}
-use Rattle.fmp_search_question.specs.declared.question.Step.{Step}
-use Rattle.fmp_search_question.specs.Questions.{allows}
+use Rattle.fmp_search_pattern.specs.declared.question.Step.{Step}
+use Rattle.fmp_search_pattern.specs.Questions.{allows}
 use Rattle.fmp_search_orders.specs.declared.rules.Rules.{Rules}
 use Rattle.fmp_search_orders.specs.Orders.{counts_ticks, each, idled_next, keeps_pace, may_tick}
 use Rattle.fmp_search_orders.specs.Sights.{sight}

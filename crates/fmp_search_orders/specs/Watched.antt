@@ -5,7 +5,7 @@ use Rattle.fmp_text_scripts.specs.Scripts.{Steps}
 use Rattle.fmp_setup.specs.Setup.{Setup}
 use Rattle.fmp_search.specs.Runs.{run}
 use Rattle.fmp_search.specs.Forever.{EndsForEver, NoneForEver, test_of}
-use Rattle.fmp_search_question.specs.Lasting.{Lasting, is_so}
+use Rattle.fmp_search_pattern.specs.Lasting.{Lasting, is_so}
 use Rattle.fmp_search_orders.specs.declared.rules.Rules.{Rules}
 use Rattle.fmp_search_orders.specs.Places.{Place, origin, after, records}
 use Rattle.fmp_search_orders.specs.Lasting.{EndsSo, NoneEndsSo, step_test}
@@ -46,7 +46,8 @@ pub record WatchedAnswer (c : Setup) (scripts : List Steps) (rules : Rules) (las
   pub never : (k : ℕ) → k < length lasting → NoneForEver watched_after (test_of watched_passes k) (watched lasting (origin c scripts rules []))
       → NoneEndsSo c scripts rules (is_so (lasting_at lasting k))
   pub found : (k : ℕ) (steps : List ℕ) → k < length lasting → WatchedEnds c scripts rules lasting k steps →
-      EndsSo c scripts rules (is_so (lasting_at lasting k)) (records (origin c scripts rules []) steps) × (length (records (origin c scripts rules []) steps) ≡ length steps)
+      EndsSo c scripts rules (is_so (lasting_at lasting k)) (records (origin c scripts rules []) steps)
+      × (length (records (origin c scripts rules []) steps) ≡ length steps)
   pub made : (k : ℕ) (steps : List ℕ) → WatchedEnds c scripts rules lasting k steps → is_some (run after (origin c scripts rules []) steps) ≡ true
   pub shortest : (n : ℕ) → ((k : ℕ) (others : List ℕ) → k < length lasting → WatchedEnds c scripts rules lasting k others → n ≤ length others) →
       (k : ℕ) (h : List Record) → k < length lasting → EndsSo c scripts rules (is_so (lasting_at lasting k)) h → n ≤ length h

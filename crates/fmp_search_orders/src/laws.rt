@@ -5,12 +5,12 @@ ghost use Rattle.fmp_search_orders.specs.declared.rules.Rules.{Rules};
 ghost use Rattle.fmp_text_scripts.specs.Scripts.{Steps};
 ghost use Rattle.fmp_setup.specs.Setup.{Setup};
 ghost use Rattle.fmp_setup.specs.Valid.{IsValid};
-ghost use Rattle.fmp_search_question.specs.declared.question.Step.{Step};
+ghost use Rattle.fmp_search_pattern.specs.declared.question.Step.{Step};
 ghost use Rattle.fmp_search_orders.specs.Begun.{BegunAnswer};
 ghost use Rattle.fmp_search_orders.specs.Joined.{RootsAnswer};
 ghost use Rattle.fmp_search_orders.specs.Lasting.{LastingAnswer};
 ghost use Rattle.fmp_search_orders.specs.Watched.{WatchedAnswer};
-ghost use Rattle.fmp_search_question.specs.Lasting.{Lasting};
+ghost use Rattle.fmp_search_pattern.specs.Lasting.{Lasting};
 ghost use Rattle.fmp_search_orders.specs.Laws.{RunsAreOrders, PlacesAnswer};
 ghost use Rattle.fmp_search_orders.specs.Orders.{IsOrder};
 

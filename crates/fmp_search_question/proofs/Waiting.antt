@@ -9,7 +9,8 @@ use Rattle.std.proofs.lemmas.Option.{slice_get_within, get_or_from_slice_get, sl
 use Rattle.fmp_calls.specs.declared.kinds.ObjectKind.TheVariants.{Task}
 use Rattle.fmp_calls.specs.declared.kinds.NameKind.TheVariants.{Object}
 use Rattle.fmp_names.specs.Names.{NameLists, has_name, name_of}
-use Rattle.fmp_search_question.specs.Lasting.{Lasting, waits, waits_of, tasks_of}
+use Rattle.fmp_search_pattern.specs.Lasting.{Lasting}
+use Rattle.fmp_search_question.specs.Waiting.{waits, waits_of, tasks_of}
 
 more_waits : (but : List (List ℕ)) (name : List ℕ) (rest : List (List ℕ)) → waits_of but (name ∷ rest) ≡ waits_of but (name ∷ []) ++ waits_of but rest
 more_waits but name rest = go (not (has_name but name))

@@ -1,63 +1,20 @@
--- What a question asks of every event from one on, and how that is read: moments with `for ever` after each and `or` between them, or `deadlock`.
-use Rattle.std.specs.Prelude.{ℕ, ◌-◌, ◌==◌, Bool, true, false, not, ◌&&◌, ◌||◌, nat_le, is_some, List, [], ◌∷◌, ◌++◌, length, filter, map, Option, None, Some, Result, Ok, Err, if◌then◌else◌, codes}
+-- How a question of what stays for ever is read: moments with `for ever` after each and `or` between them, or `deadlock`.
+use Rattle.std.specs.Prelude.{ℕ, ◌-◌, ◌==◌, Bool, true, false, not, ◌&&◌, ◌||◌, nat_le, is_some, List, [], ◌∷◌, ◌++◌, length, Option, None, Some, Result, Ok, Err}
+use Rattle.std.specs.Prelude.{if◌then◌else◌, codes}
 use Rattle.std.specs.List.{list_all, join_with_byte}
 use Rattle.std.specs.Str.{bytes_eq}
 use Rattle.fmp_bytes.specs.Bytes.{space, pieces_of}
 use Rattle.fmp_calls.specs.declared.kinds.ObjectKind.TheVariants.{Task}
 use Rattle.fmp_calls.specs.declared.kinds.NameKind.TheVariants.{Object}
-use Rattle.fmp_names.specs.Names.{NameLists, names_of, number_of, has_name}
+use Rattle.fmp_names.specs.Names.{NameLists, number_of}
 use Rattle.fmp_search_question.specs.declared.fault.QuestionFault.{QuestionFault}
 use Rattle.fmp_search_question.specs.declared.fault.QuestionFault.TheVariants.{BadWord, BadForm, UnknownName, TooLong}
 use Rattle.fmp_search_question.specs.declared.stage.Stage.{Stage}
 use Rattle.fmp_search_question.specs.declared.stage.Stage.TheVariants as stage
-use Rattle.fmp_search_question.specs.Items.{Item}
-use Rattle.fmp_search_question.specs.Matching.{any}
-use Rattle.fmp_search_question.specs.Questions.{has_moment}
-use Rattle.fmp_search_question.specs.Words.{is_printed}
+use Rattle.fmp_search_pattern.specs.Lasting.{Lasting}
+use Rattle.fmp_search_words.specs.Words.{is_printed}
+use Rattle.fmp_search_question.specs.Waiting.{comma, waits_but}
 use Rattle.fmp_search_question.specs.Reading as reading
-
--- one of some moments is at an event, or none of them is
-pub record Lasting : Type 0 where
-  pub negated : Bool
-  pub moments : List (List (List Item))
-
--- it is so of an event with these lines
-unfoldable pub is_so : Lasting → List ℕ → Bool
-is_so l text = if l.negated then not (any (has_moment text) l.moments) else any (has_moment text) l.moments
-
--- ---- that some task waits
-
--- the moment of one pattern, which has no star
-abbrev pub only : List ℕ → List (List Item)
-only words = (record { negated = false; pattern = Some (words ∷ []) } ∷ []) ∷ []
-
--- a line of a state has the words that a task waits, suspended or not
-abbrev pub waits : List ℕ → Lasting
-waits name = record {
-  negated = false;
-  moments = only (space ∷ name ++ codes " waits ") ∷ only (space ∷ name ++ codes " suspended waits ") ∷ [];
-}
-
--- those that are listed after `but`, if it stands there
-abbrev pub comma : ℕ
-comma = 44
-
-abbrev pub listed_in : Option (List ℕ) → List (List ℕ)
-listed_in None = []
-listed_in (Some list) = pieces_of comma list
-
--- one for each of some names but these
-abbrev pub waits_of : List (List ℕ) → List (List ℕ) → List Lasting
-waits_of but names = map waits (filter (λ name. not (has_name but name)) names)
-
-abbrev pub tasks_of : NameLists → List (List ℕ)
-tasks_of names = names_of names (Object Task)
-
--- and for each task
-abbrev pub waits_but : NameLists → List (List ℕ) → List Lasting
-waits_but names but = waits_of but (tasks_of names)
-
--- ---- how a question is read
 
 -- what was read so far: the complete parts, whether `not` begins the one that is being read, its patterns, and what the words so far end with
 pub record Parts : Type 0 where

@@ -1,24 +1,25 @@
 -- How a question is read: word by word. Words stand between single blanks, and mean themselves but for these: `&` between the items of a part,
 -- `or` between the parts of a moment, `not` before an item that must not be there, `refused` in the place of a pattern, `without` before what
 -- must not come, `then` before the next step, `times` after a number at the front of a step.
-use Rattle.std.specs.Prelude.{ℕ, Bool, true, false, ◌-◌, ◌==◌, not, ◌&&◌, ◌||◌, nat_le, is_none, is_some, List, [], ◌∷◌, ◌++◌, length, take, drop, Option, None, Some, option_map, unwrap_or, replicate, Result, Ok, Err, if◌then◌else◌, codes}
+use Rattle.std.specs.Prelude.{ℕ, Bool, true, false, ◌-◌, ◌==◌, not, ◌&&◌, ◌||◌, nat_le, is_none, is_some, List, [], ◌∷◌, ◌++◌, length, take, drop, Option, None, Some}
+use Rattle.std.specs.Prelude.{option_map, unwrap_or, replicate, Result, Ok, Err, if◌then◌else◌, codes}
 use Rattle.std.specs.List.{list_all, join_with_byte}
 use Rattle.std.specs.Option.{option_and_then}
 use Rattle.std.specs.Str.{bytes_eq}
 use Rattle.fmp_bytes.specs.Bytes.{space, pieces_of}
 use Rattle.fmp_bytes.specs.Numerals.{are_digits, magnitude_of}
 use Rattle.fmp_names.specs.Names.{NameLists}
-use Rattle.fmp_search_question.specs.declared.question.Step.{Step}
+use Rattle.fmp_search_pattern.specs.declared.question.Step.{Step}
 use Rattle.fmp_search_question.specs.declared.fault.QuestionFault.{QuestionFault}
 use Rattle.fmp_search_question.specs.declared.fault.QuestionFault.TheVariants.{BadWord, BadForm, UnknownName, TooLong, NoLine}
 use Rattle.fmp_search_question.specs.declared.fault.ReadFault.{ReadFault}
 use Rattle.fmp_search_question.specs.declared.fault.ReadFault.TheVariants.{Memory, Text}
-use Rattle.fmp_search_question.specs.declared.spot.Spot.{Spot}
-use Rattle.fmp_search_question.specs.declared.spot.Spot.TheVariants.{Front, Whole}
-use Rattle.fmp_search_question.specs.Forms.{spot_of}
-use Rattle.fmp_search_question.specs.Items.{Item, wanted_by}
-use Rattle.fmp_search_question.specs.Spots.{is_number, stepped}
-use Rattle.fmp_search_question.specs.Words.{is_printed, is_fine, runs_of}
+use Rattle.fmp_search_words.specs.declared.spot.Spot.{Spot}
+use Rattle.fmp_search_words.specs.declared.spot.Spot.TheVariants.{Front, Whole}
+use Rattle.fmp_search_words.specs.Forms.{spot_of}
+use Rattle.fmp_search_pattern.specs.Items.{Item}
+use Rattle.fmp_search_words.specs.Spots.{is_number, stepped}
+use Rattle.fmp_search_words.specs.Words.{is_printed, is_fine, runs_of, star}
 
 -- the greatest number of steps, and of bytes of a pattern with the blanks around it
 abbrev pub most_steps : ℕ
@@ -40,6 +41,10 @@ pub record Draft : Type 0 where
 
 abbrev pub nothing_read : Draft
 nothing_read = record { steps = []; times = None; moment = None; parts = []; items = []; negated = false; pattern = []; spot = Front }
+
+-- what the words of a pattern ask for
+abbrev pub wanted_by : List ℕ → Option (List (List ℕ))
+wanted_by words = if bytes_eq words (codes " refused ") then None else Some (pieces_of star words)
 
 -- a pattern is complete. A number alone is none
 unfoldable pub with_pattern : Draft → Option Draft

@@ -3,18 +3,14 @@ ghost use Rattle.std.specs.Prelude.{◌≡◌, ◌≢◌, ◌++◌, ◌∷◌, L
 ghost use Rattle.std.specs.Option.{option_and_then};
 ghost use Rattle.fmp_bytes.specs.Bytes.{pieces_of};
 ghost use Rattle.std.specs.List.{list_all};
-ghost use Rattle.fmp_search_question.specs.Items as items;
-ghost use Rattle.fmp_search_question.specs.Words.{star, is_fine};
+ghost use Rattle.fmp_search_words.specs.Words.{star, is_fine};
 ghost use Rattle.fmp_search_question.specs.Reading as spec;
 
 use crate::fault::{QuestionFault, ReadFault};
-use crate::forms::spot_of;
-use crate::items::{Item, Part};
-use crate::question::{Moment, Pattern, Piece, Question, Step};
-use crate::spot::Spot;
-use crate::words::{are_fine, is_printed};
 use fmp_bytes::{are_digits, cut, magnitude};
 use fmp_names::Names;
+use fmp_search_pattern::{Item, Moment, Part, Pattern, Piece, Question, Step};
+use fmp_search_words::{Spot, are_fine, is_printed, spot_of};
 use std::alloc::{AllocError, Global};
 use std::marker::Model;
 use std::mem;
@@ -44,7 +40,16 @@ impl Model for Draft {
 
     ghost Value = { spec.Draft };
 
-    ghost view = { λ d. record { steps = d.steps.items; times = d.times; moment = d.moment; parts = d.parts.items; items = d.items.items; negated = d.negated; pattern = d.pattern.items; spot = d.spot } };
+    ghost view = { λ d. record {
+      steps = d.steps.items;
+      times = d.times;
+      moment = d.moment;
+      parts = d.parts.items;
+      items = d.items.items;
+      negated = d.negated;
+      pattern = d.pattern.items;
+      spot = d.spot;
+    } };
 }
 
 /// The bytes between the stars, in order: one piece more than there are stars, and some may be empty. The error is want of memory.
@@ -63,7 +68,7 @@ fn pieces(alloc: Global, pattern: &[u8]) -> Result<Vec<Piece>, AllocError>
 
 /// What the words of a pattern ask for: none where `refused` does. The error is want of memory.
 fn wanted_by(alloc: Global, words: &[u8]) -> Result<Option<Pattern>, AllocError>
-    ensures { IfOk result (λ wanted. wanted ≡ items.wanted_by words.now) }
+    ensures { IfOk result (λ wanted. wanted ≡ spec.wanted_by words.now) }
 {
     if words == b" refused ".as_slice() {
         Ok(None)

@@ -6,17 +6,16 @@ ghost use Rattle.fmp_bytes.specs.Bytes.{pieces_of, space};
 ghost use Rattle.fmp_names.specs.Names.{has_name};
 ghost use Rattle.fmp_search_question.specs.Lasting as spec;
 ghost use Rattle.fmp_search_question.specs.Reading as reading;
+ghost use Rattle.fmp_search_question.specs.Waiting as waiting;
 
 use crate::draft::Draft;
 use crate::fault::{QuestionFault, ReadFault};
-use crate::items::{Item, Part};
-use crate::lasting::Lasting;
-use crate::question::{Moment, Pattern, Piece};
 use crate::stage::Stage;
-use crate::words::is_printed;
 use fmp_bytes::cut;
 use fmp_calls::{NameKind, ObjectKind};
 use fmp_names::Names;
+use fmp_search_pattern::{Item, Lasting, Moment, Part, Pattern, Piece};
+use fmp_search_words::is_printed;
 use std::alloc::{AllocError, Global};
 use std::marker::Model;
 
@@ -27,7 +26,7 @@ const TASK: NameKind = NameKind::Object(ObjectKind::Task);
 
 /// The moment of one pattern: a name between blanks, and words after it.
 fn words_after(alloc: Global, name: &[u8], words: &[u8]) -> Result<Moment, AllocError>
-    ensures { IfOk result (λ m. m ≡ spec.only (space ∷ name.now ++ words.now)) }
+    ensures { IfOk result (λ m. m ≡ waiting.only (space ∷ name.now ++ words.now)) }
 {
     let mut bytes = Vec::from_slice(alloc, b" ")?;
     bytes.extend_from_slice(name)?;
@@ -43,7 +42,7 @@ fn words_after(alloc: Global, name: &[u8], words: &[u8]) -> Result<Moment, Alloc
 
 /// That a task waits, suspended or not.
 fn waits(alloc: Global, name: &[u8]) -> Result<Lasting, AllocError>
-    ensures { IfOk result (λ l. l ≡ spec.waits name.now) }
+    ensures { IfOk result (λ l. l ≡ waiting.waits name.now) }
 {
     let mut moments = Vec::new(alloc);
     moments.push(words_after(alloc, name, b" waits ")?)?;
@@ -60,7 +59,7 @@ fn is_word(word: &[u8], other: &[u8]) -> bool
 
 /// Whether a name is one of those between commas.
 fn is_listed(list: &[u8], name: &[u8]) -> bool
-    ensures { result ≡ has_name (pieces_of spec.comma list.now) name.now }
+    ensures { result ≡ has_name (pieces_of waiting.comma list.now) name.now }
 {
     let mut rest = Some(list);
     while let Some(text) = rest {
@@ -97,7 +96,7 @@ fn are_tasks(names: &Names, list: &[u8]) -> bool
 
 /// Whether a task may wait by what stands after `but`, if that stands there.
 fn may_wait(but: Option<&[u8]>, name: &[u8]) -> bool
-    ensures { result ≡ has_name (spec.listed_in (option_copied but.entry)) name.now }
+    ensures { result ≡ has_name (waiting.listed_in (option_copied but.entry)) name.now }
 {
     match but {
         None => false,
@@ -112,7 +111,7 @@ fn add_unless(
     but: Option<&[u8]>,
     name: &[u8],
 ) -> Result<(), AllocError>
-    ensures { OnOk result (lasting.new.items ≡ lasting.old.items ++ spec.waits_of (spec.listed_in (option_copied but.entry)) (name.now ∷ [])) }
+    ensures { OnOk result (lasting.new.items ≡ lasting.old.items ++ waiting.waits_of (waiting.listed_in (option_copied but.entry)) (name.now ∷ [])) }
 {
     if may_wait(but, name) {
         return Ok(());
@@ -131,7 +130,9 @@ fn add_at(
     at: usize,
 ) -> Result<(), AllocError>
     requires { at < 64 }
-    ensures { OnOk result (lasting.new.items ++ spec.waits_of (spec.listed_in (option_copied but.entry)) (drop (at + 1) (spec.tasks_of names.now)) ≡ lasting.old.items ++ spec.waits_of (spec.listed_in (option_copied but.entry)) (drop at (spec.tasks_of names.now))) }
+    ensures { OnOk result (lasting.new.items
+        ++ waiting.waits_of (waiting.listed_in (option_copied but.entry)) (drop (at + 1) (waiting.tasks_of names.now)) ≡ lasting.old.items
+        ++ waiting.waits_of (waiting.listed_in (option_copied but.entry)) (drop at (waiting.tasks_of names.now))) }
 {
     match names.name(TASK, at + 1) {
         Some(name) => add_unless(alloc, lasting, but, name),
@@ -141,7 +142,7 @@ fn add_at(
 
 /// That a task waits, for each but those that may. The error is want of memory.
 fn waits_but(alloc: Global, names: &Names, but: Option<&[u8]>) -> Result<Vec<Lasting>, AllocError>
-    ensures { IfOk result (λ v. v.items ≡ spec.waits_but names.now (spec.listed_in (option_copied but.entry))) }
+    ensures { IfOk result (λ v. v.items ≡ waiting.waits_but names.now (waiting.listed_in (option_copied but.entry))) }
 {
     names.validity();
     let mut lasting = Vec::new(alloc);
@@ -234,7 +235,7 @@ impl Parts {
         but: Option<&[u8]>,
         stage: Stage,
     ) -> Result<(), AllocError>
-        ensures { OnOk result (self.new ≡ record self.old { lasting = spec.waits_but names.now (spec.listed_in (option_copied but.entry)); stage = stage }) }
+        ensures { OnOk result (self.new ≡ record self.old { lasting = waiting.waits_but names.now (waiting.listed_in (option_copied but.entry)); stage = stage }) }
     {
         self.lasting = waits_but(self.alloc, names, but)?;
         self.stage = stage;

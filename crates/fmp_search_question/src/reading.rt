@@ -4,9 +4,9 @@ ghost use Rattle.fmp_search_question.specs.Reading as spec;
 
 use crate::draft::Draft;
 use crate::fault::ReadFault;
-use crate::question::Question;
 use fmp_bytes::cut;
 use fmp_names::Names;
+use fmp_search_pattern::Question;
 use std::alloc::Global;
 
 /// The question of a text, over a configuration with these names, or its first fault. docs/FORMATS.md has the form of a question.

@@ -2,7 +2,7 @@
 
 /// What the words of a question of what stays for ever end with so far.
 #[derive(Clone, Copy)]
-pub(crate) enum Stage {
+pub enum Stage {
     /// A part that is not complete, or nothing.
     Words,
     /// A moment, and `for`.

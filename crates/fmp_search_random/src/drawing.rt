@@ -9,7 +9,7 @@ use fmp_rules::Config;
 use fmp_search::Space;
 use fmp_search_kernel::Walker;
 use fmp_search_orders::Rules;
-use fmp_search_question::Question;
+use fmp_search_pattern::Question;
 use fmp_text_scripts::Scripts;
 use rand_core::SeedableRng;
 use rand_core::utils::NextWord;

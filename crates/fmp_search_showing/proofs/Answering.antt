@@ -15,7 +15,7 @@ use Rattle.fmp_rules.proofs.Replays.{step_event, replay_more, answers_more}
 use Rattle.fmp_law_lists.specs.Stands.{Stands}
 use Rattle.fmp_smp_histories.specs.Counted.{is_taken_tick, taken}
 use Rattle.fmp_smp_histories.specs.Histories.{events_of, state_after}
-use Rattle.fmp_search_question.specs.declared.question.Step.{Step}
+use Rattle.fmp_search_pattern.specs.declared.question.Step.{Step}
 use Rattle.fmp_search_orders.specs.declared.rules.Rules.{Rules}
 use Rattle.fmp_search_orders.specs.Laws.{TakenAre}
 use Rattle.fmp_search_orders.specs.Orders.{counted, counts_ticks}

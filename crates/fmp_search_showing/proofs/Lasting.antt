@@ -9,8 +9,8 @@ use Rattle.fmp_rules.specs.Arrivals.{numbered}
 use Rattle.fmp_rules.specs.Boot.{booted}
 use Rattle.fmp_rules.specs.Step.{step, answers, replay}
 use Rattle.fmp_rules.proofs.Replays.{answers_more}
-use Rattle.fmp_search_question.specs.declared.question.Step.{Step}
-use Rattle.fmp_search_question.specs.Questions.{seen}
+use Rattle.fmp_search_pattern.specs.declared.question.Step.{Step}
+use Rattle.fmp_search_pattern.specs.Questions.{seen}
 use Rattle.fmp_search_orders.specs.declared.rules.Rules.{Rules}
 use Rattle.fmp_search_orders.specs.Shown.{Shows, last_sight}
 use Rattle.fmp_search_orders.proofs.Longer.{marked_more, seen_more}

@@ -5,7 +5,7 @@ use Rattle.std.proofs.lemmas.Bool.{leb-true}
 use Rattle.fmp_names.specs.Names.{NameLists}
 use Rattle.fmp_search_question.specs.declared.fault.QuestionFault.{QuestionFault}
 use Rattle.fmp_search_question.specs.declared.fault.QuestionFault.TheVariants.{TooLong}
-use Rattle.fmp_search_question.specs.declared.question.Step.{Step}
+use Rattle.fmp_search_pattern.specs.declared.question.Step.{Step}
 use Rattle.fmp_search_question.specs.Reading.{Draft, after_words, at_place, ended, limited, most_steps, nothing_read, or_form, question_in, result_then, with_step}
 
 module _ (bytes : ℕ) (q : List Step) where

@@ -21,7 +21,7 @@ use fmp_kernel::Kernel;
 use fmp_rules::Config;
 use fmp_search_kernel::{advance_taken, has_to_look, is_over, look, put_sight};
 use fmp_search_orders::Rules;
-use fmp_search_question::Question;
+use fmp_search_pattern::Question;
 use std::alloc::AllocError;
 
 /// Whether so many steps may have been seen before an event with these lines, and it may be marked so. A number of one digit and a blank
@@ -146,7 +146,8 @@ impl Watch {
     /// Sees how many steps may have been seen behind the last answer. Its lines are printed only where that depends on them.
     fn see(&mut self, config: &Config, rules: Rules, question: &Question) -> Result<(), AllocError>
         requires { length question.now ≤ 255 }
-        ensures next { OnOk result (AreNext question.now (sight listed config.now rules (count_in self.old.taken) self.old.kernel self.old.made) self.old.numbers self.new.numbers) }
+        ensures next { OnOk result (AreNext question.now
+            (sight listed config.now rules (count_in self.old.taken) self.old.kernel self.old.made) self.old.numbers self.new.numbers) }
         ensures same { (self.new.kernel ≡ self.old.kernel) × (self.new.made ≡ self.old.made) × (self.new.taken ≡ self.old.taken) }
     {
         if is_settled(question, &self.numbers) {
@@ -187,7 +188,8 @@ impl Watch {
         requires short { length question.now ≤ 255 }
         requires on { (processor_of event).number ≤ length self.old.kernel.processors }
         requires room { (i : ℕ) → i < 8 → slice_index self.old.taken i + 1 < 2 ^ 32 }
-        ensures { (given : List AnyEvent) → Watches config.now rules question.now given self.old → OnOk result (Watches config.now rules question.now (given ++ event ∷ []) self.new) }
+        ensures { (given : List AnyEvent) → Watches config.now rules question.now given self.old
+            → OnOk result (Watches config.now rules question.now (given ++ event ∷ []) self.new) }
     {
         self.answer(rules, event);
         self.see(config, rules, question)?;

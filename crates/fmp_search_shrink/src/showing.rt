@@ -6,7 +6,7 @@ ghost use Rattle.fmp_search_shrink.specs.Shrinking.{AnswersShow};
 use fmp_codes::Event;
 use fmp_rules::Config;
 use fmp_search_orders::Rules;
-use fmp_search_question::Question;
+use fmp_search_pattern::Question;
 use std::alloc::AllocError;
 
 /// Events come as they are given: ticks may be of any number.

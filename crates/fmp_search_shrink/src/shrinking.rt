@@ -7,7 +7,7 @@ ghost use Rattle.fmp_search_shrink.specs.Shrinking.{AnswersShow, IsPartOf, IsLef
 use crate::showing::shows;
 use fmp_codes::Event;
 use fmp_rules::Config;
-use fmp_search_question::Question;
+use fmp_search_pattern::Question;
 use std::alloc::{AllocError, Global};
 
 /// The list without its events from one place up to another.

@@ -71,7 +71,8 @@ pub record AreFew (c : Setup) : Type 0 where
 
 -- how many objects of each kind there are
 abbrev pub objects_of_kinds : Setup → List ℕ
-objects_of_kinds c = length c.tasks ∷ length c.semaphores ∷ length c.eventflags ∷ length c.data_queues ∷ length c.pools ∷ length c.cyclics ∷ length c.alarms ∷ c.spin_locks ∷ []
+objects_of_kinds c = length c.tasks ∷ length c.semaphores ∷ length c.eventflags ∷ length c.data_queues ∷ length c.pools ∷ length c.cyclics ∷ length c.alarms
+    ∷ c.spin_locks ∷ []
 
 pub record IsValid (c : Setup) : Type 0 where
   pub has_processors : 1 ≤ c.processors

@@ -122,7 +122,8 @@ fn are_same_alarms(one: &[AlarmSetup], other: &[AlarmSetup]) -> bool
 
 /// Whether the timers, the limits and the numbers of spin locks are equal.
 fn are_same_clocks(one: &Parts, other: &Parts) -> bool
-    ensures { IsTrue result ↔ (((setup_of one.now).timer ≡ (setup_of other.now).timer) × ((setup_of one.now).limits ≡ (setup_of other.now).limits) × ((setup_of one.now).spin_locks ≡ (setup_of other.now).spin_locks)) }
+    ensures { IsTrue result ↔ (((setup_of one.now).timer ≡ (setup_of other.now).timer) × ((setup_of one.now).limits ≡ (setup_of other.now).limits)
+        × ((setup_of one.now).spin_locks ≡ (setup_of other.now).spin_locks)) }
 {
     is_same_timer(one.timer, other.timer)
         && are_same_limits(one.limits, other.limits)
@@ -131,7 +132,8 @@ fn are_same_clocks(one: &Parts, other: &Parts) -> bool
 
 /// Whether the classes with their names are equal, and the tasks.
 fn are_same_placed(one: &Parts, other: &Parts) -> bool
-    ensures { IsTrue result ↔ (((setup_of one.now).classes ≡ (setup_of other.now).classes) × ((setup_of one.now).class_names ≡ (setup_of other.now).class_names) × ((setup_of one.now).tasks ≡ (setup_of other.now).tasks)) }
+    ensures { IsTrue result ↔ (((setup_of one.now).classes ≡ (setup_of other.now).classes) × ((setup_of one.now).class_names ≡ (setup_of other.now).class_names)
+        × ((setup_of one.now).tasks ≡ (setup_of other.now).tasks)) }
 {
     are_same_classes(&one.classes, &other.classes) && are_same_tasks(&one.tasks, &other.tasks)
 }
@@ -161,7 +163,9 @@ fn are_same_handlers(one: &Parts, other: &Parts) -> bool
 
 /// Whether all objects other than tasks and spin locks are equal.
 fn are_same_objects(one: &Parts, other: &Parts) -> bool
-    ensures { IsTrue result ↔ (((setup_of one.now).semaphores ≡ (setup_of other.now).semaphores) × ((setup_of one.now).eventflags ≡ (setup_of other.now).eventflags) × ((setup_of one.now).data_queues ≡ (setup_of other.now).data_queues) × ((setup_of one.now).pools ≡ (setup_of other.now).pools) × ((setup_of one.now).cyclics ≡ (setup_of other.now).cyclics) × ((setup_of one.now).alarms ≡ (setup_of other.now).alarms)) }
+    ensures { IsTrue result ↔ (((setup_of one.now).semaphores ≡ (setup_of other.now).semaphores) × ((setup_of one.now).eventflags ≡ (setup_of other.now).eventflags)
+        × ((setup_of one.now).data_queues ≡ (setup_of other.now).data_queues) × ((setup_of one.now).pools ≡ (setup_of other.now).pools)
+        × ((setup_of one.now).cyclics ≡ (setup_of other.now).cyclics) × ((setup_of one.now).alarms ≡ (setup_of other.now).alarms)) }
 {
     are_same_syncs(one, other) && are_same_buffers(one, other) && are_same_handlers(one, other)
 }

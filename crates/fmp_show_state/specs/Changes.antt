@@ -1,6 +1,7 @@
 -- What of tasks, objects and time event handlers is not as it was at boot. What changes without these texts is told on the lines of
 -- processors, and of tasks that wait or are suspended.
-use Rattle.std.specs.Prelude.{ℕ, zero, suc, ◌+◌, ℤ, Bool, true, false, not, ◌||◌, ◌&&◌, ◌==◌, Option, None, Some, List, [], ◌∷◌, ◌++◌, length, if◌then◌else◌, codes, decimal}
+use Rattle.std.specs.Prelude.{ℕ, zero, suc, ◌+◌, ℤ, Bool, true, false, not, ◌||◌, ◌&&◌, ◌==◌, Option, None, Some, List, [], ◌∷◌, ◌++◌, length, if◌then◌else◌, codes}
+use Rattle.std.specs.Prelude.{decimal}
 use Rattle.std.specs.Fmt.{signed_decimal}
 use Rattle.fmp_codes.specs.Numbers.{as_object, as_proc}
 use Rattle.fmp_codes.specs.declared.numbers.Object.{Object}

@@ -1,6 +1,7 @@
 -- The text of a state: a line for each processor, one for each task that waits, is suspended or is otherwise not as at boot, one for
 -- each object that is not as at boot, and one that ends it. docs/FORMATS.md has its form.
-use Rattle.std.specs.Prelude.{ℕ, zero, suc, ◌+◌, Bool, true, false, not, ◌||◌, ◌==◌, Option, None, Some, List, [], ◌∷◌, ◌++◌, length, filter, is_some, if◌then◌else◌, codes, decimal}
+use Rattle.std.specs.Prelude.{ℕ, zero, suc, ◌+◌, Bool, true, false, not, ◌||◌, ◌==◌, Option, None, Some, List, [], ◌∷◌, ◌++◌, length, filter, is_some, if◌then◌else◌}
+use Rattle.std.specs.Prelude.{codes, decimal}
 use Rattle.fmp_codes.specs.Numbers.{as_pri, as_proc, as_task}
 use Rattle.fmp_codes.specs.declared.numbers.Object.{Object}
 use Rattle.fmp_codes.specs.declared.numbers.Proc.{Proc}

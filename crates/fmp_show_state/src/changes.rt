@@ -197,7 +197,8 @@ fn put_holders(out: &mut Vec<u8>, names: &Names, kernel: &Kernel) -> Result<(), 
 /// Adds a line for each object that tasks wait for and that is not as it was at boot.
 #[tactic(auto, unfolding(crate::specs::Changes::objects_text))]
 fn put_objects(out: &mut Vec<u8>, names: &Names, kernel: &Kernel) -> Result<(), AllocError>
-    ensures { OnOk result (out.new.items ≡ out.old.items ++ spec.objects_text names.now kernel.now.semaphores kernel.now.eventflags kernel.now.data_queues kernel.now.contents kernel.now.pools) }
+    ensures { OnOk result (out.new.items ≡ out.old.items
+        ++ spec.objects_text names.now kernel.now.semaphores kernel.now.eventflags kernel.now.data_queues kernel.now.contents kernel.now.pools) }
 {
     put_counts(out, names, kernel)?;
     put_patterns(out, names, kernel)?;
@@ -208,7 +209,8 @@ fn put_objects(out: &mut Vec<u8>, names: &Names, kernel: &Kernel) -> Result<(), 
 /// Adds a line for each time event handler and each spin lock that is not as it was at boot.
 #[tactic(auto, unfolding(crate::specs::Changes::handlers_text))]
 fn put_handlers(out: &mut Vec<u8>, names: &Names, kernel: &Kernel) -> Result<(), AllocError>
-    ensures { OnOk result (out.new.items ≡ out.old.items ++ spec.handlers_text names.now kernel.now.cyclics kernel.now.cyclics_left kernel.now.alarms kernel.now.alarms_left kernel.now.holders) }
+    ensures { OnOk result (out.new.items ≡ out.old.items
+        ++ spec.handlers_text names.now kernel.now.cyclics kernel.now.cyclics_left kernel.now.alarms kernel.now.alarms_left kernel.now.holders) }
 {
     put_cyclics(out, names, kernel)?;
     put_alarms(out, names, kernel)?;

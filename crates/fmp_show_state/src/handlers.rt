@@ -88,7 +88,8 @@ pub(crate) fn put_cyclics(
     names: &Names,
     kernel: &Kernel,
 ) -> Result<(), AllocError>
-    ensures { OnOk result (out.new.items ≡ out.old.items ++ spec.lines_to (spec.cyclic_at names.now kernel.now.cyclics kernel.now.cyclics_left) (length kernel.now.cyclics)) }
+    ensures { OnOk result (out.new.items ≡ out.old.items
+        ++ spec.lines_to (spec.cyclic_at names.now kernel.now.cyclics kernel.now.cyclics_left) (length kernel.now.cyclics)) }
 {
     for index in 0..kernel.cyclic_count() {
         let c = Object::from_index(index);

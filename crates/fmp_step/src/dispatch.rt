@@ -1,5 +1,5 @@
 //! The end of an event: which processors run another task or are sent a request.
-ghost use Rattle.std.specs.Prelude.{◌≡◌};
+ghost use Rattle.std.specs.Prelude.{◌≡◌, []};
 ghost use Rattle.fmp_rules.specs.Step.{is_same, is_requested, requests, latched, dispatched, settle, changed_run};
 
 use fmp_codes::{Proc, Requests, Task};
@@ -36,31 +36,22 @@ fn is_requested<M: Words>(machine: &M, before: &Tops, q: Proc, p: Proc) -> bool
     p.number != q.number && !is_same(before.of(p), machine.top(p))
 }
 
-/// The processors to which an event on q sends a request, asked one after the other.
-fn each_requested<M: Words>(machine: &M, before: &Tops, q: Proc) -> Requests
-    ensures { result ≡ requests M.ordering before.now (M.world machine.now) q }
+/// Makes a list have the processors to which an event on q sends a request. It has none before.
+#[inline(never)]
+fn add_requests<M: Words>(machine: &M, before: &Tops, q: Proc, sent: &mut Requests)
+    requires { sent.old ≡ [] }
+    ensures { sent.new ≡ requests M.ordering before.now (M.world machine.now) q }
 {
-    let mut requests = Requests::new();
     for index in 0..machine.processor_count() {
         let p = Proc::from_index(index);
         if is_requested(machine, before, q, p) {
-            requests.push(p);
+            sent.push(p);
         }
     }
-    requests
-}
-
-/// The processors to which an event on q sends a request: none, where the tops are all the same, as after most events.
-fn requests<M: Overview>(machine: &M, before: &Tops, q: Proc) -> Requests
-    ensures { result ≡ requests M.ordering before.now (M.world machine.now) q }
-{
-    if before.is_same(&machine.tops()) {
-        return Requests::new();
-    }
-    each_requested(machine, before, q)
 }
 
 /// Sets the latches of these processors.
+#[inline(never)]
 fn latch<M: Words>(machine: &mut M, processors: &[Proc])
     ensures state { M.world machine.new ≡ latched (M.world machine.old) processors.now }
     ensures room { M.room machine.new ≡ M.room machine.old }
@@ -77,7 +68,7 @@ fn latch<M: Words>(machine: &mut M, processors: &[Proc])
     }
 }
 
-/// Lets a processor that is not held run its top.
+/// Lets a processor that is not held run its top. In TOPPERS/FMP: dispatch, where p_runtsk becomes p_schedtsk.
 fn dispatch<M: Words>(machine: &mut M, q: Proc)
     ensures state { M.world machine.new ≡ dispatched M.ordering (M.world machine.old) q }
     ensures room { M.room machine.new ≡ M.room machine.old }
@@ -96,14 +87,28 @@ fn dispatch<M: Words>(machine: &mut M, q: Proc)
     }
 }
 
-/// Ends an event on q, where these were the tops before it.
-pub(crate) fn settle<M: Overview>(machine: &mut M, before: &Tops, q: Proc) -> Requests
-    ensures state { M.world machine.new ≡ settle M.ordering before.now (M.world machine.old) q }
-    ensures requests { result ≡ requests M.ordering before.now (M.world machine.old) q }
+/// Makes a list have the processors to which an event on q sends a request, and sets their latches: none, where the tops are
+/// those before, as after most events.
+#[inline(always)]
+fn request<M: Overview>(machine: &mut M, before: &Tops, q: Proc, sent: &mut Requests)
+    ensures state { let w = M.world machine.old in M.world machine.new ≡ latched w (requests M.ordering before.now w q) }
+    ensures requests { sent.new ≡ requests M.ordering before.now (M.world machine.old) q }
     ensures room { M.room machine.new ≡ M.room machine.old }
 {
-    let requests = requests(machine, before, q);
-    latch(machine, requests.as_slice());
+    *sent = Requests::new();
+    if !before.is_same(&machine.tops()) {
+        add_requests(machine, before, q, sent);
+        latch(machine, sent.as_slice());
+    }
+}
+
+/// Ends an event on q, where these were the tops before it, and tells to which processors it sends a request.
+#[inline(always)]
+pub(crate) fn settle<M: Overview>(machine: &mut M, before: &Tops, q: Proc, sent: &mut Requests)
+    ensures state { M.world machine.new ≡ settle M.ordering before.now (M.world machine.old) q }
+    ensures requests { sent.new ≡ requests M.ordering before.now (M.world machine.old) q }
+    ensures room { M.room machine.new ≡ M.room machine.old }
+{
+    request(machine, before, q, sent);
     dispatch(machine, q);
-    requests
 }

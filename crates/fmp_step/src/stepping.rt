@@ -1,6 +1,6 @@
 //! One step of a machine.
 ghost use Rattle.std.specs.Prelude.{◌≡◌, ◌+◌, ◌≤◌, [], if◌then◌else◌};
-ghost use Rattle.fmp_rules.specs.Effects.{TellsOnce, adding};
+ghost use Rattle.fmp_rules.specs.Telling.{effect_told};
 ghost use Rattle.fmp_setup.specs.Setup.{has_time};
 ghost use Rattle.fmp_rules.specs.World.{processor, runner_of};
 ghost use Rattle.fmp_rules.specs.Step.{before_event, settled, unchanged, step};
@@ -10,7 +10,7 @@ use crate::dispatch::{changed_run, settle};
 use crate::family;
 use crate::tick::tick;
 use fmp_codes::{Answer, Call, Event, Proc, Record, Requests, Task};
-use fmp_rules::{Effect, Timer};
+use fmp_rules::Timer;
 use fmp_step_words::{Overview, Tops, Words, is_held, runner};
 
 /// What is remembered of the state before an event, besides what its record tells.
@@ -21,6 +21,7 @@ struct Before {
 }
 
 /// What is remembered of the state before an event on q, whose record tells the event and who could make a call.
+#[inline(always)]
 #[tactic(auto, unfolding(fmp_rules::specs::Step::before_event))]
 fn before_event<M: Overview>(machine: &M, q: Proc, told: &Record) -> Before
     requires runner { told.now.runner ≡ runner_of (M.world machine.now) q }
@@ -32,26 +33,14 @@ fn before_event<M: Overview>(machine: &M, q: Proc, told: &Record) -> Before
     }
 }
 
-/// The end of an event on q that did this, and ended the waits that are told already.
+/// The end of an event on q whose record tells its effect already.
+#[inline(always)]
 #[tactic(auto, unfolding(fmp_rules::specs::Step::settled))]
-fn settled<M: Overview>(
-    machine: &mut M,
-    q: Proc,
-    before: &Before,
-    effect: Effect,
-    told: &mut Record,
-)
-    requires once { TellsOnce told.old.releases effect }
-    ensures step { (M.world machine.new, told.new) ≡ settled M.ordering (seen told.old q before.now) (M.world machine.old, adding told.old.releases effect) }
+fn settled<M: Overview>(machine: &mut M, q: Proc, before: &Before, told: &mut Record)
+    ensures step { (M.world machine.new, told.new) ≡ settled M.ordering (seen told.old q before.now) (M.world machine.old, effect_told told.old) }
     ensures room { M.room machine.new ≡ M.room machine.old }
 {
-    let (answer, release, lost) = effect.into_parts();
-    if let Some(release) = release {
-        told.releases.push(release);
-    }
-    told.answer = answer;
-    told.lost = lost;
-    told.requests = settle(machine, &before.tops, q);
+    settle(machine, &before.tops, q, &mut told.requests);
     let running = machine.processor(q).running;
     told.run_change = changed_run(before.running, running);
 }
@@ -86,9 +75,19 @@ pub fn step_into<M: Overview>(machine: &mut M, event: Event, told: &mut Record)
     ensures step { (M.world machine.new, told.new) ≡ step M.ordering (M.world machine.old) event }
     ensures room { M.room machine.old ≤ M.room machine.new + 64 }
 {
-    told.releases.clear();
     told.event = event;
-    match event {
+    step_told(machine, told);
+}
+
+/// Plays the event that a record tells, and makes it tell what the event answers and did, whatever it told of that before.
+#[inline(always)]
+pub fn step_told<M: Overview>(machine: &mut M, told: &mut Record)
+    requires { 64 ≤ M.room machine.old }
+    ensures step { (M.world machine.new, told.new) ≡ step M.ordering (M.world machine.old) told.old.event }
+    ensures room { M.room machine.old ≤ M.room machine.new + 64 }
+{
+    told.releases.clear();
+    match told.event {
         Event::Call(p, call) => step_call(machine, p, call, told),
         Event::Tick(p) => step_tick(machine, p, told),
         Event::Ipi(p) => step_interrupt(machine, p, told),
@@ -96,6 +95,7 @@ pub fn step_into<M: Overview>(machine: &mut M, event: Event, told: &mut Record)
 }
 
 /// Plays a call from a processor, and makes the record tell it. Nothing changes where neither a handler nor a task could make it.
+#[inline(always)]
 fn step_call<M: Overview>(machine: &mut M, p: Proc, call: Call, told: &mut Record)
     requires room { 64 ≤ M.room machine.old }
     requires empty { told.old.releases ≡ [] }
@@ -108,8 +108,8 @@ fn step_call<M: Overview>(machine: &mut M, p: Proc, call: Call, told: &mut Recor
         return unchanged(machine, p, Answer::Idle, told);
     }
     let before = before_event(machine, p, told);
-    let effect = family::call(machine, p, call, &mut told.releases);
-    settled(machine, p, &before, effect, told);
+    family::call(machine, p, call, told);
+    settled(machine, p, &before, told);
 }
 
 /// Whether ticks on a processor count.
@@ -124,6 +124,7 @@ fn has_time(timer: Timer, p: Proc) -> bool
 
 /// Plays a tick of a processor, and makes the record tell it. Nothing changes where its ticks do not count, and where the tick is held
 /// back because it is CPU-locked or a handler is due.
+#[inline(always)]
 fn step_tick<M: Overview>(machine: &mut M, p: Proc, told: &mut Record)
     requires room { 64 ≤ M.room machine.old }
     requires empty { told.old.releases ≡ [] }
@@ -140,11 +141,14 @@ fn step_tick<M: Overview>(machine: &mut M, p: Proc, told: &mut Record)
     }
     let before = before_event(machine, p, told);
     tick(machine, p, &mut told.releases);
-    settled(machine, p, &before, Effect::answer(Answer::Taken), told);
+    told.answer = Answer::Taken;
+    told.lost = None;
+    settled(machine, p, &before, told);
 }
 
 /// Plays an interrupt that comes to a processor, and makes the record tell it. It is held back, and nothing changes, where dispatching
 /// is held.
+#[inline(always)]
 fn step_interrupt<M: Overview>(machine: &mut M, p: Proc, told: &mut Record)
     requires empty { told.old.releases ≡ [] }
     requires event { told.old.event ≡ Event.Ipi p }
@@ -156,8 +160,9 @@ fn step_interrupt<M: Overview>(machine: &mut M, p: Proc, told: &mut Record)
         return unchanged(machine, p, Answer::Held, told);
     }
     let before = before_event(machine, p, told);
-    let answer = interrupt_answer(machine, p);
-    settled(machine, p, &before, Effect::answer(answer), told);
+    told.answer = interrupt_answer(machine, p);
+    told.lost = None;
+    settled(machine, p, &before, told);
 }
 
 /// Whether a request was pending.

@@ -4,7 +4,8 @@ ghost use Rattle.fmp_rules.specs.World.{processor, first, rest};
 ghost use Rattle.fmp_rules.specs.Objects.{data_queue, values};
 ghost use Rattle.fmp_rules.specs.Rows.{called, done_or_wait};
 ghost use Rattle.fmp_rules.specs.Outcomes.{effect_of};
-ghost use Rattle.fmp_rules.specs.BufferCalls.{with_values, can_send, sent, forced, can_receive, offered, received, receiver, sender, tsnd_dtq, psnd_dtq, fsnd_dtq, trcv_dtq, prcv_dtq};
+ghost use Rattle.fmp_rules.specs.BufferCalls.{with_values, can_send, sent, forced, can_receive, offered, received, receiver, sender, tsnd_dtq, psnd_dtq, fsnd_dtq};
+ghost use Rattle.fmp_rules.specs.BufferCalls.{trcv_dtq, prcv_dtq};
 ghost use Rattle.fmp_step_objects.specs.Forms.{form_from};
 
 use crate::forms::check_form;
@@ -69,7 +70,8 @@ fn send_or_wait<M: Objects>(
 ) -> Result<Effect, Code>
     requires caller { is_some (processor (M.world machine.old) p).running ≡ true }
     requires room { 0 < M.room machine.old }
-    ensures state { let w = M.world machine.old in (M.world machine.new, effect_of result) ≡ done_or_wait M.ordering w p (can_send M.ordering w d) (sent M.ordering w d value (receiver M.ordering w d)) (Wait.Send d value) timeout }
+    ensures state { let w = M.world machine.old in (M.world machine.new, effect_of result) ≡ done_or_wait M.ordering w p (can_send M.ordering w d)
+        (sent M.ordering w d value (receiver M.ordering w d)) (Wait.Send d value) timeout }
     ensures room { M.room machine.old ≤ M.room machine.new + 1 }
 {
     let waiter = receiver(machine, d);
@@ -224,7 +226,8 @@ fn receive_or_wait<M: Objects>(
 ) -> Result<Effect, Code>
     requires caller { is_some (processor (M.world machine.old) p).running ≡ true }
     requires room { 0 < M.room machine.old }
-    ensures state { let w = M.world machine.old in (M.world machine.new, effect_of result) ≡ done_or_wait M.ordering w p (can_receive M.ordering w d) (received M.ordering w d (sender M.ordering w d)) (Wait.Receive d) timeout }
+    ensures state { let w = M.world machine.old in (M.world machine.new, effect_of result) ≡ done_or_wait M.ordering w p (can_receive M.ordering w d)
+        (received M.ordering w d (sender M.ordering w d)) (Wait.Receive d) timeout }
     ensures room { M.room machine.old ≤ M.room machine.new + 1 }
 {
     let waiter = sender(machine, d);

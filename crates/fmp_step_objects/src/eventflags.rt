@@ -83,7 +83,8 @@ pub(crate) fn set_flg<M: Objects>(
 ) -> Result<Effect, Code>
     requires room { 64 ≤ M.room machine.old }
     requires empty { releases.old ≡ [] }
-    ensures row { let w = M.world machine.old in (M.world machine.new, adding releases.new (effect_of result)) ≡ called w p (form_from context (set_flg M.ordering w id pattern)) }
+    ensures row { let w = M.world machine.old in (M.world machine.new, adding releases.new (effect_of result)) ≡ called w p
+        (form_from context (set_flg M.ordering w id pattern)) }
     ensures once { (effect_of result).releases ≡ [] }
     ensures room { M.room machine.old ≤ M.room machine.new + 64 }
 {
@@ -143,7 +144,8 @@ fn answer_or_wait<M: Objects>(
 ) -> Result<Effect, Code>
     requires caller { is_some (processor (M.world machine.old) p).running ≡ true }
     requires room { 0 < M.room machine.old }
-    ensures state { let w = M.world machine.old in (M.world machine.new, effect_of result) ≡ done_or_wait M.ordering w p (holds (eventflag w f).pattern pattern mode) (answered w f) (Wait.Eventflag f pattern mode) timeout }
+    ensures state { let w = M.world machine.old in (M.world machine.new, effect_of result) ≡ done_or_wait M.ordering w p (holds (eventflag w f).pattern pattern mode)
+        (answered w f) (Wait.Eventflag f pattern mode) timeout }
     ensures room { M.room machine.old ≤ M.room machine.new + 1 }
 {
     if holds(machine.eventflag(f).pattern, pattern, mode) {

@@ -100,7 +100,8 @@ fn imact_tsk<M: Words>(machine: &mut M, p: Proc, id: i32, to: i32) -> Result<Eff
 #[tactic(auto, unfolding(fmp_rules::specs::TaskCalls::mact))]
 fn try_activate_at<M: Words>(machine: &mut M, t: Task, to: i32) -> Result<Effect, Code>
     requires { 0 < M.room machine.old }
-    ensures row { let w = M.world machine.old in let row = mact M.ordering w (Some t) to in (M.world machine.new, effect_of result) ≡ called_by w row.effect (first_error ((not row.known, code.Identifier) ∷ (not row.proper, code.Parameter) ∷ row.errors)) }
+    ensures row { let w = M.world machine.old in let row = mact M.ordering w (Some t) to in (M.world machine.new, effect_of result) ≡ called_by w row.effect
+        (first_error ((not row.known, code.Identifier) ∷ (not row.proper, code.Parameter) ∷ row.errors)) }
     ensures room { M.room machine.old ≤ M.room machine.new + 1 }
 {
     let class = machine.task(t).setup.class;
@@ -117,7 +118,8 @@ fn try_activate<M: Words>(
     kept: Option<Proc>,
 ) -> Result<Effect, Code>
     requires { 0 < M.room machine.old }
-    ensures row { let w = M.world machine.old in let row = activation M.ordering w (Some t) (λ u. to) kept in (M.world machine.new, effect_of result) ≡ called_by w row.effect (first_error row.errors) }
+    ensures row { let w = M.world machine.old in let row = activation M.ordering w (Some t) (λ u. to) kept in (M.world machine.new, effect_of result)
+        ≡ called_by w row.effect (first_error row.errors) }
     ensures room { M.room machine.old ≤ M.room machine.new + 1 }
 {
     let task = machine.task(t);

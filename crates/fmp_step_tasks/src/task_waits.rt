@@ -37,7 +37,8 @@ pub(crate) fn tslp_tsk<M: Words>(machine: &mut M, p: Proc, timeout: i32) -> Resu
 /// Takes a queued wakeup of a task, or lets it sleep.
 fn sleep<M: Words>(machine: &mut M, t: Task, timeout: i32) -> Result<Effect, Code>
     requires { 0 < M.room machine.old }
-    ensures state { let w = M.world machine.old in let r = task w t in (M.world machine.new, effect_of result) ≡ (if nat_lt 0 r.wakeups then (with_task w t (record r { wakeups = r.wakeups - 1 }), done) else wait_for M.ordering w t Wait.Sleep timeout) }
+    ensures state { let w = M.world machine.old in let r = task w t in (M.world machine.new, effect_of result) ≡
+        (if nat_lt 0 r.wakeups then (with_task w t (record r { wakeups = r.wakeups - 1 }), done) else wait_for M.ordering w t Wait.Sleep timeout) }
     ensures room { M.room machine.old ≤ M.room machine.new + 1 }
 {
     let task = machine.task(t);
@@ -83,7 +84,8 @@ pub(crate) fn iwup_tsk<M: Words>(machine: &mut M, p: Proc, id: i32) -> Result<Ef
 #[tactic(auto, unfolding(fmp_rules::specs::TaskCalls::wup))]
 fn wake<M: Words>(machine: &mut M, t: Task) -> Result<Effect, Code>
     requires { 0 < M.room machine.old }
-    ensures row { let w = M.world machine.old in let row = wup M.ordering w (Some t) in (M.world machine.new, effect_of result) ≡ called_by w row.effect (first_error row.errors) }
+    ensures row { let w = M.world machine.old in let row = wup M.ordering w (Some t) in (M.world machine.new, effect_of result) ≡ called_by w row.effect
+        (first_error row.errors) }
     ensures room { M.room machine.old ≤ M.room machine.new + 1 }
 {
     let task = machine.task(t);

@@ -52,7 +52,7 @@ pub fn runner<M: Words>(machine: &M, p: Proc) -> Option<Runner>
     }
 }
 
-/// Whether dispatching on a processor is held.
+/// Whether dispatching on a processor is held. In TOPPERS/FMP: not dspflg, or in a handler; sense_context, sense_lock.
 pub fn is_held<M: Words>(machine: &M, p: Proc) -> bool
     ensures { result ≡ is_held (M.world machine.now) p }
 {
@@ -60,7 +60,7 @@ pub fn is_held<M: Words>(machine: &M, p: Proc) -> bool
     machine.handler(p).is_some() || processor.locked || processor.disabled
 }
 
-/// Refuses a call that may not be made now.
+/// Refuses a call that may not be made now. In TOPPERS/FMP: CHECK_TSKCTX_UNL, CHECK_INTCTX_UNL, CHECK_DISPATCH and the like.
 pub fn check_rule<M: Words>(machine: &M, p: Proc, rule: Rule) -> Result<(), Code>
     ensures { result ≡ refused_if (is_refused_context (M.world machine.now) p rule) code.Context }
 {
@@ -74,7 +74,7 @@ pub fn check_rule<M: Words>(machine: &M, p: Proc, rule: Rule) -> Result<(), Code
     )
 }
 
-/// The task that calls from a processor.
+/// The task that calls from a processor. In TOPPERS/FMP: p_runtsk.
 pub fn caller<M: Words>(machine: &M, p: Proc) -> Result<Task, Code>
     ensures { result ≡ known_or_error (processor (M.world machine.now) p).running }
 {

@@ -6,7 +6,7 @@ use crate::words::Words;
 use fmp_codes::Proc;
 use fmp_rules::Processor;
 
-/// Lets a processor enter the CPU-locked state, or leave it with any spin lock still held.
+/// Lets a processor enter the CPU-locked state, or leave it with any spin lock still held. In TOPPERS/FMP: t_lock_cpu, t_unlock_cpu.
 pub fn set_locked<M: Words>(machine: &mut M, p: Proc, locked: bool)
     ensures state { M.world machine.new ≡ with_lock (M.world machine.old) p locked }
     ensures room { M.room machine.new ≡ M.room machine.old }
@@ -21,7 +21,7 @@ pub fn set_locked<M: Words>(machine: &mut M, p: Proc, locked: bool)
     );
 }
 
-/// Disables the dispatching of a processor, or enables it.
+/// Disables the dispatching of a processor, or enables it. In TOPPERS/FMP: disdsp, dspflg.
 pub fn set_dispatching_disabled<M: Words>(machine: &mut M, p: Proc, disabled: bool)
     ensures state { M.world machine.new ≡ with_dispatching_disabled (M.world machine.old) p disabled }
     ensures room { M.room machine.new ≡ M.room machine.old }

@@ -10,7 +10,7 @@ use crate::words::Words;
 use fmp_codes::{Answer, Code, Pri, Proc, Task};
 use fmp_rules::{Effect, TaskRecord, Wait};
 
-/// Starts a dormant task on a processor.
+/// Starts a dormant task on a processor. In TOPPERS/FMP: make_active.
 pub fn start<M: Words>(machine: &mut M, t: Task, p: Proc)
     requires { 0 < M.room machine.old }
     ensures state { M.world machine.new ≡ start M.ordering (M.world machine.old) t p }
@@ -20,7 +20,7 @@ pub fn start<M: Words>(machine: &mut M, t: Task, p: Proc)
     machine.place(t, task.started(p));
 }
 
-/// Starts a dormant task on a processor, or queues the activation of another with a kept processor.
+/// Starts a dormant task on a processor, or queues the activation of another with a kept processor. In TOPPERS/FMP: make_active, else actque and actprc.
 pub fn activate<M: Words>(machine: &mut M, t: Task, p: Proc, kept: Option<Proc>)
     requires { 0 < M.room machine.old }
     ensures state { M.world machine.new ≡ activate M.ordering (M.world machine.old) t p kept }
@@ -52,7 +52,7 @@ pub fn finish<M: Words>(machine: &mut M, t: Task)
     machine.end_wait(t, task.ended());
 }
 
-/// Lets a task wait for so long, unless the timeout is 0.
+/// Lets a task wait for so long, unless the timeout is 0. In TOPPERS/FMP: make_wait, make_wait_tmout, wobj_make_wait.
 pub fn wait_for<M: Words>(
     machine: &mut M,
     t: Task,
@@ -68,7 +68,7 @@ pub fn wait_for<M: Words>(
     Ok(Effect::answer(Answer::Wait))
 }
 
-/// Ends the wait of a task, which is ready last of its priority unless it is suspended.
+/// Ends the wait of a task, which is ready last of its priority unless it is suspended. In TOPPERS/FMP: wait_complete, make_runnable.
 pub fn make_ready<M: Words>(machine: &mut M, t: Task)
     requires { 0 < M.room machine.old }
     ensures state { M.world machine.new ≡ make_ready M.ordering (M.world machine.old) t }
@@ -88,7 +88,7 @@ pub fn release<M: Words>(machine: &mut M, t: Task, code: Code, value: Option<i64
     Effect::releasing(t, code, value)
 }
 
-/// Gives a task this priority, of which it comes last.
+/// Gives a task this priority, of which it comes last. In TOPPERS/FMP: change_priority.
 pub fn change_priority<M: Words>(machine: &mut M, t: Task, priority: Pri)
     requires { 0 < M.room machine.old }
     ensures state { M.world machine.new ≡ change_priority M.ordering (M.world machine.old) t priority }
@@ -98,7 +98,7 @@ pub fn change_priority<M: Words>(machine: &mut M, t: Task, priority: Pri)
     machine.requeue(t, TaskRecord { priority, ..task });
 }
 
-/// Assigns a task to a processor. Where that is another than before and the task is ready, it comes last there.
+/// Assigns a task to a processor (prcid in TOPPERS/FMP). Where that is another than before and the task is ready, it comes last there.
 pub fn migrate<M: Words>(machine: &mut M, t: Task, p: Proc)
     requires { 0 < M.room machine.old }
     ensures state { M.world machine.new ≡ migrate M.ordering (M.world machine.old) t p }
@@ -116,7 +116,7 @@ pub fn migrate<M: Words>(machine: &mut M, t: Task, p: Proc)
     }
 }
 
-/// Lets a task, if there is one, come last of its priority.
+/// Lets a task, if there is one, come last of its priority. In TOPPERS/FMP: rotate_ready_queue.
 pub fn rotate<M: Words>(machine: &mut M, t: Option<Task>)
     requires { 0 < M.room machine.old }
     ensures state { M.world machine.new ≡ rotate M.ordering (M.world machine.old) t }

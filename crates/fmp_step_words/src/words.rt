@@ -22,7 +22,7 @@ pub trait Words {
     // 64, as many as there are tasks that one of them may release.
     ghost room: { Self → ℕ };
 
-    /// The record of a task.
+    /// The record of a task. In TOPPERS/FMP: its TCB.
     fn task(&self, t: Task) -> TaskRecord
         ensures { result ≡ task (world self.now) t };
 
@@ -31,7 +31,7 @@ pub trait Words {
         ensures value { result ≡ length (world self.now).tasks }
         ensures few { result ≤ 64 };
 
-    /// The record of a processor.
+    /// The record of a processor. In TOPPERS/FMP: its PCB.
     fn processor(&self, p: Proc) -> Processor
         ensures { result ≡ processor (world self.now) p };
 
@@ -44,7 +44,7 @@ pub trait Words {
     fn handler(&self, p: Proc) -> Option<Runner>
         ensures { result ≡ handler (world self.now) p };
 
-    /// The task that comes first on a processor.
+    /// The task that comes first on a processor. In TOPPERS/FMP: p_schedtsk.
     fn top(&self, p: Proc) -> Option<Task>
         ensures { result ≡ top ordering (world self.now) p };
 
@@ -76,25 +76,25 @@ pub trait Words {
         ensures state { world self.new ≡ with_task (world self.old) t changed }
         ensures room { room self.new ≡ room self.old };
 
-    /// Changes the fields of a task, which goes last where it is ready then.
+    /// Changes the fields of a task, which goes last where it is ready then. In TOPPERS/FMP: make_runnable, make_non_runnable.
     fn place(&mut self, t: Task, changed: TaskRecord)
         requires { 0 < room self.old }
         ensures state { world self.new ≡ place ordering (world self.old) t changed }
         ensures room { room self.old ≤ room self.new + 1 };
 
-    /// Ends the wait of a task, if it has one, and changes its fields. It goes last where it is ready then.
+    /// Ends the wait of a task, if it has one, and changes its fields. It goes last where it is ready then. In TOPPERS/FMP: wait_complete, wait_dequeue_wobj.
     fn end_wait(&mut self, t: Task, changed: TaskRecord)
         requires { 0 < room self.old }
         ensures state { world self.new ≡ end_wait ordering (world self.old) t changed }
         ensures room { room self.old ≤ room self.new + 1 };
 
-    /// Lets a task wait, with so many ticks left or for ever.
+    /// Lets a task wait, with so many ticks left or for ever. In TOPPERS/FMP: make_wait, make_wait_tmout.
     fn begin_wait(&mut self, t: Task, wait: Wait, left: Option<u64>)
         requires { 0 < room self.old }
         ensures state { world self.new ≡ begin_wait ordering (world self.old) t wait left }
         ensures room { room self.old ≤ room self.new + 1 };
 
-    /// Changes the fields of a task whose wait stays. It comes last where it is ready or waits in a queue by priority.
+    /// Changes the fields of a task whose wait stays. It comes last where it is ready or waits in a queue by priority. In TOPPERS/FMP: change_priority.
     fn requeue(&mut self, t: Task, changed: TaskRecord)
         requires room { 0 < room self.old }
         requires wait { changed.wait ≡ (task (world self.old) t).wait }

@@ -48,8 +48,6 @@ pub const TRACE: &[u8] = b"\
 8 P2 T2 ext_tsk() gone run=idle
 ";
 
-const TRACE_LINES: u64 = 8;
-
 /// How many line feeds there are in a text.
 fn line_feeds(text: &[u8]) -> usize {
     text.iter().filter(|byte| **byte == b'\n').count()
@@ -148,18 +146,20 @@ fn failed_writes(rt: HostRuntime) -> Result<(), Fail> {
     Ok(())
 }
 
-/// The writer is flushed before the events are read, each line is one write, and it is flushed before their end is read and behind
+/// The writer is flushed before the events are read, all lines are one write, and it is flushed before their end is read and after
 /// all. Each of these calls fails in turn.
 #[test]
 fn failed_calls_of_the_writer(rt: HostRuntime) -> Result<(), Fail> {
-    for calls in 0..TRACE_LINES + 3 {
+    for (calls, written) in [
+        (0, b"".as_slice()),
+        (1, b"".as_slice()),
+        (2, TRACE),
+        (3, TRACE),
+    ] {
         let mut trace = MemSink::with_room(rt.alloc(), 1000)?.failing_after(calls);
         let (config, events) = (MemSource::new(REMOTE), MemSource::new(EVENTS));
         stops(&rt, rt.alloc(), config, events, &mut trace, "write failed")?;
-        assert!(rt; TRACE.starts_with(trace.bytes()));
-        assert!(rt; trace.bytes().is_empty() || trace.bytes().ends_with(b"\n".as_slice()));
-        assert!(rt; trace.bytes().is_empty() == (calls <= 1));
-        assert!(rt; (trace.bytes() == TRACE) == (calls > TRACE_LINES));
+        assert_eq!(rt; trace.bytes(), written);
     }
     Ok(())
 }

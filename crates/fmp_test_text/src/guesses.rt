@@ -4,7 +4,7 @@ use fmp_calls::{
     BUFFER_CALLS, NameKind, ObjectKind, SPIN_CALLS, SYNC_CALLS, SYSTEM_CALLS, TASK_CALLS,
     TIME_CALLS, form,
 };
-use fmp_codes::Call;
+use fmp_codes::{Call, Event, Proc};
 use fmp_names::{Names, word_key};
 use fmp_text::quick_event;
 use std::test::Fail;
@@ -12,7 +12,10 @@ use std::test::Fail;
 /// Whether a call is guessed by its name.
 fn is_guessed(names: &Names, call: Call) -> bool {
     let name = form(call).text;
-    form(names.likely_call(word_key(name))).text == name
+    match names.likely_call(word_key(name)) {
+        Some(known) => known.form.text == name,
+        None => false,
+    }
 }
 
 macro_rules! are_guessed {
@@ -106,8 +109,9 @@ const COMMON: [&[u8]; 22] = [
 
 /// Whether the short way finds something, up to the end of the line: by its contract it is what the line says.
 fn is_short(names: &Names, line: &[u8]) -> bool {
-    match quick_event(names, line) {
-        Some((_, rest)) => rest == b"\n".as_slice() || rest == b"\r\n".as_slice(),
+    let mut event = Event::Tick(Proc::new(1));
+    match quick_event(names, line, &mut event) {
+        Some(rest) => rest == b"\n".as_slice() || rest == b"\r\n".as_slice(),
         None => false,
     }
 }

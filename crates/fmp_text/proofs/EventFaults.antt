@@ -93,7 +93,7 @@ constant_kind TwfAndw kinds.Mode value e = subst (IsOfKind kinds.Mode) (some_is 
 constant_kind TwfOrw kinds.Mode value e = subst (IsOfKind kinds.Mode) (some_is _ value e) refl
 constant_kind _ _ value e = absurd cc
 
-value_kind : (names : NameLists) (kind : ArgumentKind) (token : List ℕ) (value : Value) → SpellsValue names kind token value → IsOfKind kind value
+pub value_kind : (names : NameLists) (kind : ArgumentKind) (token : List ℕ) (value : Value) → SpellsValue names kind token value → IsOfKind kind value
 unfolding constant_of
 value_kind names kind token value (inl s) = ranged_kind kind s.negative s.magnitude value s.in_range
 value_kind names kind token value (inr (inl s)) = let p = and_then_parts (constant_in token) (λ c. value_of c kind) value s in constant_kind p.0 kind value p.2

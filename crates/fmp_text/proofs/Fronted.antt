@@ -1,14 +1,13 @@
 -- What the short reader finds is spelled.
 use Rattle.std.proofs.Common.{◌≡◌, ℕ, ◌+◌, ◌*◌, ◌-◌, ◌/◌, ◌%◌, ◌<◌, ◌≤◌, ◌^◌, Bool, true, false, eqb, get_or, Option, Bor, IfSome, inl, inr, List, [], ◌∷◌, ◌++◌, length, take, drop, Some, None, Ok, refl, sym, ap, subst, ◌∙◌, arith, decimal, append_assoc, length-append, suc}
-use Rattle.std.specs.Prelude.{codes, not, slice_index}
+use Rattle.std.specs.Prelude.{codes, not, set, slice_index}
 use Rattle.std.specs.Option.{option_copied}
 use Rattle.std.specs.List.{list_all, join_with_byte}
-use Rattle.std.proofs.lemmas.List.{append-nil, take_all}
-use Rattle.std.proofs.lemmas.Bool.{eqb-true, false≢true}
-use Rattle.std.proofs.Math.Seq.{drop-append-add}
+use Rattle.std.proofs.lemmas.List.{append-nil, drop_all, take_all, take_more_set}
+use Rattle.std.proofs.lemmas.Bool.{and_from, eqb-true, false≢true}
+use Rattle.std.proofs.Math.Seq.{drop-append-add, drop-cons}
 use Rattle.std.proofs.lemmas.Fmt.{decimal_step, decimal_digit}
 use Rattle.fmp_codes.specs.declared.calls.Call.{Call}
-use Rattle.fmp_codes.specs.declared.calls.Call.TheVariants as calls
 use Rattle.fmp_codes.specs.declared.numbers.Proc.{Proc}
 use Rattle.fmp_codes.specs.declared.records.Event.{Event}
 use Rattle.fmp_codes.specs.declared.records.Event.TheVariants as events
@@ -18,6 +17,7 @@ use Rattle.fmp_bytes.specs.Bytes.{is_of, behind}
 use Rattle.fmp_bytes.proofs.Spelled.{behind_is}
 use Rattle.fmp_calls.specs.declared.kinds.ArgumentKind.{ArgumentKind}
 use Rattle.fmp_calls.specs.declared.kinds.Value.{Value}
+use Rattle.fmp_calls.specs.Kinds.{is_of_kind, are_of_kinds}
 use Rattle.fmp_calls.specs.Table.{text_of, is_bare, kinds_of, values_of, call_of}
 use Rattle.fmp_calls.proofs.Matched.{call_of-same, call_of-agrees}
 use Rattle.fmp_names.specs.Names.{NameLists, AreValid}
@@ -25,8 +25,9 @@ use Rattle.fmp_names.proofs.Listed.{list_all-at}
 use Rattle.fmp_text.specs.Argument.{ranged, constant_of}
 use Rattle.fmp_text.specs.Grammar.{AreBlank, Padded, IsNumber, SpellsValue, SpellsPieces, SpellsArguments, SpellsEnclosed, FollowsName, SpellsCall}
 use Rattle.fmp_text.specs.TextGrammar.{Ended, IsAlone, OnProcessor, SpellsEvent}
-use Rattle.fmp_text.specs.Fronts.{IsFront, IsBehindBlank, IsBehindBlanks, IsBehindEnd, IsBehindComma, IsClosed, IsClosedBehind, IsMade, IsNumberOf, Happens}
+use Rattle.fmp_text.specs.Fronts.{IsFront, IsBehindBlank, IsBehindBlanks, IsBehindEnd, IsBehindComma, IsClosed, IsMade, IsNumberOf, Happens}
 use Rattle.fmp_text.specs.Events.{HasNoFeed, IsFirstLine}
+use Rattle.fmp_text.proofs.EventFaults.{value_kind}
 use Rattle.fmp_text.proofs.SpelledEvents.{line_of_spelled}
 use Rattle.fmp_text.proofs.SpelledTexts.{no_feed, one_read}
 
@@ -71,11 +72,6 @@ front_negative kind text digits rest n value few signed parts range =
 pub front_constant : (names : NameLists) (kind : ArgumentKind) (text rest : List ℕ) (value : Value) → IsFront (λ token v. constant_of kind token ≡ Some v) text value rest
     → IsFront (SpellsValue names kind) text value rest
 front_constant names kind text rest value f = record { token = f.token; spelled = inr (inl f.spelled); parts = f.parts }
-
-pub constant_some : (names : NameLists) (kind : ArgumentKind) (text : List ℕ) (found : Option (Value × Bor (List ℕ))) → IfSome found (λ f. IsFront (λ token v. constant_of kind token ≡ Some v) text f.0 f.1.now)
-    → IfSome found (λ f. IsFront (SpellsValue names kind) text f.0 f.1.now)
-constant_some names kind text (Some f) is = front_constant names kind text f.1.now f.0 is
-constant_some names kind text None is = tt
 
 -- ---- arguments
 
@@ -129,50 +125,47 @@ closed_more names kind next kinds value others text rest more end f c closed =
       parts = f.parts ∙ ap (λ (r : List ℕ). f.token ++ r) behind ∙ sym (append_assoc f.token (44 ∷ (c.blanks ++ join_with_byte 44 a.0)) (41 ∷ end));
     }
 
--- the only argument, behind other values
-pub closed_last : (names : NameLists) (kind : ArgumentKind) (others all : List Value) (value : Value) (text rest end : List ℕ) → all ≡ others ++ value ∷ [] → IsFront (SpellsValue names kind) text value rest
-    → rest ≡ 41 ∷ end → IsClosedBehind names (kind ∷ []) others all text end
-closed_last names kind others all value text rest end added f closes = (value ∷ [], added, closed_one names kind value text rest end f closes)
-
--- one argument and then more, behind other values
-pub closed_next : (names : NameLists) (kind : ArgumentKind) (kinds : List ArgumentKind) (others more all : List Value) (value : Value) (text rest after end : List ℕ) → more ≡ others ++ value ∷ []
-    → 1 ≤ length kinds → IsFront (SpellsValue names kind) text value rest → IsBehindComma rest after → IsClosedBehind names kinds more all after end → IsClosedBehind names (kind ∷ kinds) others all text end
-closed_next names kind [] others more all value text rest after end added some f c closed = absurd (omega (arith, some))
-closed_next names kind (next ∷ kinds) others more all value text rest after end added some f c closed = (
-  value ∷ closed.0,
-  closed.1 ∙ ap (λ (vs : List Value). vs ++ closed.0) added ∙ append_assoc others (value ∷ []) closed.0,
-  closed_more names kind next kinds value closed.0 text rest after end f c closed.2,
-)
-
-empty_kinds : (ks : List ArgumentKind) → length ks ≡ 0 → ks ≡ []
-empty_kinds [] e = refl
-empty_kinds (k ∷ ks) e = absurd (omega (arith, e))
-
-some_kinds : (ks : List ArgumentKind) → eqb (length ks) 0 ≡ false → 1 ≤ length ks
-some_kinds [] e = absurd (false≢true (sym e))
-some_kinds (k ∷ ks) e = omega arith
-
 -- the first of some kinds and the others
-pub kinds_head : (ks : List ArgumentKind) (d : ArgumentKind) → 1 ≤ length ks → get_or ks 0 d ∷ take (length ks - 1) (drop 1 ks) ≡ ks
-kinds_head [] d some = absurd (omega (arith, some))
-kinds_head (k ∷ ks) d some = ap (λ (r : List ArgumentKind). k ∷ r) (take_all (length (k ∷ ks) - 1) ks (omega arith))
+kinds_at : (ks : List ArgumentKind) (k : ℕ) (d : ArgumentKind) → k < length ks → drop k ks ≡ get_or ks k d ∷ drop (k + 1) ks
+kinds_at ks k d low = drop-cons ks k d low ∙ ap (λ (n : ℕ). get_or ks k d ∷ drop n ks) (let next : suc k ≡ k + 1 = omega arith in next)
 
-module _ (names : NameLists) (kinds tail : List ArgumentKind) (kind : ArgumentKind) (others more : List Value) (value : Value) (text rest : List ℕ) (whole : kind ∷ tail ≡ kinds) (added : more ≡ others ++ value ∷ [])
-    (f : IsFront (SpellsValue names kind) text value rest) (test : Bool) (tested : test ≡ eqb (length tail) 0) where
-  -- the last argument
-  pub ends_here : (found : Option (Bor (List ℕ))) → test ≡ true → IfSome found (λ end. rest ≡ 41 ∷ end.now) → IfSome found (λ end. IsClosedBehind names kinds others more text end.now)
-  ends_here (Some end) last closes =
-      let none = empty_kinds tail (eqb-true (length tail) 0 (sym tested ∙ last)) in
-      subst (λ (ks : List ArgumentKind). IsClosedBehind names ks others more text end.now) (ap (λ (ks : List ArgumentKind). kind ∷ ks) (sym none) ∙ whole) (closed_last names kind others more value text rest end.now added f closes)
-  ends_here None last closes = tt
+-- the text of these arguments goes on with the arguments of the other kinds
+abbrev pub GoesOn : NameLists → List ArgumentKind → List Value → List ArgumentKind → List ℕ → List ℕ → Type 0
+GoesOn names kinds values others text rest = (more : List Value) (end : List ℕ) → IsClosed names others more rest end → IsClosed names kinds (values ++ more) text end
 
-  -- another one follows
-  pub goes_on : (after : List ℕ) (all : List Value) (found : Option (Bor (List ℕ))) → test ≡ false → IsBehindComma rest after → IfSome found (λ end. IsClosedBehind names tail more all after end.now)
-      → IfSome found (λ end. IsClosedBehind names kinds others all text end.now)
-  goes_on after all (Some end) next comma closed =
-      let some = some_kinds tail (sym tested ∙ next) in
-      subst (λ (ks : List ArgumentKind). IsClosedBehind names ks others all text end.now) whole (closed_next names kind tail others more all value text rest after end.now added some f comma closed)
-  goes_on after all None next comma closed = tt
+pub goes_first : (names : NameLists) (kinds : List ArgumentKind) (text : List ℕ) → GoesOn names kinds [] kinds text text
+goes_first names kinds text more end closed = closed
+
+module _ (names : NameLists) (kinds : List ArgumentKind) (values : List Value) (k : ℕ) (d : ArgumentKind) (value : Value) (text here rest : List ℕ) (low : k < length kinds) (room : k < length values)
+    (goes : GoesOn names kinds (take k values) (drop k kinds) text here) (f : IsFront (SpellsValue names (get_or kinds k d)) here value rest) where
+  -- one more argument with a comma behind it
+  pub goes_next : (more : List ℕ) → k + 1 < length kinds → IsBehindComma rest more → GoesOn names kinds (take (k + 1) (set values k value)) (drop (k + 1) kinds) text more
+  goes_next more next comma vs end closed =
+      let tail = kinds_at kinds (k + 1) d next in
+      let whole = closed_more names (get_or kinds k d) _ _ value vs here rest more end f comma (subst (λ (ks : List ArgumentKind). IsClosed names ks vs more end) tail closed) in
+      let kept = subst (λ (ks : List ArgumentKind). IsClosed names ks (value ∷ vs) here end) (sym (kinds_at kinds k d low ∙ ap (λ (ks : List ArgumentKind). get_or kinds k d ∷ ks) tail)) whole in
+      let all = sym (append_assoc (take k values) (value ∷ []) vs) ∙ ap (λ (l : List Value). l ++ vs) (sym (take_more_set values k value room)) in
+      subst (λ (l : List Value). IsClosed names kinds l text end) all (goes (value ∷ vs) end kept)
+
+  -- the last argument, with the closing parenthesis behind it
+  pub goes_last : (found : Option (Bor (List ℕ))) → k + 1 ≡ length kinds → IfSome found (λ end. rest ≡ 41 ∷ end.now)
+      → IfSome found (λ end. IsClosed names kinds (take (length kinds) (set values k value)) text end.now)
+  goes_last (Some end) last closes =
+      let none : drop (k + 1) kinds ≡ [] = drop_all (k + 1) kinds (omega (arith, last)) in
+      let one = closed_one names (get_or kinds k d) value here rest end.now f closes in
+      let kept = subst (λ (ks : List ArgumentKind). IsClosed names ks (value ∷ []) here end.now) (sym (kinds_at kinds k d low ∙ ap (λ (ks : List ArgumentKind). get_or kinds k d ∷ ks) none)) one in
+      subst (λ (l : List Value). IsClosed names kinds l text end.now) (sym (take_more_set values k value room) ∙ ap (λ (n : ℕ). take n (set values k value)) last) (goes (value ∷ []) end.now kept)
+  goes_last None last closes = tt
+
+-- no argument is left, and the closing parenthesis follows
+pub goes_none : (names : NameLists) (kinds : List ArgumentKind) (values : List Value) (k : ℕ) (text here : List ℕ) (found : Option (Bor (List ℕ))) → k ≡ length kinds → GoesOn names kinds (take k values) (drop k kinds) text here
+    → IfSome found (λ end. here ≡ 41 ∷ end.now) → IfSome found (λ end. IsClosed names kinds (take (length kinds) values) text end.now)
+goes_none names kinds values k text here (Some end) last goes closes =
+    let none : drop k kinds ≡ [] = drop_all k kinds (omega (arith, last)) in
+    let bare : IsClosed names [] [] here end.now = record { inner = []; arguments = (refl, refl); parts = closes } in
+    let all = append-nil (take k values) ∙ ap (λ (n : ℕ). take n values) last in
+    subst (λ (vs : List Value). IsClosed names kinds vs text end.now) all (goes [] end.now (subst (λ (ks : List ArgumentKind). IsClosed names ks [] here end.now) (sym none) bare))
+goes_none names kinds values k text here None last goes closes = tt
 
 -- ---- blanks
 
@@ -212,11 +205,26 @@ call_made names call made kinds values text end found same is was closed =
       closed = subst (λ (ks : List ArgumentKind). IsClosed names ks (values_of made) text end) (same ∙ sym all.1) (subst (λ (vs : List Value). IsClosed names kinds vs text end) (sym agrees.1) closed);
     }
 
-pub call_closed : (names : NameLists) (call made : Call) (kinds : List ArgumentKind) (text end : List ℕ) (none all values : List Value) (found : Option Call) → kinds ≡ kinds_of call
-    → found ≡ call_of call values → found ≡ Some made → none ≡ [] → values ≡ all → IsClosedBehind names kinds none all text end → IsMade names call text made end
-call_closed names call made kinds text end none all values found same is was nothing whole closed =
-    call_made names call made kinds values text end found same is was
-    (subst (λ (vs : List Value). IsClosed names kinds vs text end) (sym (whole ∙ closed.1 ∙ ap (λ (vs : List Value). vs ++ closed.0) nothing)) closed.2)
+-- values that a text spells are of their kinds
+pieces_kinds : (names : NameLists) (kinds : List ArgumentKind) (values : List Value) (pieces : List (List ℕ)) → SpellsPieces names kinds values pieces → are_of_kinds kinds values ≡ true
+pieces_kinds names [] [] [] s = refl
+pieces_kinds names [] [] (piece ∷ pieces) s = absurd s
+pieces_kinds names [] (value ∷ values) pieces s = absurd s
+pieces_kinds names (kind ∷ kinds) [] pieces s = absurd s
+pieces_kinds names (kind ∷ kinds) (value ∷ values) [] s = absurd s
+pieces_kinds names (kind ∷ kinds) (value ∷ values) (piece ∷ pieces) s =
+    and_from (is_of_kind kind value) (are_of_kinds kinds values) (value_kind names kind s.0.0 value s.0.2) (pieces_kinds names kinds values pieces s.1)
+
+closed_kinds : (names : NameLists) (kinds : List ArgumentKind) (values : List Value) (text end : List ℕ) → IsClosed names kinds values text end → are_of_kinds kinds values ≡ true
+closed_kinds names [] values text end c = subst (λ (vs : List Value). are_of_kinds [] vs ≡ true) (sym c.arguments.1) refl
+closed_kinds names (kind ∷ kinds) values text end c = pieces_kinds names (kind ∷ kinds) values c.arguments.0 c.arguments.2
+
+pub call_closed : (names : NameLists) (call made : Call) (kinds : List ArgumentKind) (values : List Value) (text end : List ℕ) → kinds ≡ kinds_of call
+    → (are_of_kinds (kinds_of call) (take (length (kinds_of call)) values) ≡ true → call_of call (take (length (kinds_of call)) values) ≡ Some made)
+    → IsClosed names kinds (take (length kinds) values) text end → IsMade names call text made end
+call_closed names call made kinds values text end same makes closed =
+    let all : IsClosed names (kinds_of call) (take (length (kinds_of call)) values) text end = subst (λ (ks : List ArgumentKind). IsClosed names ks (take (length ks) values) text end) same closed in
+    call_made names call made (kinds_of call) (take (length (kinds_of call)) values) text end _ refl refl (makes (closed_kinds names (kinds_of call) _ text end all)) all
 
 pub call_spelled : (names : NameLists) (call made : Call) (text rest inner end : List ℕ) → text ≡ text_of call ++ rest → rest ≡ 40 ∷ inner → is_bare call ≡ false
     → IsMade names call inner made end → IsFront (SpellsCall names) text made end
@@ -236,8 +244,13 @@ call_spelled names call made text rest inner end parts opened bare m =
       parts = parts ∙ ap (λ (r : List ℕ). text_of call ++ r) closing ∙ sym (append_assoc (text_of call) enclosed end);
     }
 
-pub return_spelled : (names : NameLists) → SpellsCall names (codes "ret_hdr") calls.RetHdr
-return_spelled names = record { before = []; rest = []; before_blank = refl; follows = inl (refl, refl); parts = refl }
+-- a bare call is its name alone
+pub bare_spelled : (names : NameLists) (call : Call) (text rest : List ℕ) → is_bare call ≡ true → text ≡ text_of call ++ rest → IsFront (SpellsCall names) text call rest
+bare_spelled names call text rest bare parts = record {
+  token = text_of call;
+  spelled = record { before = []; rest = []; before_blank = refl; follows = inl (bare, refl); parts = sym (append-nil (text_of call)) };
+  parts = parts;
+}
 
 -- ---- what happens on a processor
 
@@ -331,9 +344,6 @@ event_spelled names processor text start first second third behind end rest numb
 pub happens_call : (names : NameLists) (processor : Proc) (text end : List ℕ) (call : Call) → IsFront (SpellsCall names) text call end → IsFront (Happens names processor) text (events.Call processor call) end
 happens_call names processor text end call f = record { token = f.token; spelled = (refl, f.spelled); parts = f.parts }
 
-pub happens_return : (names : NameLists) (processor : Proc) (text word end : List ℕ) → text ≡ word ++ end → word ≡ codes "ret_hdr" → IsFront (Happens names processor) text (events.Call processor calls.RetHdr) end
-happens_return names processor text word end parts is = record { token = word; spelled = (refl, subst (λ (t : List ℕ). SpellsCall names t calls.RetHdr) (sym is) (return_spelled names)); parts = parts }
-
 -- ---- lines
 
 no_feed_in : (line : List ℕ) → list_all (is_of Line) line ≡ true → HasNoFeed line
@@ -380,3 +390,8 @@ first_ended names bytes rest behind event valid f (inl feed) =
 first_ended names bytes rest behind event valid f (inr feed) =
     line_ended names bytes (f.token ++ (13 ∷ [])) f.token behind event valid f.spelled (inr refl)
     (f.parts ∙ ap (λ (r : List ℕ). f.token ++ r) feed ∙ sym (append_assoc f.token (13 ∷ []) (10 ∷ behind)))
+
+pub ended_some : (names : NameLists) (bytes rest : List ℕ) (event : Event) (found : Option (Bor (List ℕ))) → AreValid names → IsFront (SpellsEvent names) bytes event rest
+    → IfSome found (λ behind. IsBehindEnd rest behind.now) → IfSome found (λ behind. IsFirstLine names bytes (Ok (Some event)) (length bytes - length behind.now))
+ended_some names bytes rest event (Some behind) valid f ends = first_ended names bytes rest behind.now event valid f ends
+ended_some names bytes rest event None valid f ends = tt

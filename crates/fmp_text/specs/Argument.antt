@@ -1,6 +1,7 @@
 -- believed: see docs/PROOF.md, "What has to be believed"
 -- The arguments of a call: their form, and the values that they stand for.
-use Rattle.std.specs.Prelude.{ℕ, pos, ◌^◌, Bool, true, false, ◌&&◌, ◌||◌, List, [], ◌∷◌, length, Option, Some, None, option_map, option_and_then, is_some, Result, Ok, Err, nat_le, if◌then◌else◌}
+use Rattle.std.specs.Prelude.{ℕ, pos, ◌^◌, Bool, true, false, ◌&&◌, ◌||◌, List, [], ◌∷◌, length, Option, Some, None, option_map, option_and_then, is_some, Result, Ok}
+use Rattle.std.specs.Prelude.{Err, nat_le, if◌then◌else◌}
 use Rattle.std.specs.List.{list_all}
 use Rattle.std.specs.Option.{ok_or, option_map_or, option_or}
 use Rattle.fmp_bytes.specs.declared.classes.Class.TheVariants.{Blank, Argument}

@@ -1,5 +1,6 @@
 -- Reading the lines of an event text, up to the first fault.
-use Rattle.std.specs.Prelude.{◌≡◌, ◌≢◌, ◌<◌, ◌≤◌, ℕ, ◌+◌, ◌⊎◌, ◌==◌, nat_lt, Bool, false, List, [], ◌∷◌, ◌++◌, length, take, drop, slice_index, Option, Some, None, Result, Ok, Err, if◌then◌else◌}
+use Rattle.std.specs.Prelude.{◌≡◌, ◌≢◌, ◌<◌, ◌≤◌, ℕ, ◌+◌, ◌⊎◌, ◌==◌, nat_lt, Bool, false, List, [], ◌∷◌, ◌++◌, length, take, drop, slice_index, Option, Some, None}
+use Rattle.std.specs.Prelude.{Result, Ok, Err, if◌then◌else◌}
 use Rattle.fmp_bytes.specs.Bytes.{line_feed}
 use Rattle.fmp_codes.specs.declared.records.Event.{Event}
 use Rattle.fmp_text.specs.Limits.{most_bytes, most_events}
@@ -54,7 +55,8 @@ at_end cut line last = if cut then fault_at TooMany 0 else (if is_skipped last t
 unfoldable pub reading_from : NameLists → Bool → ℕ → ℕ → List ℕ → List ℕ → Reading
 reading_from names cut lines count begun [] = at_end cut (lines + 1) begun
 reading_from names cut lines count begun (byte ∷ bytes) =
-    if byte == line_feed then after_line (lines + 1) count (line_event names begun) (reading_from names cut (lines + 1) count [] bytes) (reading_from names cut (lines + 1) (count + 1) [] bytes)
+    if byte == line_feed then after_line (lines + 1) count (line_event names begun) (reading_from names cut (lines + 1) count [] bytes)
+    (reading_from names cut (lines + 1) (count + 1) [] bytes)
     else reading_from names cut lines count (begun ++ byte ∷ []) bytes
 
 -- what a whole text gives. One that is too long has that fault before all others
@@ -83,4 +85,5 @@ pub record IsFirstLine (names : NameLists) (bytes : List ℕ) (said : Result (Op
 -- follows it
 abbrev pub ScansTo : NameLists → ℕ → List ℕ → Scan → Type 0
 ScansTo names lines bytes scan = (cut : Bool) (count : ℕ) (more : List ℕ) → reading_from names cut lines count [] (bytes ++ more)
-    ≡ after_line scan.lines count scan.said (reading_from names cut scan.lines count [] (drop scan.used bytes ++ more)) (reading_from names cut scan.lines (count + 1) [] (drop scan.used bytes ++ more))
+    ≡ after_line scan.lines count scan.said (reading_from names cut scan.lines count [] (drop scan.used bytes
+    ++ more)) (reading_from names cut scan.lines (count + 1) [] (drop scan.used bytes ++ more))

@@ -46,10 +46,6 @@ pub record IsClosed (names : NameLists) (kinds : List ArgumentKind) (values : Li
   pub arguments : SpellsArguments names kinds values inner
   pub parts : text ≡ inner ++ (close_parenthesis ∷ rest)
 
--- the same, where the values were added to others
-abbrev pub IsClosedBehind : NameLists → List ArgumentKind → List Value → List Value → List ℕ → List ℕ → Type 0
-IsClosedBehind names kinds others all text rest = (values : List Value) × (all ≡ others ++ values) × IsClosed names kinds values text rest
-
 -- a call of the same name, with the arguments that the text spells behind the opening parenthesis
 pub record IsMade (names : NameLists) (name : Call) (text : List ℕ) (made : Call) (rest : List ℕ) : Type 0 where
   pub same_text : text_of made ≡ text_of name

@@ -50,7 +50,8 @@ SpellsValue names kind token value = IsNumber kind token value ⊎ ((constant_of
 -- each piece is an argument with blanks around
 abbrev pub SpellsPieces : NameLists → List ArgumentKind → List Value → List (List ℕ) → Type 0
 SpellsPieces names [] [] [] = Unit {0}
-SpellsPieces names (kind ∷ kinds) (value ∷ values) (piece ∷ pieces) = ((token : List ℕ) × Padded token piece × SpellsValue names kind token value) × SpellsPieces names kinds values pieces
+SpellsPieces names (kind ∷ kinds) (value ∷ values) (piece ∷ pieces) = ((token : List ℕ) × Padded token piece × SpellsValue names kind token value)
+    × SpellsPieces names kinds values pieces
 SpellsPieces names _ _ _ = ⊥
 
 -- arguments with commas between them, or blanks alone

@@ -35,4 +35,4 @@ pub use laws::{
 };
 pub use line::{is_skipped, line_event, processor_in, processor_numbered, without_return};
 pub use quick::{quick_call, quick_event};
-pub use scan::{Scan, first_said};
+pub use scan::{Scan, first_said, quick_line};

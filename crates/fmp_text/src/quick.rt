@@ -1,17 +1,17 @@
 //! The short way through an event of the common forms: one pass, in which a call and the names of objects are guessed by their
 //! first bytes and then compared. The text spells what is found. Where nothing is found, the line has to be read in full.
-ghost use Rattle.std.specs.Prelude.{◌≡◌, ◌++◌, ◌∷◌, [], ◌+◌, ◌<◌, ◌≤◌, ◌^◌, IfSome, IsTrue, Some, decimal, length};
-ghost use Rattle.fmp_calls.specs.Table.{kinds_of};
+ghost use Rattle.std.specs.Prelude.{◌≡◌, ◌++◌, ◌∷◌, [], ◌+◌, ◌<◌, ◌≤◌, ◌^◌, IfSome, IsTrue, Some, decimal, length, take};
 ghost use Rattle.fmp_calls.specs.declared.kinds.ArgumentKind.TheVariants as kinds;
+ghost use Rattle.fmp_calls.specs.Known.{IsKnown};
 ghost use Rattle.fmp_text.specs.Grammar.{IsNumber, IsObjectName, SpellsValue, SpellsCall};
 ghost use Rattle.fmp_text.specs.TextGrammar.{SpellsEvent};
-ghost use Rattle.fmp_text.specs.Fronts.{IsFront, IsBehindBlank, IsBehindBlanks, IsBehindComma, IsClosedBehind, IsMade, IsNumberOf, Happens};
-ghost use Rattle.fmp_text.specs.Argument.{constant_of};
+ghost use Rattle.fmp_text.specs.Fronts.{IsFront, IsBehindBlank, IsBehindBlanks, IsBehindComma, IsClosed, IsMade, IsNumberOf, Happens};
+ghost use Rattle.fmp_text.specs.Argument.{constant_of, ranged};
 
-use crate::argument::ranged;
-use arrayvec::ArrayVec;
 use fmp_bytes::behind;
-use fmp_calls::{ArgumentKind, MOST_ARGUMENTS, NameKind, ObjectKind, Value, form, with_values_of};
+use fmp_calls::{
+    ArgumentKind, KnownCall, MOST_ARGUMENTS, NameKind, ObjectKind, Value, with_known_values,
+};
 use fmp_codes::{Call, Event, Mode, Proc};
 use fmp_names::{Names, word_key};
 
@@ -220,6 +220,26 @@ fn decimal_front(text: &[u8]) -> Option<(u32, &[u8])>
     Some((number, rest))
 }
 
+/// The value of a sign and a magnitude of at most nine digits, where it is in the range of its kind.
+#[inline(always)]
+fn small_value(kind: ArgumentKind, negative: bool, magnitude: u32) -> Option<Value>
+    requires { magnitude < 10 ^ 9 }
+    ensures { IfSome result (λ value. ranged kind negative magnitude ≡ Some value) }
+{
+    let number = if negative {
+        -(magnitude as i32)
+    } else {
+        magnitude as i32
+    };
+    match kind {
+        ArgumentKind::Mode => None,
+        ArgumentKind::Pattern if negative => None,
+        ArgumentKind::Pattern => Some(Value::Pattern(magnitude)),
+        ArgumentKind::Data => Some(Value::Data(i64::from(number))),
+        _ => Some(Value::Number(number)),
+    }
+}
+
 /// The value of a number.
 #[inline(always)]
 fn number_front(kind: ArgumentKind, text: &[u8]) -> Option<(Value, &[u8])>
@@ -227,11 +247,11 @@ fn number_front(kind: ArgumentKind, text: &[u8]) -> Option<(Value, &[u8])>
 {
     if let Some(digits) = after_byte(b'-', text) {
         let (number, rest) = decimal_front(digits)?;
-        let value = ranged(kind, true, u64::from(number))?;
+        let value = small_value(kind, true, number)?;
         return Some((value, rest));
     }
     let (number, rest) = decimal_front(text)?;
-    let value = ranged(kind, false, u64::from(number))?;
+    let value = small_value(kind, false, number)?;
     Some((value, rest))
 }
 
@@ -327,21 +347,32 @@ fn named_front<'a>(names: &Names, kind: ArgumentKind, text: &'a [u8]) -> Option<
     }
 }
 
-/// The value of an argument of the kind. It ends where a comma, the closing parenthesis or nothing that was read follows.
+/// The value of an argument of the kind is written into one that is there. Gives what follows it, which is a comma, the closing
+/// parenthesis or nothing that was read.
 #[inline(always)]
-fn value_front<'a>(names: &Names, kind: ArgumentKind, text: &'a [u8]) -> Option<(Value, &'a [u8])>
-    ensures { IfSome result (λ found. IsFront (SpellsValue names.now kind) text.now found.0 found.1.now) }
+fn value_front<'a>(
+    names: &Names,
+    kind: ArgumentKind,
+    text: &'a [u8],
+    value: &mut Value,
+) -> Option<&'a [u8]>
+    ensures { IfSome result (λ rest. IsFront (SpellsValue names.now kind) text.now value.new rest.now) }
 {
     let [first, ..] = text else {
         return None;
     };
     if *first <= b'9' {
-        return number_front(kind, text);
+        let (number, rest) = number_front(kind, text)?;
+        *value = number;
+        return Some(rest);
     }
-    if let Some(found) = named_front(names, kind, text) {
-        return Some(found);
+    if let Some((number, rest)) = named_front(names, kind, text) {
+        *value = number;
+        return Some(rest);
     }
-    constant_front(kind, text)
+    let (constant, rest) = constant_front(kind, text)?;
+    *value = constant;
+    Some(rest)
 }
 
 /// What follows a comma, with a space behind it or not.
@@ -356,43 +387,38 @@ fn behind_comma(text: &[u8]) -> Option<&[u8]>
     }
 }
 
-/// Adds the values of arguments of these kinds to others, up to the closing parenthesis. Gives what follows that.
+/// Sets the values of arguments of these kinds, up to the closing parenthesis. Gives what follows that.
+#[inline(always)]
 fn arguments_front<'a>(
     names: &Names,
     kinds: &[ArgumentKind],
     text: &'a [u8],
-    values: &mut ArrayVec<Value, MOST_ARGUMENTS>,
+    values: &mut [Value; MOST_ARGUMENTS],
 ) -> Option<&'a [u8]>
-    requires { length values.old.items + length kinds.now ≤ MOST_ARGUMENTS }
-    ensures { IfSome result (λ rest. IsClosedBehind names.now kinds.now values.old.items values.new.items text.now rest.now) }
+    requires { length kinds.now ≤ MOST_ARGUMENTS }
+    ensures { IfSome result (λ rest. IsClosed names.now kinds.now (take (length kinds.now) values.new) text.now rest.now) }
 {
-    let [kind, others @ ..] = kinds else {
-        return after_byte(b')', text);
-    };
-    let (value, rest) = value_front(names, *kind, text)?;
-    values.push(value);
-    if others.is_empty() {
-        return after_byte(b')', rest);
+    let count = kinds.len();
+    let mut rest = text;
+    for index in 0..count {
+        let more = value_front(names, kinds[index], rest, &mut values[index])?;
+        if index + 1 == count {
+            return after_byte(b')', more);
+        }
+        rest = behind_comma(more)?;
     }
-    arguments_front(names, others, behind_comma(rest)?, values)
+    after_byte(b')', rest)
 }
 
 /// The call of this name with the arguments in the text behind the opening parenthesis, and what follows the closing one.
 #[inline(always)]
-fn call_closed<'a>(
-    names: &Names,
-    call: Call,
-    kinds: &[ArgumentKind],
-    text: &'a [u8],
-) -> Option<(Call, &'a [u8])>
-    requires kinds { kinds.now ≡ kinds_of call }
-    requires few { length kinds.now ≤ MOST_ARGUMENTS }
-    ensures { IfSome result (λ found. IsMade names.now call text.now found.0 found.1.now) }
+fn call_closed<'a>(names: &Names, known: &KnownCall, text: &'a [u8]) -> Option<(Call, &'a [u8])>
+    requires { IsKnown known.now }
+    ensures { IfSome result (λ found. IsMade names.now known.now.call text.now found.0 found.1.now) }
 {
-    let mut values = ArrayVec::new();
-    let end = arguments_front(names, kinds, text, &mut values)?;
-    let made = with_values_of(call, kinds, values.as_slice())?;
-    Some((made, end))
+    let mut values = [Value::Number(0); MOST_ARGUMENTS];
+    let end = arguments_front(names, known.form.kinds, text, &mut values)?;
+    Some((with_known_values(known.call, &values), end))
 }
 
 /// The call that the text begins with, and what follows it. `None` says nothing.
@@ -400,14 +426,13 @@ fn call_closed<'a>(
 pub fn quick_call<'a>(names: &Names, text: &'a [u8]) -> Option<(Call, &'a [u8])>
     ensures { IfSome result (λ found. IsFront (SpellsCall names.now) text.now found.0 found.1.now) }
 {
-    let call = names.likely_call(word_key(text));
-    let form = form(call);
-    if form.bare {
-        return None;
+    let known = names.likely_call(word_key(text))?;
+    let rest = behind_all(known.form.text, text)?;
+    if known.form.bare {
+        return Some((known.call, rest));
     }
-    let rest = behind_all(form.text, text)?;
     let inner = after_byte(b'(', rest)?;
-    let (made, end) = call_closed(names, call, form.kinds, inner)?;
+    let (made, end) = call_closed(names, known, inner)?;
     Some((made, end))
 }
 
@@ -424,28 +449,34 @@ fn processor_at(names: &Names, number: u32) -> Option<Proc>
     }
 }
 
-/// What happens on the processor, where the text begins with that.
+/// What happens on the processor, where the text begins with that. Gives what follows it.
 #[inline(always)]
-fn happening_front<'a>(names: &Names, processor: Proc, text: &'a [u8]) -> Option<(Event, &'a [u8])>
-    ensures { IfSome result (λ found. IsFront (Happens names.now processor) text.now found.0 found.1.now) }
+fn happening_front<'a>(
+    names: &Names,
+    processor: Proc,
+    text: &'a [u8],
+    event: &mut Event,
+) -> Option<&'a [u8]>
+    ensures { IfSome result (λ rest. IsFront (Happens names.now processor) text.now event.new rest.now) }
 {
     if let Some(rest) = behind_all(b"tick".as_slice(), text) {
-        return Some((Event::Tick(processor), rest));
+        *event = Event::Tick(processor);
+        return Some(rest);
     }
-    if let Some(rest) = behind_all(b"ipi".as_slice(), text) {
-        return Some((Event::Ipi(processor), rest));
+    if let Some((call, rest)) = quick_call(names, text) {
+        *event = Event::Call(processor, call);
+        return Some(rest);
     }
-    if let Some(rest) = behind_all(b"ret_hdr".as_slice(), text) {
-        return Some((Event::Call(processor, Call::RetHdr), rest));
-    }
-    let (call, rest) = quick_call(names, text)?;
-    Some((Event::Call(processor, call), rest))
+    let rest = behind_all(b"ipi".as_slice(), text)?;
+    *event = Event::Ipi(processor);
+    Some(rest)
 }
 
-/// The event that the text begins with, with the blanks around it, and what follows. `None` says nothing.
+/// The event that the text begins with, with the blanks around it, is written into one that is there. Gives what follows. `None` says
+/// nothing of the text, and then nothing is said of the event.
 #[inline(always)]
-pub fn quick_event<'a>(names: &Names, text: &'a [u8]) -> Option<(Event, &'a [u8])>
-    ensures { IfSome result (λ found. IsFront (SpellsEvent names.now) text.now found.0 found.1.now) }
+pub fn quick_event<'a>(names: &Names, text: &'a [u8], event: &mut Event) -> Option<&'a [u8]>
+    ensures { IfSome result (λ rest. IsFront (SpellsEvent names.now) text.now event.new rest.now) }
 {
     let start = behind_blanks(text);
     let first = after_byte(b'P', start)?;
@@ -453,6 +484,6 @@ pub fn quick_event<'a>(names: &Names, text: &'a [u8]) -> Option<(Event, &'a [u8]
     let third = behind_blank(second)?;
     let behind = behind_blanks(third);
     let processor = processor_at(names, number)?;
-    let (event, end) = happening_front(names, processor, behind)?;
-    Some((event, behind_end_blanks(end)))
+    let end = happening_front(names, processor, behind, event)?;
+    Some(behind_end_blanks(end))
 }

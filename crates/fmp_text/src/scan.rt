@@ -1,12 +1,12 @@
 //! Finding the next line of an event text that says something.
-ghost use Rattle.std.specs.Prelude.{◌≡◌, ◌≢◌, ◌<◌, ◌≤◌, ◌+◌, ◌^◌, length, drop, Ok, None, IfSome};
+ghost use Rattle.std.specs.Prelude.{◌≡◌, ◌≢◌, ◌<◌, ◌≤◌, ◌+◌, ◌-◌, ◌^◌, length, drop, Ok, Some, None, IfSome};
 ghost use Rattle.fmp_text.specs.Events.{ScansTo, HasNoFeed, IsFirstLine};
 ghost use Rattle.fmp_text.specs.Fronts.{IsBehindEnd};
 
 use crate::fault::TextKind;
 use crate::line::line_event;
 use crate::quick::{after_byte, quick_event};
-use fmp_codes::Event;
+use fmp_codes::{Event, Proc};
 use fmp_names::Names;
 use memchr::memchr;
 
@@ -36,18 +36,15 @@ fn behind_end(text: &[u8]) -> Option<&[u8]>
     }
 }
 
-/// The first line, where it is whole and an event of the common form.
+/// The first line, where it is whole and an event of the common form, which is written into one that is there. Gives what follows the
+/// line. `None` says nothing of the bytes, and then nothing is said of the event.
 #[inline(always)]
-fn quick_line(names: &Names, bytes: &[u8]) -> Option<SaidLine>
-    ensures { IfSome result (λ line. IsFirstLine names.now bytes.now line.said line.length) }
+pub fn quick_line<'a>(names: &Names, bytes: &'a [u8], event: &mut Event) -> Option<&'a [u8]>
+    ensures { IfSome result (λ rest. IsFirstLine names.now bytes.now (Ok (Some event.new)) (length bytes.now - length rest.now)) }
 {
     names.validity();
-    let (event, rest) = quick_event(names, bytes)?;
-    let behind = behind_end(rest)?;
-    Some(SaidLine {
-        said: Ok(Some(event)),
-        length: bytes.len() - behind.len(),
-    })
+    let rest = quick_event(names, bytes, event)?;
+    behind_end(rest)
 }
 
 /// The first line, where it is whole.
@@ -56,9 +53,12 @@ fn first_line(names: &Names, bytes: &[u8]) -> Option<SaidLine>
     ensures says { IfSome result (λ line. IsFirstLine names.now bytes.now line.said line.length) }
     ensures none { result ≡ None → HasNoFeed bytes.now }
 {
-    let quick = quick_line(names, bytes);
-    if quick.is_some() {
-        return quick;
+    let mut event = Event::Tick(Proc::new(1));
+    if let Some(rest) = quick_line(names, bytes, &mut event) {
+        return Some(SaidLine {
+            said: Ok(Some(event)),
+            length: bytes.len() - rest.len(),
+        });
     }
     let end = memchr(b'\n', bytes)?;
     Some(SaidLine {

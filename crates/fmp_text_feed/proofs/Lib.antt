@@ -4,3 +4,4 @@ pub mod Fitting  -- What holds of the event of every line holds of every event t
 pub mod Searched  -- A search for a line feed that begins behind bytes that hold none.
 pub mod Short  -- A feed of short lines holds few bytes where it wants a further piece.
 pub mod Told  -- No fault that the bytes of a text have is want of memory.
+pub mod Quick  -- The first line, taken off a feed where it is an event.

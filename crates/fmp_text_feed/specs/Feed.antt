@@ -1,5 +1,6 @@
 -- Feeds: an event text that comes in pieces, and what is ahead of it.
-use Rattle.std.specs.Prelude.{◌≡◌, ◌≤◌, ℕ, ◌+◌, ◌-◌, ◌&&◌, ◌||◌, not, if◌then◌else◌, nat_lt, min, Bool, true, false, List, [], ◌∷◌, ◌++◌, length, take, drop, Option, Some, None, Result, Ok, Err}
+use Rattle.std.specs.Prelude.{◌≡◌, ◌≤◌, ℕ, ◌+◌, ◌-◌, ◌&&◌, ◌||◌, not, if◌then◌else◌, nat_lt, min, Bool, true, false, List, [], ◌∷◌, ◌++◌, length, take, drop, Option}
+use Rattle.std.specs.Prelude.{Some, None, Result, Ok, Err}
 use Rattle.fmp_codes.specs.declared.records.Event.{Event}
 use Rattle.fmp_names.specs.Names.{NameLists}
 use Rattle.fmp_text.specs.declared.fault.TextFault.{TextFault}
@@ -30,7 +31,11 @@ first_room = 131072
 
 -- a piece stands behind the rest, up to the limit
 abbrev pub pushed : Feed → List ℕ → Feed
-pushed f piece = record f { rest = f.rest ++ take (most_bytes - f.taken) piece; taken = min most_bytes (f.taken + length piece); dropped = f.dropped || nat_lt most_bytes (f.taken + length piece) }
+pushed f piece = record f {
+  rest = f.rest ++ take (most_bytes - f.taken) piece;
+  taken = min most_bytes (f.taken + length piece);
+  dropped = f.dropped || nat_lt most_bytes (f.taken + length piece);
+}
 
 -- the text has ended
 abbrev pub closed : Feed → Feed
@@ -80,7 +85,8 @@ pub record IsEndOf (all rest : List ℕ) : Type 0 where
 
 -- the whole lines that are skipped, and the next one that is not, are taken off, and that one says this
 pub record TakesOff (names : NameLists) (old : Feed) (said : Result (Option Event) TextKind) (new : Feed) : Type 0 where
-  pub ahead : (more : List ℕ) → ahead names old more ≡ after_line new.lines old.events said (ahead names new more) (ahead names (record new { events = old.events + 1 }) more)
+  pub ahead : (more : List ℕ) → ahead names old more ≡ after_line new.lines old.events said (ahead names new more)
+      (ahead names (record new { events = old.events + 1 }) more)
   pub whole : said ≡ Ok None → HasNoFeed new.rest
   pub end : IsEndOf old.rest new.rest
   pub others : new ≡ record old { rest = new.rest; lines = new.lines }
@@ -90,6 +96,12 @@ abbrev pub Gives : NameLists → Feed → Result (Option Event) TextFault → Fe
 Gives names old (Ok (Some event)) new = (more : List ℕ) → ahead names old more ≡ with_events (event ∷ []) (ahead names new more)
 Gives names old (Ok None) new = (more : List ℕ) → ahead names old more ≡ ahead names new more
 Gives names old (Err fault) new = ((more : List ℕ) → ahead names old more ≡ only fault) × (new ≡ failed new fault)
+
+-- what is answered where an event is written into one that is there, by whether there is one
+abbrev pub answered : Result Bool TextFault → Event → Result (Option Event) TextFault
+answered (Ok true) event = Ok (Some event)
+answered (Ok false) event = Ok None
+answered (Err fault) event = Err fault
 
 -- nothing is left of the text, neither an event nor a fault
 abbrev pub IsDone : NameLists → Feed → Type 0

@@ -1,14 +1,16 @@
 //! Feeds of event texts.
-ghost use Rattle.std.specs.Prelude.{◌≡◌, ◌+◌, ◌-◌, ◌*◌, ◌<◌, ◌≤◌, Ok, Err, Some, None, true, false, is_some, if◌then◌else◌, length, drop, vec_len, vec_capacity, IfOk, IfErr, IfSome, OnOk, OnErr};
+ghost use Rattle.std.specs.Prelude.{◌≡◌, ◌+◌, ◌-◌, ◌*◌, ◌<◌, ◌≤◌, Ok, Err, Some, None, true, false, is_some, if◌then◌else◌, length, drop, vec_len, vec_capacity, IfOk};
+ghost use Rattle.std.specs.Prelude.{IfErr, IfSome, OnOk, OnErr};
 ghost use Rattle.fmp_calls.specs.Arguments.{EventInBits};
 ghost use Rattle.fmp_codes.specs.Records.{processor_of};
 ghost use Rattle.fmp_text.specs.Limits.{most_bytes, most_events};
-ghost use Rattle.fmp_text_feed.specs.Feed.{TakesOff, Gives, IsDone, IsEndOf, IsWanting, closed, failed, first_room, new_feed, pushed, rest_fault, too_many, want_of_memory};
+ghost use Rattle.fmp_text_feed.specs.Feed.{TakesOff, Gives, IsDone, IsEndOf, IsWanting, answered, closed, failed, first_room, new_feed, pushed, rest_fault, too_many};
+ghost use Rattle.fmp_text_feed.specs.Feed.{want_of_memory};
 
 use crate::scan::next_said;
 use fmp_codes::Event;
 use fmp_names::Names;
-use fmp_text::{MOST_BYTES, MOST_EVENTS, TextFault, TextKind, is_skipped};
+use fmp_text::{MOST_BYTES, MOST_EVENTS, TextFault, TextKind, is_skipped, quick_line};
 use std::alloc::{AllocError, Global};
 use std::marker::Model;
 
@@ -37,9 +39,18 @@ impl Model for EventFeed {
 
     ghost Value = { Feed };
 
-    ghost view = { λ f. record { rest = drop f.start f.bytes.items; lines = f.lines; events = f.events; taken = f.taken; dropped = f.has_dropped; ended = f.has_ended; fault = f.fault } };
+    ghost view = { λ f. record {
+      rest = drop f.start f.bytes.items;
+      lines = f.lines;
+      events = f.events;
+      taken = f.taken;
+      dropped = f.has_dropped;
+      ended = f.has_ended;
+      fault = f.fault;
+    } };
 
-    ghost invariant = { λ f. IsFeed (vec_len f.bytes - f.start) f.lines f.events f.taken f.has_dropped × IsSearched f.bytes.items f.start f.searched × (first_room ≤ vec_capacity f.bytes) };
+    ghost invariant = { λ f. IsFeed (vec_len f.bytes - f.start) f.lines f.events f.taken f.has_dropped × IsSearched f.bytes.items f.start f.searched
+        × (first_room ≤ vec_capacity f.bytes) };
 }
 
 /// Moves the rest from `start` on to the beginning of the room, where at least as many bytes were read: so each byte that was read
@@ -222,6 +233,62 @@ impl EventFeed {
                 Some(fault) => Err(self.fail(fault)),
                 None => Ok(None),
             },
+        }
+    }
+
+    /// Takes the next line off the front, where it is whole and an event of the common form, which is written into one that is there.
+    /// Otherwise nothing changes but what stands in the event.
+    #[inline(always)]
+    fn take_quick(&mut self, names: &Names, event: &mut Event) -> bool
+        ensures kept { result ≡ false → self.new ≡ self.old }
+        ensures fine { result ≡ true → self.old.fault ≡ None }
+        ensures gives { result ≡ true → Gives names.now self.old (Ok (Some event.new)) self.new }
+        ensures takes { result ≡ true → IsEndOf self.old.rest self.new.rest
+            × (self.new ≡ record self.old { rest = self.new.rest; lines = self.new.lines; events = self.old.events + 1 }) }
+        ensures few { self.new.events ≤ most_events }
+        ensures on { result ≡ true → (processor_of event.new).number ≤ names.now.processors }
+        ensures in_bits { result ≡ true → EventInBits event.new }
+    {
+        names.validity();
+        if self.searched != 0 || self.events == MOST_EVENTS || self.fault.is_some() {
+            return false;
+        }
+        let bytes = &self.bytes[self.start..];
+        let Some(rest) = quick_line(names, bytes, event) else {
+            return false;
+        };
+        self.start += bytes.len() - rest.len();
+        self.lines += 1;
+        self.events += 1;
+        true
+    }
+
+    /// As [`EventFeed::next`], where the event is written into one that is there: whether there is one. Where there is none, or a
+    /// fault, nothing is said of what stands in it.
+    #[inline(always)]
+    pub fn next_into(&mut self, names: &Names, event: &mut Event) -> Result<bool, TextFault>
+        ensures gives { Gives names.now self.old (answered result event.new) self.new }
+        ensures wanting { result ≡ Ok false → IsWanting self.new }
+        ensures done { result ≡ Ok false → self.old.ended ≡ true → IsDone names.now self.new }
+        ensures stays { IfSome self.old.fault (λ fault. (result ≡ Err fault) × (self.new ≡ self.old)) }
+        ensures same { (self.new.ended ≡ self.old.ended) × (self.new.taken ≡ self.old.taken) × (self.new.dropped ≡ self.old.dropped) }
+        ensures counts { IfOk result (λ there. self.new.events ≡ self.old.events + (if there then 1 else 0)) }
+        ensures few { self.new.events ≤ most_events }
+        // Bytes are only taken off the front.
+        ensures rest { OnOk result (IsEndOf self.old.rest self.new.rest) }
+        // The event is on a processor of the names, and its arguments are within the bits of their kinds.
+        ensures on { result ≡ Ok true → (processor_of event.new).number ≤ names.now.processors }
+        ensures in_bits { result ≡ Ok true → EventInBits event.new }
+    {
+        if self.take_quick(names, event) {
+            return Ok(true);
+        }
+        match self.next(names)? {
+            Some(found) => {
+                *event = found;
+                Ok(true)
+            }
+            None => Ok(false),
         }
     }
 }

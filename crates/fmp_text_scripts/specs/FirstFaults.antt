@@ -82,7 +82,8 @@ pub record FaultInLine (names : NameLists) (text : List ℕ) (fault : TextFault)
   pub faultless : HaveNoFault names before
   pub never : (more : List ℕ) (scripts : List Steps) → SpellsScripts names (lines_text before ++ (line ++ (line_feed ∷ more))) scripts → ⊥
   pub kind : (done : List Steps) × (unclosed : Option Open) × Say names before done unclosed × ScriptFault names done unclosed line fault.kind
-  pub told : (more : List ℕ) → length (lines_text before ++ (line ++ (line_feed ∷ more))) ≤ most_bytes → scripts_in names (lines_text before ++ (line ++ (line_feed ∷ more))) ≡ Err fault
+  pub told : (more : List ℕ) → length (lines_text before ++ (line ++ (line_feed ∷ more))) ≤ most_bytes
+      → scripts_in names (lines_text before ++ (line ++ (line_feed ∷ more))) ≡ Err fault
 
 -- the lines leave a script open that begins in line n: those before it spell scripts, and none behind it is an `end`
 pub record AreOpen (names : NameLists) (lines : List (List ℕ)) (n : ℕ) : Type 0 where

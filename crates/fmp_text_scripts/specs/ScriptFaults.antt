@@ -74,7 +74,8 @@ TurnFault word rest None fault =
 TurnFault word rest (Some text) fault =
     ((fault ≡ WrongArguments) × (is_identifier word ≡ false))
     ⊎ ((is_identifier word ≡ true) × (((fault ≡ UnknownName) × IsNoCode word)
-    ⊎ ((c : Code) × (code.name_of c ≡ word) × (ValueFault (prefix Argument text) fault ⊎ ((v : ℤ) × SpellsData (prefix Argument text) v × GoalFault (after Argument text) fault)))))
+    ⊎ ((c : Code) × (code.name_of c ≡ word)
+    × (ValueFault (prefix Argument text) fault ⊎ ((v : ℤ) × SpellsData (prefix Argument text) v × GoalFault (after Argument text) fault)))))
 
 -- a label: its name is no identifier, or more than blanks follow its colon; another label of the script has the name; one label more than a script may have
 abbrev pub LabelFault : Open → List ℕ → List ℕ → TextKind → Type 0

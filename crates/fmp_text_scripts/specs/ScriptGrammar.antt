@@ -62,7 +62,8 @@ SpellsAnswer token pattern.Any = ⊥
 SpellsAnswer token pattern.Refused = token ≡ codes "refused"
 SpellsAnswer token (pattern.Coded c) = token ≡ code.name_of c
 SpellsAnswer token (pattern.Valued c v) =
-    (number : List ℕ) × (negative : Bool) × (magnitude : ℕ) × SpellsNumber number negative magnitude × (signed_of (2 ^ 63) negative magnitude ≡ Some v) × (token ≡ code.name_of c ++ (colon ∷ number))
+    (number : List ℕ) × (negative : Bool) × (magnitude : ℕ) × SpellsNumber number negative magnitude × (signed_of (2 ^ 63) negative magnitude ≡ Some v)
+    × (token ≡ code.name_of c ++ (colon ∷ number))
 
 -- blanks, `on`, blanks, an answer, and blanks before `goto` and a name
 pub record SpellsOn (text : List ℕ) (answer : Pattern) (name : List ℕ) : Type 0 where
@@ -102,11 +103,13 @@ SpellsLines names (last ∷ []) None sources = IsRest last × (sources ≡ [])
 SpellsLines names (last ∷ []) (Some parts) sources = ⊥
 SpellsLines names (line ∷ next ∷ lines) None sources =
     (SpellsNothing line × SpellsLines names (next ∷ lines) None sources)
-    ⊎ ((s : Source) × (others : List Source) × IsLine (λ text. SpellsHead names text s.function) line × (sources ≡ s ∷ others) × SpellsLines names (next ∷ lines) (Some s.parts) others)
+    ⊎ ((s : Source) × (others : List Source) × IsLine (λ text. SpellsHead names text s.function) line × (sources ≡ s ∷ others)
+    × SpellsLines names (next ∷ lines) (Some s.parts) others)
 SpellsLines names (line ∷ next ∷ lines) (Some parts) sources =
     (SpellsNothing line × SpellsLines names (next ∷ lines) (Some parts) sources)
     ⊎ ((IsLine SpellsEnd line × (parts ≡ []) × SpellsLines names (next ∷ lines) None sources)
-    ⊎ ((part : Part) × (others : List Part) × IsLine (λ text. SpellsPart names text part) line × (parts ≡ part ∷ others) × SpellsLines names (next ∷ lines) (Some others) sources))
+    ⊎ ((part : Part) × (others : List Part) × IsLine (λ text. SpellsPart names text part) line × (parts ≡ part ∷ others)
+    × SpellsLines names (next ∷ lines) (Some others) sources))
 
 -- a whole text: lines with line feeds between them, within the limits, and no function with two scripts
 pub record SpellsScripts (names : NameLists) (text : List ℕ) (scripts : List Steps) : Type 0 where

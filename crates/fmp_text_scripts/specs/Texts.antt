@@ -1,5 +1,6 @@
 -- Reading a script text, up to its first fault.
-use Rattle.std.specs.Prelude.{◌≡◌, ◌⊎◌, ℕ, ◌+◌, ◌==◌, nat_lt, Bool, true, false, not, List, [], ◌∷◌, ◌++◌, length, Option, Some, None, is_some, Result, Ok, Err, if◌then◌else◌}
+use Rattle.std.specs.Prelude.{◌≡◌, ◌⊎◌, ℕ, ◌+◌, ◌==◌, nat_lt, Bool, true, false, not, List, [], ◌∷◌, ◌++◌, length, Option, Some, None, is_some, Result, Ok, Err}
+use Rattle.std.specs.Prelude.{if◌then◌else◌}
 use Rattle.std.specs.List.{list_any}
 use Rattle.fmp_bytes.specs.Bytes.{line_feed}
 use Rattle.fmp_bytes.specs.Results.{◌>>=◌}
@@ -62,7 +63,12 @@ jumped r answer name None = Ok r
 jumped r answer name (Some o) =
     if o.behind
     then (if nat_lt (length o.jumps) most_ways
-    then Ok (record r { unclosed = Some (record o { jumps = o.jumps ++ record { after = length o.steps; answer = answer; name = name } ∷ []; behind = not (is_any answer) }) })
+    then Ok (record r {
+      unclosed = Some (record o {
+        jumps = o.jumps ++ record { after = length o.steps; answer = answer; name = name } ∷ [];
+        behind = not (is_any answer);
+      });
+    })
     else Err TooMany)
     else Err BadWord
 

@@ -28,7 +28,8 @@ pub fn texts_spell_one_list_of_scripts()
 {}
 
 /// A fault stands in its line: the whole lines before it have none, and a text that is the same up to the end of that line has the same fault, whatever
-/// follows, of the kind that the table of faults has for that line. Mend line n, and the next fault is in line n or behind, or the text is cut short. A text is cut short in its last line, or where a script is
+/// follows, of the kind that the table of faults has for that line. Mend line n, and the next fault is in line n or behind, or the text is cut short.
+/// A text is cut short in its last line, or where a script is
 /// open at its end in the line in which that script begins.
 pub fn faults_stand_in_their_line()
     ensures { (names : NameLists) (text : List ℕ) (fault : TextFault) → AreValid names

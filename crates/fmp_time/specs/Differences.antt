@@ -1,5 +1,6 @@
 -- Difference lists: items in ascending ticks left, of which each stores what it adds to the sum of those before it.
-use Rattle.std.specs.Prelude.{◌≡◌, ℕ, ◌+◌, ◌-◌, ◌^◌, ◌<◌, ◌≤◌, ◌==◌, Bool, not, nat_eq, nat_lt, Option, Some, None, List, [], ◌∷◌, length, map, filter, slice_index, slice_index_or, if◌then◌else◌}
+use Rattle.std.specs.Prelude.{◌≡◌, ℕ, ◌+◌, ◌-◌, ◌^◌, ◌<◌, ◌≤◌, ◌==◌, Bool, not, nat_eq, nat_lt, Option, Some, None, List, [], ◌∷◌, length, map, filter, slice_index}
+use Rattle.std.specs.Prelude.{slice_index_or, if◌then◌else◌}
 use Rattle.std.specs.List.{list_any}
 use Rattle.arrayvec.specs.ArrayVec.{ArrayVec}
 use Rattle.fmp_kernel_links.specs.Lists as links

@@ -1,5 +1,6 @@
 -- What the timers show, and how it changes: where each item counts and how many ticks it has left, and the order of the waits.
-use Rattle.std.specs.Prelude.{◌≡◌, ℕ, ◌+◌, ◌-◌, ◌≤◌, ◌==◌, ◌&&◌, Bool, false, not, nat_lt, is_some, Option, Some, None, List, [], ◌∷◌, ◌++◌, filter, map, replicate, slice_index_or, slice_set, if◌then◌else◌}
+use Rattle.std.specs.Prelude.{◌≡◌, ℕ, ◌+◌, ◌-◌, ◌≤◌, ◌==◌, ◌&&◌, Bool, false, not, nat_lt, is_some, Option, Some, None, List, [], ◌∷◌, ◌++◌, filter, map, replicate}
+use Rattle.std.specs.Prelude.{slice_index_or, slice_set, if◌then◌else◌}
 use Rattle.std.specs.List.{range_with_len}
 use Rattle.fmp_codes.specs.Numbers.{as_task, as_object}
 use Rattle.fmp_codes.specs.declared.numbers.Proc.{Proc}

@@ -3,7 +3,8 @@
 ghost use Rattle.std.specs.Prelude.{◌≡◌, ℕ, ◌^◌, ◌<◌, ◌≤◌, ◌||◌, false, true, is_some, Some, [], length, replicate, slice_index, slice_index_or, slice_set, IsTrue};
 ghost use Rattle.std.specs.Option.{option_map};
 ghost use Rattle.fmp_kernel_links.specs.Lists as lists;
-ghost use Rattle.fmp_time.specs.Differences.{entries_at, has_entry, sorted_in, take_out, ticks_in, least_of, lowered, due, not_due, entries_from, sum_of, spot_in, rest_in, first_adding, zeros_of, rest_of, items_of, items_given, IsLeastIn};
+ghost use Rattle.fmp_time.specs.Differences.{entries_at, has_entry, sorted_in, take_out, ticks_in, least_of, lowered, due, not_due, entries_from, sum_of, spot_in};
+ghost use Rattle.fmp_time.specs.Differences.{rest_in, first_adding, zeros_of, rest_of, items_of, items_given, IsLeastIn};
 ghost use Rattle.fmp_time.specs.Left.{left_in, left_by, ticks_of, is_over, AreDisjoint};
 
 use arrayvec::ArrayVec;
@@ -264,7 +265,8 @@ fn adding(links: &Links<136, 128>, more: &[u64; 128], list: usize) -> Option<usi
 fn mark_zeros(links: &Links<136, 128>, more: &[u64; 128], list: usize, marks: &mut [bool; 128])
     requires { list < 8 }
     ensures disjoint { lists.AreDisjoint 128 links.now }
-    ensures marks { (k : ℕ) → k < 128 → slice_index_or marks.new k false ≡ (slice_index_or marks.old k false || lists.has k (zeros_of (slice_index more.now) (lists.list_at links.now list))) }
+    ensures marks { (k : ℕ) → k < 128
+        → slice_index_or marks.new k false ≡ (slice_index_or marks.old k false || lists.has k (zeros_of (slice_index more.now) (lists.list_at links.now list))) }
 {
     let mut here = links.first(list);
     for _ in 0..128usize {

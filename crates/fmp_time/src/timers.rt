@@ -4,7 +4,8 @@ ghost use Rattle.std.specs.Prelude.{◌≡◌, None, [], false, true, filter, is
 ghost use Rattle.std.specs.Option.{option_map};
 ghost use Rattle.fmp_time.specs.declared.item.Item.{Item as AnyItem};
 ghost use Rattle.fmp_time.specs.Left.{is_over, ticks_of};
-ghost use Rattle.fmp_time.specs.Times.{wait_of, alarm_of, cyclic_of, all_objects, left_of, armed, cancelled, moved_to, renewed, lowered, ticked, served, began, ended, IsLeastOn, AreWaits, no_times};
+ghost use Rattle.fmp_time.specs.Times.{wait_of, alarm_of, cyclic_of, all_objects, left_of, armed, cancelled, moved_to, renewed, lowered, ticked, served, began, ended};
+ghost use Rattle.fmp_time.specs.Times.{IsLeastOn, AreWaits, no_times};
 
 use crate::differences::Differences;
 use crate::item::Item;
@@ -44,7 +45,7 @@ impl Timers {
         }
     }
 
-    /// An item counts on a processor from now on, with so many ticks left. If it is a wait, it is the last that began.
+    /// An item counts on a processor from now on, with so many ticks left. If it is a wait, it is the last that began. In TOPPERS/FMP: tmevtb_enqueue.
     pub fn arm(&mut self, processor: Proc, item: Item, ticks: u64)
         ensures { self.new ≡ armed self.old processor item ticks }
     {
@@ -54,7 +55,7 @@ impl Timers {
         begin(&mut self.waits, item);
     }
 
-    /// An item counts no more, if it did, and is not served.
+    /// An item counts no more, if it did, and is not served. In TOPPERS/FMP: tmevtb_dequeue.
     pub fn cancel(&mut self, item: Item)
         ensures { self.new ≡ cancelled self.old item }
     {

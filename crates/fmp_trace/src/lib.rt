@@ -11,7 +11,6 @@
 //! than `most_line_bytes`, as the law [`lines_are_short`] says. So a vector that has that room is enough for every line.
 #![tactic(auto)]
 
-mod count;
 mod guess;
 mod heads;
 mod laws;
@@ -19,12 +18,11 @@ mod lines;
 mod reading;
 mod values;
 
-pub use count::Count;
 pub use guess::{guess_event, guess_runner};
 pub use heads::event_of;
 pub use laws::{lines_are_short, texts_print_one_list};
 pub use lines::{
-    counted_line, put_answer, put_core, put_event, put_line, put_lost, put_releases, put_requests,
+    code_piece, put_answer, put_core, put_event, put_line, put_lost, put_releases, put_requests,
     put_run_change, put_runner, put_running, put_task, trace_line, trace_text,
 };
 pub use reading::{is_line, next_line, read_trace, validate_from};

@@ -5,7 +5,6 @@ ghost use Rattle.fmp_codes.specs.Codes.{name_of};
 ghost use Rattle.fmp_trace.specs.Behind.{behind_number};
 ghost use Rattle.fmp_trace.specs.Lines as spec;
 
-use crate::count::{Count, put_count};
 use crate::values::{put_call, put_named, put_number, put_piece, put_signed};
 use fmp_calls::ObjectKind;
 use fmp_codes::{Answer, Code, Event, Proc, Record, Release, Releases, Runner, Task};
@@ -61,7 +60,7 @@ pub fn put_runner(
 
 /// The name of a code with blanks behind it, and how many bytes the name has.
 #[inline(always)]
-fn code_piece(code: Code) -> (&'static [u8; 16], usize)
+pub fn code_piece(code: Code) -> (&'static [u8; 16], usize)
     ensures few { result.1 ≤ 16 }
     ensures text { take result.1 result.0.now ≡ name_of code }
     ensures bytes { result.1 ≡ length (name_of code) }
@@ -284,24 +283,6 @@ pub fn put_line(out: &mut Vec<u8>, names: &Names, n: u32, entry: &Record) -> Res
     Ok(())
 }
 
-/// Adds the line of this count with its line feed.
-#[tactic(auto, unfolding(crate::specs::Lines::line_text, crate::specs::Lines::core_text, crate::specs::Lines::head_text, crate::specs::Behind::behind_number))]
-fn put_counted(
-    out: &mut Vec<u8>,
-    names: &Names,
-    count: &Count,
-    entry: &Record,
-) -> Result<(), AllocError>
-    ensures ok { OnOk result (out.new.items ≡ out.old.items ++ spec.line_text names.now count.now entry.now) }
-    ensures full { OnErr result (vec_capacity out.old < length out.old.items + length (spec.line_text names.now count.now entry.now)) }
-    ensures room { vec_capacity out.old ≤ vec_capacity out.new }
-{
-    put_count(out, count)?;
-    put_behind_number(out, names, entry)?;
-    out.push(b'\n')?;
-    Ok(())
-}
-
 /// Replaces what the vector holds by line n, with its line feed. After an error it is empty. It fails only where the vector had
 /// less room than the line has bytes, and it never takes room away.
 pub fn trace_line(
@@ -317,26 +298,6 @@ pub fn trace_line(
 {
     line.clear();
     let made = put_line(line, names, n, entry);
-    if made.is_err() {
-        line.clear();
-    }
-    made
-}
-
-/// Replaces what the vector holds by the line of this count, as `trace_line` does by line n.
-pub fn counted_line(
-    count: &Count,
-    entry: &Record,
-    names: &Names,
-    line: &mut Vec<u8>,
-) -> Result<(), AllocError>
-    ensures ok { OnOk result (line.new.items ≡ spec.line_text names.now count.now entry.now) }
-    ensures err { OnErr result (line.new.items ≡ []) }
-    ensures full { OnErr result (vec_capacity line.old < length (spec.line_text names.now count.now entry.now)) }
-    ensures room { vec_capacity line.old ≤ vec_capacity line.new }
-{
-    line.clear();
-    let made = put_counted(line, names, count, entry);
     if made.is_err() {
         line.clear();
     }

@@ -53,7 +53,8 @@ pub fn check_watched<W: Watcher>(
     // What it says of the trace is what `check` says.
     ensures verdict { IfOk result (Judges config.now text.now) }
     ensures complete { (records : List AnyRecord) → PrintsWithin config.now.names text.now records → IfErr result IsMemory }
-    ensures own { (records : List AnyRecord) → PrintsWithin config.now.names text.now records → text.now ≡ own_text config.now records → GivesOrFails (λ v. v) result (Ok Verdict.Yes) }
+    ensures own { (records : List AnyRecord) → PrintsWithin config.now.names text.now records → text.now ≡ own_text config.now records
+        → GivesOrFails (λ v. v) result (Ok Verdict.Yes) }
     ensures answers { (events : List AnyEvent) → PrintsAnswers config.now text.now events → GivesOrFails (λ v. v) result (Ok Verdict.Yes) }
     ensures fault { IfErr result (λ fault. FirstFault config.now.names text.now fault ⊎ IsMemory fault) }
     // Of the machine's own trace it saw all events.
@@ -73,7 +74,8 @@ pub fn check(alloc: Global, config: &Config, text: &[u8]) -> Result<Verdict, Tex
     // A text that prints records has a verdict, unless memory ran out.
     ensures complete { (records : List AnyRecord) → PrintsWithin config.now.names text.now records → IfErr result IsMemory }
     // That of its own answers is yes.
-    ensures own { (records : List AnyRecord) → PrintsWithin config.now.names text.now records → text.now ≡ own_text config.now records → GivesOrFails (λ v. v) result (Ok Verdict.Yes) }
+    ensures own { (records : List AnyRecord) → PrintsWithin config.now.names text.now records → text.now ≡ own_text config.now records
+        → GivesOrFails (λ v. v) result (Ok Verdict.Yes) }
     // So is that of what the machine answers to any events, within the limits of texts.
     ensures answers { (events : List AnyEvent) → PrintsAnswers config.now text.now events → GivesOrFails (λ v. v) result (Ok Verdict.Yes) }
     // The fault is the first one, or want of memory.

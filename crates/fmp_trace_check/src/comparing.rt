@@ -92,7 +92,7 @@ fn put_hunks(
     let mut rest = text;
     while let Some((line, after)) = next_line(rest) {
         number += 1;
-        if !player.play(names, number, line)? {
+        if !player.play(names, number, line) {
             put_hunk(out, number, line, player.own.as_slice())?;
         }
         rest = after;
@@ -104,7 +104,9 @@ fn put_hunks(
 fn put_shown(out: &mut Vec<u8>, shown: Shown, names: &Names, stop: Stop) -> Result<(), AllocError>
     requires steps { stop.player.plain.steps ≤ stop.number }
     requires left { stop.number + length stop.rest.now ≤ most_bytes }
-    ensures { OnOk result (out.new.items ≡ out.old.items ++ spec.shown_from shown names.now (seen stop.entry.number stop.entry.line.now stop.entry.player.own.items stop.entry.player.plain.state (pieces_of 10 stop.entry.rest.now))) }
+    ensures { OnOk result (out.new.items ≡ out.old.items
+        ++ spec.shown_from shown names.now
+        (seen stop.entry.number stop.entry.line.now stop.entry.player.own stop.entry.player.plain.state (pieces_of 10 stop.entry.rest.now))) }
 {
     let Stop {
         mut player,

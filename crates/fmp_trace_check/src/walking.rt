@@ -1,5 +1,5 @@
 //! Going over a trace as long as its lines are the plain machine's own.
-ghost use Rattle.std.specs.Prelude.{◌≡◌, ◌≤◌, ◌<◌, ◌+◌, [], length, true, None, Some, IfOk, IfSome, OnOk, option_map};
+ghost use Rattle.std.specs.Prelude.{◌≡◌, ◌≤◌, ◌<◌, ◌+◌, [], length, true, None, Some, IfOk, IfSome, option_map};
 ghost use Rattle.fmp_bytes.specs.Bytes.{pieces_of};
 ghost use Rattle.fmp_rules.specs.Arrivals.{numbered};
 ghost use Rattle.fmp_rules.specs.Boot.{booted};
@@ -17,7 +17,8 @@ use fmp_codes::{Answer, Event, Proc, Record};
 use fmp_plain::Plain;
 use fmp_rules::Config;
 use fmp_text::{MOST_BYTES, MOST_EVENTS, Names, TextFault, TextKind};
-use fmp_trace::{event_of, next_line, put_core, validate_from};
+use fmp_trace::{event_of, next_line, validate_from};
+use fmp_trace_buffer::{LineBuffer, line_is_short};
 use std::alloc::{AllocError, Global};
 
 /// A plain machine that plays the events of lines.
@@ -27,7 +28,7 @@ pub(crate) struct Player {
     /// What it answered last.
     told: Record,
     /// Its own line, without its line feed, in the place of the line that was played last.
-    pub(crate) own: Vec<u8>,
+    pub(crate) own: LineBuffer,
 }
 
 impl Player {
@@ -39,27 +40,28 @@ impl Player {
         Ok(Player {
             plain: Plain::boot(config)?,
             told: Record::answer(Event::Tick(Proc::new(1)), None, Answer::Nothing),
-            own: Vec::new(alloc),
+            own: LineBuffer::new(alloc)?,
         })
     }
 
     /// Plays the event that line n tells, if it tells any. Says whether the line prints the answer.
-    pub(crate) fn play(&mut self, names: &Names, n: u32, line: &[u8]) -> Result<bool, AllocError>
+    pub(crate) fn play(&mut self, names: &Names, n: u32, line: &[u8]) -> bool
         requires { self.old.plain.steps < 4294967295 }
-        ensures same { IfOk result (λ same. same ≡ spec.prints_answer names.now self.old.plain.state n line.now (event_told names.now line.now)) }
-        ensures own { OnOk result (self.new.own.items ≡ spec.own_core names.now self.old.plain.state n (event_told names.now line.now)) }
-        ensures told { IfOk result (λ same. same ≡ true → event_told names.now line.now ≡ Some self.new.told.event) }
-        ensures answer { IfOk result (λ same. same ≡ true → self.new.told ≡ (step numbered self.old.plain.state self.new.told.event).1) }
+        ensures same { result ≡ spec.prints_answer names.now self.old.plain.state n line.now (event_told names.now line.now) }
+        ensures own { self.new.own ≡ spec.own_core names.now self.old.plain.state n (event_told names.now line.now) }
+        ensures told { result ≡ true → event_told names.now line.now ≡ Some self.new.told.event }
+        ensures answer { result ≡ true → self.new.told ≡ (step numbered self.old.plain.state self.new.told.event).1 }
         ensures state { self.new.plain.state ≡ spec.behind self.old.plain.state (event_told names.now line.now) }
         ensures steps { self.new.plain.steps ≤ self.old.plain.steps + 1 }
     {
         self.own.clear();
         match event_of(names, line) {
-            None => Ok(false),
+            None => false,
             Some(event) => {
                 self.plain.step_into(event, &mut self.told);
-                put_core(&mut self.own, names, n, &self.told)?;
-                Ok(is_same(self.own.as_slice(), line))
+                line_is_short(names, &self.told);
+                self.own.put_core(names, n, &self.told);
+                is_same(self.own.as_slice(), line)
             }
         }
     }
@@ -83,7 +85,8 @@ fn walk_within<'a, W: Watcher>(
 ) -> Result<Option<Stop<'a>>, TextFault>
     requires { length text.now ≤ most_bytes }
     ensures passes { Passes result (records_from config.now.names 1 (pieces_of 10 text.now)) }
-    ensures stop { IfOk result (λ stop. option_map (λ s. spec.seen s.number s.line.now s.player.own.items s.player.plain.state (pieces_of 10 s.rest.now)) stop ≡ spec.stop_in config.now text.now) }
+    ensures stop { IfOk result (λ stop. option_map (λ s. spec.seen s.number s.line.now s.player.own s.player.plain.state (pieces_of 10 s.rest.now)) stop
+        ≡ spec.stop_in config.now text.now) }
     ensures watched { IfOk result (λ stop. stop ≡ None → watcher.new ≡ watched_in W.watched config.now text.now watcher.old) }
     ensures steps { IfOk result (λ stop. IfSome stop (λ s. s.player.plain.steps ≤ s.number)) }
     ensures left { IfOk result (λ stop. IfSome stop (λ s. s.number + length s.rest.now ≤ most_bytes)) }
@@ -94,7 +97,7 @@ fn walk_within<'a, W: Watcher>(
     let mut number: u32 = 1;
     let mut rest = text;
     while let Some((line, after)) = next_line(rest) {
-        let own = player.play(names, number, line)?;
+        let own = player.play(names, number, line);
         if !own || number as usize > MOST_EVENTS {
             validate_from(alloc, rest, names, number)?;
             return Ok(Some(Stop {
@@ -122,7 +125,8 @@ pub(crate) fn walk<'a, W: Watcher>(
     watcher: &mut W,
 ) -> Result<Option<Stop<'a>>, TextFault>
     ensures passes { Passes result (records_in config.now.names text.now) }
-    ensures stop { IfOk result (λ stop. option_map (λ s. spec.seen s.number s.line.now s.player.own.items s.player.plain.state (pieces_of 10 s.rest.now)) stop ≡ spec.stop_in config.now text.now) }
+    ensures stop { IfOk result (λ stop. option_map (λ s. spec.seen s.number s.line.now s.player.own s.player.plain.state (pieces_of 10 s.rest.now)) stop
+        ≡ spec.stop_in config.now text.now) }
     ensures watched { IfOk result (λ stop. stop ≡ None → watcher.new ≡ watched_in W.watched config.now text.now watcher.old) }
     ensures steps { IfOk result (λ stop. IfSome stop (λ s. s.player.plain.steps ≤ s.number)) }
     ensures left { IfOk result (λ stop. IfSome stop (λ s. s.number + length s.rest.now ≤ most_bytes)) }

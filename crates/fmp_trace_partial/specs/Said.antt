@@ -21,7 +21,8 @@ opens text = is_some (behind open_parenthesis (after Word text))
 
 -- the text begins with an event: a call, or one of the three words that are events
 unfoldable pub begins_event : List ℕ → Bool
-begins_event text = opens text || (bytes_eq (prefix Word text) (codes "tick") || (bytes_eq (prefix Word text) (codes "ipi") || bytes_eq (prefix Word text) (codes "ret_hdr")))
+begins_event text = opens text ||
+    (bytes_eq (prefix Word text) (codes "tick") || (bytes_eq (prefix Word text) (codes "ipi") || bytes_eq (prefix Word text) (codes "ret_hdr")))
 
 -- what stands behind the processor begins with a runner: it is no call, and an event follows its first word
 unfoldable pub tells_runner : List ℕ → Bool
@@ -32,7 +33,14 @@ tells_runner text = not (opens text) && option_map_or begins_event (cut_at space
 -- what a line writes that says this record
 abbrev pub kept_of : Bool → Bool → Record → Kept
 kept_of number runner r =
-    record { number = number; runner = runner; releases = not (length r.releases == 0); lost = is_some r.lost; run_change = is_some r.run_change; requests = not (length r.requests == 0) }
+    record {
+      number = number;
+      runner = runner;
+      releases = not (length r.releases == 0);
+      lost = is_some r.lost;
+      run_change = is_some r.run_change;
+      requests = not (length r.requests == 0);
+    }
 
 unfoldable pub guess_from : NameLists → Bool → Proc → List ℕ → Option Record
 guess_from names runner p text = if runner then guess_runner names p text else guess_event names None p text

@@ -22,7 +22,7 @@ use fmp_kernel_parts::{Digest, Part};
 use fmp_rules::Order;
 use std::marker::Model;
 
-/// The waiters of one queue in their order. No task is there twice.
+/// The waiters of one queue in their order. No task is there twice. In TOPPERS/FMP: wait_queue of a WOBJCB.
 #[derive(Drop)]
 pub struct WaitQueue {
     order: Order,

@@ -1,5 +1,6 @@
 -- What the judge finds in the records of a history.
-use Rattle.std.specs.Prelude.{◌≡◌, ℕ, ◌+◌, ◌-◌, ◌<◌, ◌==◌, ◌↔◌, Bool, ◌&&◌, List, length, take, Option, Some, None, slice_get, slice_set, slice_index, slice_index_or, if◌then◌else◌, IsTrue}
+use Rattle.std.specs.Prelude.{◌≡◌, ℕ, ◌+◌, ◌-◌, ◌<◌, ◌==◌, ◌↔◌, Bool, ◌&&◌, List, length, take, Option, Some, None, slice_get, slice_set, slice_index, slice_index_or}
+use Rattle.std.specs.Prelude.{if◌then◌else◌, IsTrue}
 use Rattle.fmp_codes.specs.Records.{processor_of, is_taken, is_tick}
 use Rattle.fmp_codes.specs.declared.records.Event.{Event}
 use Rattle.fmp_codes.specs.declared.records.Event.TheVariants as event

@@ -1,5 +1,6 @@
 //! The judge of a run: what came back from those that took turns is compared with the history, once.
-ghost use Rattle.std.specs.Prelude.{◌≡◌, ◌+◌, ◌≤◌, ◌<◌, ◌^◌, ◌↔◌, ◌++◌, ◌∷◌, [], ℕ, List, length, map, IsTrue, IsSome, IfSome, Some, None, nat_lt, ◌&&◌, if◌then◌else◌, ◌⊎◌, slice_index};
+ghost use Rattle.std.specs.Prelude.{◌≡◌, ◌+◌, ◌≤◌, ◌<◌, ◌^◌, ◌↔◌, ◌++◌, ◌∷◌, [], ℕ, List, length, map, IsTrue, IsSome, IfSome, Some, None, nat_lt, ◌&&◌, if◌then◌else◌};
+ghost use Rattle.std.specs.Prelude.{◌⊎◌, slice_index};
 ghost use Rattle.fmp_codes.specs.declared.records.Record.{Record};
 ghost use Rattle.fmp_setup.specs.Setup.{has_time};
 ghost use Rattle.fmp_world.specs.Views.{Seat};
@@ -96,7 +97,8 @@ impl<'a> History<'a> {
     /// How the history ended, if no processor took too many ticks and it is whole.
     fn ended(&self, taken: &[u32; 8], ticks: u32) -> Option<Ended>
         requires { AreTaken taken.now self.now.records }
-        ensures whole { IsSome result ↔ (TicksWithin (self.now.config.processors) ticks self.now.records × (EndsQuiet self.now.config ticks self.now.records ⊎ (self.now.turns ≤ length self.now.records))) }
+        ensures whole { IsSome result ↔ (TicksWithin (self.now.config.processors) ticks self.now.records
+            × (EndsQuiet self.now.config ticks self.now.records ⊎ (self.now.turns ≤ length self.now.records))) }
         ensures quiet { IfSome result (λ e. (e ≡ Ended.Quiet) ↔ EndsQuiet self.now.config ticks self.now.records) }
     {
         let Some(all) = all_taken(taken, self.timer(), self.processors(), ticks) else {

@@ -545,13 +545,13 @@ fn refused<R: Files + Print + Eprint + AllocGlobal>(
 
 /// Tells that the word behind `--color` is none of those for it.
 fn uncoloured<R: Eprint>(rt: &R) -> Status {
-    let _ = eprintln!(rt; "fmpsim: --color: wanted auto, always or never");
+    let _ = eprintln!(rt; "fmpsim: --color: expected auto, always or never");
     Status::Usage
 }
 
 /// Tells that the word behind `--diagnostics` is none of those for it.
 fn unformed<R: Eprint>(rt: &R) -> Status {
-    let _ = eprintln!(rt; "fmpsim: --diagnostics: wanted plain or gcc, as in --diagnostics=gcc");
+    let _ = eprintln!(rt; "fmpsim: --diagnostics: expected plain or gcc, as in --diagnostics=gcc");
     Status::Usage
 }
 

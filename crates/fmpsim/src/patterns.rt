@@ -1,5 +1,5 @@
 //! The words of patterns, as a question has them.
-use fmp_search_question::{Item, Pattern};
+use fmp_search_pattern::{Item, Pattern};
 use std::alloc::{AllocError, Global};
 
 /// Puts what stands between two things, and nothing before the first.

@@ -135,13 +135,13 @@ impl Misfit {
     pub fn tell<R: Eprint>(self, rt: &R) -> Status {
         let _ = match self {
             Misfit::Seeds => eprintln!(rt;
-                "fmpsim: --seeds: wanted two numbers as in 0..999, the second not below the first, and no --seed"
+                "fmpsim: --seeds: expected two numbers as in 0..999, the second not below the first, and no --seed"
             ),
             Misfit::Question => eprintln!(rt;
-                "fmpsim: --find: wanted --seeds too, as in --seeds 0..999"
+                "fmpsim: --find: expected --seeds too, as in --seeds 0..999"
             ),
             Misfit::Option(option) => eprintln!(rt;
-                "fmpsim: {option}: wanted --seeds too, as in --seeds 0..999"
+                "fmpsim: {option}: expected --seeds too, as in --seeds 0..999"
             ),
         };
         Status::Usage

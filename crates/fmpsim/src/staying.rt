@@ -1,7 +1,7 @@
 //! What is told of something that stays for ever.
 use crate::patterns::{put_between, put_item};
 use fmp_run_forever::{Stayed, Staying};
-use fmp_search_question::Lasting;
+use fmp_search_pattern::Lasting;
 use std::alloc::{AllocError, Global};
 
 /// The words of what is to stay, as a question has them: those of its first moment, which has one part.

@@ -3,7 +3,8 @@ use crate::patterns::put_item;
 use crate::progress::ProgressLine;
 use fmp_cli_explore::{Bounds, ExploreRequest};
 use fmp_run_explore::{Finding, Layer, Outcome, Progress};
-use fmp_search_question::{Moment, Part, Question, Step, read_question};
+use fmp_search_pattern::{Moment, Part, Question, Step};
+use fmp_search_question::read_question;
 use std::alloc::{AllocError, Global};
 use std::rt::Clock;
 

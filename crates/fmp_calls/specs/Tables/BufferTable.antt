@@ -1,7 +1,8 @@
 -- The calls on data queues and pools.
 use Rattle.std.specs.Prelude.{[], ◌∷◌, codes}
 use Rattle.fmp_codes.specs.declared.calls.BufferCall.{BufferCall}
-use Rattle.fmp_codes.specs.declared.calls.BufferCall.TheVariants.{SndDtq, TsndDtq, PsndDtq, IpsndDtq, FsndDtq, IfsndDtq, RcvDtq, TrcvDtq, PrcvDtq, GetMpf, TgetMpf, PgetMpf, RelMpf}
+use Rattle.fmp_codes.specs.declared.calls.BufferCall.TheVariants.{SndDtq, TsndDtq, PsndDtq, IpsndDtq, FsndDtq, IfsndDtq, RcvDtq, TrcvDtq, PrcvDtq, GetMpf, TgetMpf}
+use Rattle.fmp_codes.specs.declared.calls.BufferCall.TheVariants.{PgetMpf, RelMpf}
 use Rattle.fmp_calls.specs.Entries.{Line, line}
 use Rattle.fmp_calls.specs.Kinds.{data_queue, pool}
 use Rattle.fmp_calls.specs.declared.kinds.ArgumentKind.TheVariants.{Data as «data», Timeout as timeout, Block as block}

@@ -1,7 +1,8 @@
 -- The calls on the processors and on the state of dispatching.
 use Rattle.std.specs.Prelude.{[], ◌∷◌, codes}
 use Rattle.fmp_codes.specs.declared.calls.SystemCall.{SystemCall}
-use Rattle.fmp_codes.specs.declared.calls.SystemCall.TheVariants.{RotRdq, IrotRdq, MrotRdq, ImrotRdq, GetTid, IgetTid, GetPid, IgetPid, LocCpu, IlocCpu, UnlCpu, IunlCpu, DisDsp, EnaDsp, SnsCtx, SnsLoc, SnsDsp, SnsDpn}
+use Rattle.fmp_codes.specs.declared.calls.SystemCall.TheVariants.{RotRdq, IrotRdq, MrotRdq, ImrotRdq, GetTid, IgetTid, GetPid, IgetPid, LocCpu, IlocCpu, UnlCpu, IunlCpu}
+use Rattle.fmp_codes.specs.declared.calls.SystemCall.TheVariants.{DisDsp, EnaDsp, SnsCtx, SnsLoc, SnsDsp, SnsDpn}
 use Rattle.fmp_calls.specs.Entries.{Line, line}
 use Rattle.fmp_calls.specs.declared.kinds.ArgumentKind.TheVariants.{Priority as priority, Processor as processor}
 

@@ -1,7 +1,8 @@
 -- The calls on tasks.
 use Rattle.std.specs.Prelude.{[], ◌∷◌, codes}
 use Rattle.fmp_codes.specs.declared.calls.TaskCall.{TaskCall}
-use Rattle.fmp_codes.specs.declared.calls.TaskCall.TheVariants.{ActTsk, IactTsk, MactTsk, ImactTsk, CanAct, MigTsk, ExtTsk, TerTsk, ChgPri, GetPri, SlpTsk, TslpTsk, WupTsk, IwupTsk, CanWup, RelWai, IrelWai, SusTsk, RsmTsk, DlyTsk}
+use Rattle.fmp_codes.specs.declared.calls.TaskCall.TheVariants.{ActTsk, IactTsk, MactTsk, ImactTsk, CanAct, MigTsk, ExtTsk, TerTsk, ChgPri, GetPri, SlpTsk, TslpTsk}
+use Rattle.fmp_codes.specs.declared.calls.TaskCall.TheVariants.{WupTsk, IwupTsk, CanWup, RelWai, IrelWai, SusTsk, RsmTsk, DlyTsk}
 use Rattle.fmp_calls.specs.Entries.{Line, line}
 use Rattle.fmp_calls.specs.Kinds.{task}
 use Rattle.fmp_calls.specs.declared.kinds.ArgumentKind.TheVariants.{Processor as processor, Priority as priority, Timeout as timeout, Time as time}

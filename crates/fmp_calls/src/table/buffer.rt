@@ -4,11 +4,11 @@ ghost use Rattle.std.specs.Str.{bytes_eq};
 ghost use Rattle.fmp_calls.specs.Tables.BufferTable.{line_of};
 
 use crate::kinds::Value;
-use crate::table::{CallForm, MOST_ARGUMENTS, Values, listed, value_at};
+use crate::table::{CallForm, KnownCall, MOST_ARGUMENTS, Values, listed, value_at};
 use fmp_codes::BufferCall;
 
 macro_rules! buffer_calls {
-    ($reading:ident $(, $given:expr)*) => {
+    ($reading:ident $(, $given:tt)*) => {
         $reading!(BufferCall $(, $given)*;
             SndDtq(data_queue, data) = b"snd_dtq",
             TsndDtq(data_queue, data, timeout) = b"tsnd_dtq",
@@ -29,6 +29,9 @@ macro_rules! buffer_calls {
 
 /// The calls on data queues and pools, each with blanks for its arguments.
 pub const BUFFER_CALLS: &[BufferCall] = &buffer_calls!(names);
+
+/// The same, each with how it is written.
+pub const KNOWN: &[KnownCall] = &buffer_calls!(known, Buffer);
 
 /// How the call is written.
 pub fn form(call: BufferCall) -> CallForm
@@ -60,6 +63,7 @@ pub fn parts(call: BufferCall) -> (CallForm, Values)
 }
 
 /// The call of the same name with the arguments that the values are.
+#[inline(always)]
 pub fn with_values(call: BufferCall, values: &[Value]) -> BufferCall
     ensures { result ≡ (line_of call).make values.now }
 {

@@ -4,11 +4,11 @@ ghost use Rattle.std.specs.Str.{bytes_eq};
 ghost use Rattle.fmp_calls.specs.Tables.SpinTable.{line_of};
 
 use crate::kinds::Value;
-use crate::table::{CallForm, MOST_ARGUMENTS, Values, listed, value_at};
+use crate::table::{CallForm, KnownCall, MOST_ARGUMENTS, Values, listed, value_at};
 use fmp_codes::SpinCall;
 
 macro_rules! spin_calls {
-    ($reading:ident $(, $given:expr)*) => {
+    ($reading:ident $(, $given:tt)*) => {
         $reading!(SpinCall $(, $given)*;
             LocSpn(spin_lock) = b"loc_spn",
             IlocSpn(spin_lock) = b"iloc_spn",
@@ -22,6 +22,9 @@ macro_rules! spin_calls {
 
 /// The calls on spin locks, each with blanks for its arguments.
 pub const SPIN_CALLS: &[SpinCall] = &spin_calls!(names);
+
+/// The same, each with how it is written.
+pub const KNOWN: &[KnownCall] = &spin_calls!(known, Spin);
 
 /// How the call is written.
 pub fn form(call: SpinCall) -> CallForm
@@ -53,6 +56,7 @@ pub fn parts(call: SpinCall) -> (CallForm, Values)
 }
 
 /// The call of the same name with the arguments that the values are.
+#[inline(always)]
 pub fn with_values(call: SpinCall, values: &[Value]) -> SpinCall
     ensures { result ≡ (line_of call).make values.now }
 {

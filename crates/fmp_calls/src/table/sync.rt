@@ -4,11 +4,11 @@ ghost use Rattle.std.specs.Str.{bytes_eq};
 ghost use Rattle.fmp_calls.specs.Tables.SyncTable.{line_of};
 
 use crate::kinds::Value;
-use crate::table::{CallForm, MOST_ARGUMENTS, Values, listed, value_at};
+use crate::table::{CallForm, KnownCall, MOST_ARGUMENTS, Values, listed, value_at};
 use fmp_codes::SyncCall;
 
 macro_rules! sync_calls {
-    ($reading:ident $(, $given:expr)*) => {
+    ($reading:ident $(, $given:tt)*) => {
         $reading!(SyncCall $(, $given)*;
             SigSem(semaphore) = b"sig_sem",
             IsigSem(semaphore) = b"isig_sem",
@@ -27,6 +27,9 @@ macro_rules! sync_calls {
 
 /// The calls on semaphores and eventflags, each with blanks for its arguments.
 pub const SYNC_CALLS: &[SyncCall] = &sync_calls!(names);
+
+/// The same, each with how it is written.
+pub const KNOWN: &[KnownCall] = &sync_calls!(known, Sync);
 
 /// How the call is written.
 pub fn form(call: SyncCall) -> CallForm
@@ -58,6 +61,7 @@ pub fn parts(call: SyncCall) -> (CallForm, Values)
 }
 
 /// The call of the same name with the arguments that the values are.
+#[inline(always)]
 pub fn with_values(call: SyncCall, values: &[Value]) -> SyncCall
     ensures { result ≡ (line_of call).make values.now }
 {

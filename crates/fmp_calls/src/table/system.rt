@@ -4,11 +4,11 @@ ghost use Rattle.std.specs.Str.{bytes_eq};
 ghost use Rattle.fmp_calls.specs.Tables.SystemTable.{line_of};
 
 use crate::kinds::Value;
-use crate::table::{CallForm, MOST_ARGUMENTS, Values, listed, value_at};
+use crate::table::{CallForm, KnownCall, MOST_ARGUMENTS, Values, listed, value_at};
 use fmp_codes::SystemCall;
 
 macro_rules! system_calls {
-    ($reading:ident $(, $given:expr)*) => {
+    ($reading:ident $(, $given:tt)*) => {
         $reading!(SystemCall $(, $given)*;
             RotRdq(priority) = b"rot_rdq",
             IrotRdq(priority) = b"irot_rdq",
@@ -34,6 +34,9 @@ macro_rules! system_calls {
 
 /// The calls on the processors and on the state of dispatching, each with blanks for its arguments.
 pub const SYSTEM_CALLS: &[SystemCall] = &system_calls!(names);
+
+/// The same, each with how it is written.
+pub const KNOWN: &[KnownCall] = &system_calls!(known, System);
 
 /// How the call is written.
 pub fn form(call: SystemCall) -> CallForm
@@ -65,6 +68,7 @@ pub fn parts(call: SystemCall) -> (CallForm, Values)
 }
 
 /// The call of the same name with the arguments that the values are.
+#[inline(always)]
 pub fn with_values(call: SystemCall, values: &[Value]) -> SystemCall
     ensures { result ≡ (line_of call).make values.now }
 {

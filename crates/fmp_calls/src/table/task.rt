@@ -4,11 +4,11 @@ ghost use Rattle.std.specs.Str.{bytes_eq};
 ghost use Rattle.fmp_calls.specs.Tables.TaskTable.{line_of};
 
 use crate::kinds::Value;
-use crate::table::{CallForm, MOST_ARGUMENTS, Values, listed, value_at};
+use crate::table::{CallForm, KnownCall, MOST_ARGUMENTS, Values, listed, value_at};
 use fmp_codes::TaskCall;
 
 macro_rules! task_calls {
-    ($reading:ident $(, $given:expr)*) => {
+    ($reading:ident $(, $given:tt)*) => {
         $reading!(TaskCall $(, $given)*;
             ActTsk(task) = b"act_tsk",
             IactTsk(task) = b"iact_tsk",
@@ -36,6 +36,9 @@ macro_rules! task_calls {
 
 /// The calls on tasks, each with blanks for its arguments.
 pub const TASK_CALLS: &[TaskCall] = &task_calls!(names);
+
+/// The same, each with how it is written.
+pub const KNOWN: &[KnownCall] = &task_calls!(known, Task);
 
 /// How the call is written.
 pub fn form(call: TaskCall) -> CallForm
@@ -67,6 +70,7 @@ pub fn parts(call: TaskCall) -> (CallForm, Values)
 }
 
 /// The call of the same name with the arguments that the values are.
+#[inline(always)]
 pub fn with_values(call: TaskCall, values: &[Value]) -> TaskCall
     ensures { result ≡ (line_of call).make values.now }
 {

@@ -4,11 +4,11 @@ ghost use Rattle.std.specs.Str.{bytes_eq};
 ghost use Rattle.fmp_calls.specs.Tables.TimeTable.{line_of};
 
 use crate::kinds::Value;
-use crate::table::{CallForm, MOST_ARGUMENTS, Values, listed, value_at};
+use crate::table::{CallForm, KnownCall, MOST_ARGUMENTS, Values, listed, value_at};
 use fmp_codes::TimeCall;
 
 macro_rules! time_calls {
-    ($reading:ident $(, $given:expr)*) => {
+    ($reading:ident $(, $given:tt)*) => {
         $reading!(TimeCall $(, $given)*;
             StaCyc(cyclic) = b"sta_cyc",
             MstaCyc(cyclic, processor) = b"msta_cyc",
@@ -25,6 +25,9 @@ macro_rules! time_calls {
 
 /// The calls on cyclic handlers and alarms, each with blanks for its arguments.
 pub const TIME_CALLS: &[TimeCall] = &time_calls!(names);
+
+/// The same, each with how it is written.
+pub const KNOWN: &[KnownCall] = &time_calls!(known, Time);
 
 /// How the call is written.
 pub fn form(call: TimeCall) -> CallForm
@@ -56,6 +59,7 @@ pub fn parts(call: TimeCall) -> (CallForm, Values)
 }
 
 /// The call of the same name with the arguments that the values are.
+#[inline(always)]
 pub fn with_values(call: TimeCall, values: &[Value]) -> TimeCall
     ensures { result ≡ (line_of call).make values.now }
 {

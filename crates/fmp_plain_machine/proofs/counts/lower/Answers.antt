@@ -12,6 +12,6 @@ loop-index-preserved g c =
     let item = c.index-items-index.result in
     let test : falls (get_or xs i item) ≡ c.counts_for.result = rw (← c.index-items-index.is, ← c.assigned.ensures, ← c.counts_for.ensures) in
     elim c.if-counts_for.branch [
-      | then-counts_for w ↦ rw (w.counts-is, w.lower_at.ensures, c.loop-index.invariant) (sym (one_falls falls xs c.args.counts.now.items i item c.loop-index-test.true (rw test w.if-counts_for.true)))
-      | else-counts_for w ↦ rw (w.counts-is, c.loop-index.invariant) (sym (one_stays falls xs c.args.counts.now.items i item (rw test w.if-counts_for.false)))
+      | then-counts_for w ↦ rw (w.counts-is, w.lower_at.ensures, c.loop-index.invariant) (sym (one_falls falls xs c.args.counts.now i item c.loop-index-test.true (rw test w.if-counts_for.true)))
+      | else-counts_for w ↦ rw (w.counts-is, c.loop-index.invariant) (sym (one_stays falls xs c.args.counts.now i item (rw test w.if-counts_for.false)))
     ]

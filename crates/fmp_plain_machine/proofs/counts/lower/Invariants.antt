@@ -5,4 +5,4 @@ use Rattle.fmp_plain_machine.proofs.counts.lower.Given as goal
 
 abbrev pub invariant-loop-index : goal.invariant-loop-index
 invariant-loop-index g l =
-    l.counts.items ≡ lowered (λ x. counts_for l.timer l.p (g.T.Assigned.assigned x)) (take l.index l.items) l.fn.counts.items
+    l.counts ≡ lowered (λ x. counts_for l.timer l.p (g.T.Assigned.assigned x)) (take l.index l.items) l.fn.counts

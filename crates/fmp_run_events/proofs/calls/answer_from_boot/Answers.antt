@@ -1,4 +1,4 @@
-use Rattle.std.proofs.Common.{◌∙◌, false, true, Err, ap, inl, refl, arith}
+use Rattle.std.proofs.Common.{◌∙◌, false, true, Err, ap, inl, refl}
 use Rattle.std.proofs.lemmas.Bool.{false≢true}
 use Rattle.std.proofs.lemmas.Result.{err_from_is_err_and}
 use Rattle.fmp_run_devices.specs.Devices.{bytes_of}
@@ -28,7 +28,7 @@ returns-clause-first g c = λ reads.
     let ready = c.in_ok-run.ensures in
     let same = c.begin.ensures.same in
     let before = stream_start c.args.detail false c.args.config.now (bytes_of (g.S.Source.left c.args.events.now)) (bytes_of (g.W.Sink.written c.args.trace.now)) _ c.begin.new.self
-    (rw (ready.detail, c.names.ensures.value) at (c.in_ok-begin.ensures.detail (booted c.args.config.now) ready.stands)) (same.0 ∙ ready.feed) (rw same.1 ready.stands) (same.2 ∙ ready.count) (λ lines. omega (arith, ready.room, c.begin.ensures.line (ready.detail ∙ lines))) (λ e. absurd (false≢true e)) in
+    (rw (ready.detail, c.names.ensures.value) at (c.in_ok-begin.ensures.detail (booted c.args.config.now) ready.stands)) (same.0 ∙ ready.feed) (rw same.1 ready.stands) (same.2 ∙ ready.count) (c.begin.ensures.passed ∙ ready.passed) (λ e. absurd (false≢true e)) in
     c.answer_all.ensures.first reads _ _ _ _ before
 
 pub returns-clause-leaves : goal.returns-clause-leaves
@@ -36,7 +36,7 @@ returns-clause-leaves g c = λ reads writes.
     let ready = c.in_ok-run.ensures in
     let same = c.begin.ensures.same in
     let before = stream_start c.args.detail true c.args.config.now (bytes_of (g.S.Source.left c.args.events.now)) (bytes_of (g.W.Sink.written c.args.trace.now)) _ c.begin.new.self
-    (rw (ready.detail, c.names.ensures.value) at (c.in_ok-begin.ensures.detail (booted c.args.config.now) ready.stands)) (same.0 ∙ ready.feed) (rw same.1 ready.stands) (same.2 ∙ ready.count) (λ lines. omega (arith, ready.room, c.begin.ensures.line (ready.detail ∙ lines)))
+    (rw (ready.detail, c.names.ensures.value) at (c.in_ok-begin.ensures.detail (booted c.args.config.now) ready.stands)) (same.0 ∙ ready.feed) (rw same.1 ready.stands) (same.2 ∙ ready.count) (c.begin.ensures.passed ∙ ready.passed)
     (λ e. rw (ready.detail, c.names.ensures.value) at (c.in_ok-begin.ensures.ok writes (booted c.args.config.now) ready.stands)) in
     c.answer_all.ensures.leaves reads (c.begin.ensures.known writes) _ _ _ _ before
 
@@ -45,6 +45,6 @@ returns-clause-answered g c = λ reads writes.
     let ready = c.in_ok-run.ensures in
     let same = c.begin.ensures.same in
     let before = stream_start c.args.detail true c.args.config.now (bytes_of (g.S.Source.left c.args.events.now)) (bytes_of (g.W.Sink.written c.args.trace.now)) _ c.begin.new.self
-    (rw (ready.detail, c.names.ensures.value) at (c.in_ok-begin.ensures.detail (booted c.args.config.now) ready.stands)) (same.0 ∙ ready.feed) (rw same.1 ready.stands) (same.2 ∙ ready.count) (λ lines. omega (arith, ready.room, c.begin.ensures.line (ready.detail ∙ lines)))
+    (rw (ready.detail, c.names.ensures.value) at (c.in_ok-begin.ensures.detail (booted c.args.config.now) ready.stands)) (same.0 ∙ ready.feed) (rw same.1 ready.stands) (same.2 ∙ ready.count) (c.begin.ensures.passed ∙ ready.passed)
     (λ e. rw (ready.detail, c.names.ensures.value) at (c.in_ok-begin.ensures.ok writes (booted c.args.config.now) ready.stands)) in
     c.answer_all.ensures.answered reads (c.begin.ensures.known writes) _ _ _ _ before

@@ -5,7 +5,7 @@ use Rattle.fmp_names.specs.Names.{AreValid, NameLists}
 use Rattle.fmp_rules.specs.Step.{step}
 use Rattle.fmp_kernel_order.specs.Queues.{listed}
 use Rattle.fmp_search.specs.declared.guided.Choice.{Choice}
-use Rattle.fmp_search_question.specs.declared.question.Step.{Step}
+use Rattle.fmp_search_pattern.specs.declared.question.Step.{Step}
 use Rattle.fmp_search_orders.specs.Places.{origin}
 use Rattle.fmp_search_kernel.specs.Walked.{origin_of}
 use Rattle.fmp_run_explore_from.specs.Lines.{GoesOnBy, GoesNoFurther}

@@ -3,7 +3,7 @@ use Rattle.std.specs.Prelude.{is_some}
 use Rattle.fmp_names.specs.Names.{AreValid}
 use Rattle.fmp_trace.specs.Lines.{lines_from}
 use Rattle.fmp_search.specs.Runs.{run}
-use Rattle.fmp_search_question.specs.declared.question.Step.{Step}
+use Rattle.fmp_search_pattern.specs.declared.question.Step.{Step}
 use Rattle.fmp_search_orders.specs.Places.{after, origin, records}
 use Rattle.fmp_run_forever.proofs.Found.{staying, told}
 use Rattle.fmp_run_forever.proofs.searching.told_along.Goals as goal

@@ -1,6 +1,6 @@
 use Rattle.std.proofs.Common.{◌∙◌, ◌++◌, ℕ, List, ap, subst}
 use Rattle.fmp_run_devices.specs.Devices.{BeginsWith, bytes_of}
-use Rattle.fmp_search_question.specs.Lasting.{Lasting}
+use Rattle.fmp_search_pattern.specs.Lasting.{Lasting}
 use Rattle.fmp_run_forever.specs.Stayed.{Finds}
 use Rattle.fmp_run_forever.proofs.writing.found_written.Goals as goal
 

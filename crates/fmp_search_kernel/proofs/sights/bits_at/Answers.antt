@@ -1,6 +1,6 @@
 use Rattle.std.proofs.Common.{◌∙◌, ℕ, ◌<◌, ◌*◌, ◌+◌, ◌-◌, get_or, Bool, List, length, map, cond, sym, ap, subst, arith}
 use Rattle.std.proofs.lemmas.List.{at_drop_all}
-use Rattle.fmp_search_question.specs.Lasting.{Lasting, is_so}
+use Rattle.fmp_search_pattern.specs.Lasting.{Lasting, is_so}
 use Rattle.fmp_search_orders.specs.Watched.{bits_of}
 use Rattle.fmp_search_kernel.proofs.Bitted.{room, one_bit}
 use Rattle.fmp_search_kernel.proofs.sights.bits_at.Goals as goal

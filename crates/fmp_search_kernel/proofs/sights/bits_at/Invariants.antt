@@ -1,5 +1,5 @@
 use Rattle.std.proofs.Common.{◌≡◌, ◌≤◌, length, drop, map}
-use Rattle.fmp_search_question.specs.Lasting.{is_so}
+use Rattle.fmp_search_pattern.specs.Lasting.{is_so}
 use Rattle.fmp_search_orders.specs.Watched.{bits_of}
 use Rattle.fmp_search_kernel.proofs.sights.bits_at.Given as goal
 

@@ -1,6 +1,6 @@
 use Rattle.std.proofs.Common.{◌∙◌, ap, refl, sym}
 use Rattle.std.specs.Option.{option_copied}
-use Rattle.fmp_search_question.specs.Lasting.{listed_in, tasks_of}
+use Rattle.fmp_search_question.specs.Waiting.{listed_in, tasks_of}
 use Rattle.fmp_search_question.proofs.Waiting.{named, no_more, on_ok, one_more}
 use Rattle.fmp_search_question.proofs.parts.add_at.Goals as goal
 

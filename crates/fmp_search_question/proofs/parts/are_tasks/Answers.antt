@@ -3,8 +3,9 @@ use Rattle.std.specs.List.{list_all}
 use Rattle.std.specs.Option.{option_copied}
 use Rattle.fmp_bytes.specs.Bytes.{cut_at}
 use Rattle.fmp_bytes.proofs.Cutting.{fewer_left, pieces_left}
-use Rattle.fmp_search_question.specs.Lasting.{comma, is_task, are_tasks}
-use Rattle.fmp_search_question.proofs.Pieces.{all_first, all_rest}
+use Rattle.fmp_search_question.specs.Waiting.{comma}
+use Rattle.fmp_search_question.specs.Lasting.{is_task, are_tasks}
+use Rattle.fmp_search_pattern.proofs.Pieces.{all_first, all_rest}
 use Rattle.fmp_search_question.proofs.parts.are_tasks.Goals as goal
 use Rattle.fmp_search_question.proofs.parts.are_tasks.Goals.{After-is_task}
 

@@ -2,7 +2,8 @@ use Rattle.std.proofs.Common.{◌≡◌, ◌+◌, length}
 use Rattle.std.specs.List.{list_all}
 use Rattle.std.specs.Option.{option_copied, option_map_or}
 use Rattle.fmp_bytes.proofs.Cutting.{pieces_left}
-use Rattle.fmp_search_question.specs.Lasting.{comma, is_task, are_tasks}
+use Rattle.fmp_search_question.specs.Waiting.{comma}
+use Rattle.fmp_search_question.specs.Lasting.{is_task, are_tasks}
 use Rattle.fmp_search_question.proofs.parts.are_tasks.Given as goal
 
 -- whether those that are left are tasks

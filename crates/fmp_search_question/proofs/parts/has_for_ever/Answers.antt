@@ -5,7 +5,7 @@ use Rattle.std.specs.Str.{bytes_eq}
 use Rattle.fmp_bytes.specs.Bytes.{space, cut_at, pieces_of}
 use Rattle.fmp_bytes.proofs.Cutting.{fewer_left, pieces_left, pieces_of-cut}
 use Rattle.fmp_search_question.specs.Lasting as spec
-use Rattle.fmp_search_question.proofs.Pieces.{or_true, or_false}
+use Rattle.fmp_search_pattern.proofs.Pieces.{or_true, or_false}
 use Rattle.fmp_search_question.proofs.parts.has_for_ever.Goals as goal
 use Rattle.fmp_search_question.proofs.parts.has_for_ever.Goals.{After-is_ever}
 

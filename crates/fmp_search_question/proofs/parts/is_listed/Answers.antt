@@ -4,8 +4,8 @@ use Rattle.std.specs.Str.{bytes_eq}
 use Rattle.fmp_bytes.specs.Bytes.{cut_at, pieces_of}
 use Rattle.fmp_bytes.proofs.Cutting.{fewer_left, pieces_left}
 use Rattle.fmp_names.specs.Names.{has_name}
-use Rattle.fmp_search_question.specs.Lasting.{comma}
-use Rattle.fmp_search_question.proofs.Pieces.{any_first, any_rest}
+use Rattle.fmp_search_question.specs.Waiting.{comma}
+use Rattle.fmp_search_pattern.proofs.Pieces.{any_first, any_rest}
 use Rattle.fmp_search_question.proofs.parts.is_listed.Goals as goal
 use Rattle.fmp_search_question.proofs.parts.is_listed.Goals.{After-is_word}
 

@@ -3,7 +3,7 @@ use Rattle.std.specs.Option.{option_copied, option_map_or}
 use Rattle.fmp_bytes.specs.Bytes.{pieces_of}
 use Rattle.fmp_bytes.proofs.Cutting.{pieces_left}
 use Rattle.fmp_names.specs.Names.{has_name}
-use Rattle.fmp_search_question.specs.Lasting.{comma}
+use Rattle.fmp_search_question.specs.Waiting.{comma}
 use Rattle.fmp_search_question.proofs.parts.is_listed.Given as goal
 
 -- whether it is one of those that are left

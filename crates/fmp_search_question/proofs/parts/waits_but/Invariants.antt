@@ -1,6 +1,6 @@
 use Rattle.std.proofs.Common.{◌≡◌, ◌++◌, drop}
 use Rattle.std.specs.Option.{option_copied}
-use Rattle.fmp_search_question.specs.Lasting.{waits_of, waits_but, tasks_of, listed_in}
+use Rattle.fmp_search_question.specs.Waiting.{waits_of, waits_but, tasks_of, listed_in}
 use Rattle.fmp_search_question.proofs.parts.waits_but.Given as goal
 
 -- with those of the tasks that are left they are all

@@ -4,7 +4,7 @@ use Rattle.fmp_setup.specs.Valid.{IsValid}
 use Rattle.fmp_search_kernel.specs.Walked.{origin_of}
 use Rattle.fmp_search_orders.specs.declared.rules.Rules.{Rules}
 use Rattle.fmp_search_orders.specs.Places.{origin}
-use Rattle.fmp_search_question.specs.declared.question.Step.{Step}
+use Rattle.fmp_search_pattern.specs.declared.question.Step.{Step}
 use Rattle.fmp_search_random.specs.Drawn.{rules_of}
 use Rattle.fmp_search_random.proofs.Following.{so_begun, so_more, so_whole}
 use Rattle.fmp_search_random.proofs.drawing.draw_order.Goals as goal

@@ -6,7 +6,7 @@ use Rattle.fmp_rules.specs.Arrivals.{numbered}
 use Rattle.fmp_rules.specs.Boot.{booted}
 use Rattle.fmp_rules.specs.Step.{answers}
 use Rattle.fmp_rules.proofs.Replays.{length-answers}
-use Rattle.fmp_search_question.specs.declared.question.Step.{Step}
+use Rattle.fmp_search_pattern.specs.declared.question.Step.{Step}
 use Rattle.fmp_search_showing.specs.Seen.{ShowsAfter, Watches}
 use Rattle.fmp_search_showing.proofs.Answering.{taken_within}
 use Rattle.fmp_search_showing.proofs.Watching.{is_shown, none_up_to, not_shown, watches_at_boot}

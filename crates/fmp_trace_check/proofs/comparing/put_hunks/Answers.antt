@@ -24,8 +24,8 @@ loop-line-preserved-in_ok-put_hunk c =
     let line = c.in-Some.line.now in
     let out = c.loop-line.out.items in
     let behind_it = hunks_from names (behind w (event_of names line)) (n + 1) (pieces_of 10 c.in-Some.after.now) in
-    let other : prints_answer names w n line (event_of names line) ≡ false = sym c.in_ok-play.ensures.same ∙ c.if-not-branch.true in
-    let own_is : c.as_slice.result.now ≡ own_core names w n (event_of names line) = c.as_slice.ensures.value ∙ c.in_ok-play.ensures.own in
+    let other : prints_answer names w n line (event_of names line) ≡ false = sym c.play.ensures.same ∙ c.if-not-play.true in
+    let own_is : c.as_slice.result.now ≡ own_core names w n (event_of names line) = c.as_slice.ensures ∙ c.play.ensures.own in
     let put : c.put_hunk.new.out.items ≡ out ++ difference_text Each (difference_at names w n line) = rw own_is at c.in_ok-put_hunk.ensures in
     record {
       told = rw (put, c.play.ensures.state) (append_assoc out (difference_text Each (difference_at names w n line)) behind_it
@@ -41,7 +41,7 @@ loop-line-preserved c =
     let w = c.loop-line.player.plain.state in
     let names = c.args.names.now in
     let line = c.in-Some.line.now in
-    let own : prints_answer names w n line (event_of names line) ≡ true = sym c.in_ok-play.ensures.same ∙ c.if-not-branch.false in
+    let own : prints_answer names w n line (event_of names line) ≡ true = sym c.play.ensures.same ∙ c.if-not-play.false in
     record {
       told = rw c.play.ensures.state (ap (λ (hunks : List ℕ). c.loop-line.out.items ++ hunks) (sym (hunk_of_own names w n c.loop-line.rest.now line c.in-Some.after.now c.in-Some.ensures.line c.in-Some.ensures.rest own))
           ∙ c.loop-line.invariant.told);

@@ -41,11 +41,11 @@ returns-then-not-own-clause-stop g c =
     let w = c.loop-line.player.plain.state in
     let line = c.in-Some.line.now in
     let names = c.args.config.now.names in
-    let state_is : c.play.new.self.plain.state ≡ behind w (event_of names line) = rw named at c.play.ensures.state in
-    let own_is : c.play.new.self.own.items ≡ own_core names w n (event_of names line) = rw named at c.in_ok-own.ensures.own in
+    let state_is : c.play-own.new.self.plain.state ≡ behind w (event_of names line) = rw named at c.play-own.ensures.state in
+    let own_is : c.play-own.new.self.own ≡ own_core names w n (event_of names line) = rw named at c.play-own.ensures.own in
     elim c.then-not-own.branch [
       | then-not-own-via-then-not-own b ↦
-          let other : prints_answer c.names-names.result.now w n line (event_of c.names-names.result.now line) ≡ false = sym c.in_ok-own.ensures.same ∙ b.if-not-own.true in
+          let other : prints_answer c.names-names.result.now w n line (event_of c.names-names.result.now line) ≡ false = sym c.play-own.ensures.same ∙ b.if-not-own.true in
           rw (state_is, own_is) (sym (stops_here names w n c.loop-line.rest.now line c.in-Some.after.now c.in-Some.ensures.line c.in-Some.ensures.rest (rw named at other)) ∙ c.loop-line.invariant.stop)
       | then-not-own-via-else-not-own+then-number-gt-MOST_EVENTS b ↦
           let small : n < 2 ^ 64 = omega (arith, c.loop-line.invariant.left, c.requires) in
@@ -65,14 +65,14 @@ loop-line-preserved g c =
     let line = c.in-Some.line.now in
     let names = c.args.config.now.names in
     let so_far = c.loop-line.invariant.read in
-    let state_is : c.play.new.self.plain.state ≡ behind w (event_of names line) = rw named at c.play.ensures.state in
-    let test : prints_answer c.names-names.result.now w n line (event_of c.names-names.result.now line) ≡ true = sym c.in_ok-own.ensures.same ∙ c.if-not-own.false in
-    let event = c.play.new.self.told.event in
+    let state_is : c.play-own.new.self.plain.state ≡ behind w (event_of names line) = rw named at c.play-own.ensures.state in
+    let test : prints_answer c.names-names.result.now w n line (event_of c.names-names.result.now line) ≡ true = sym c.play-own.ensures.same ∙ c.if-not-own.false in
+    let event = c.play-own.new.self.told.event in
     let after = c.in-Some.after.now in
-    let told : event_of names line ≡ Some event = rw named at (c.in_ok-own.ensures.told c.if-not-own.false) in
-    let state_too : c.play.new.self.plain.state ≡ (step numbered w event).0 = state_is ∙ ap (behind w) told in
-    let said = c.play.new.self.told in
-    let answer : said ≡ (step numbered w event).1 = c.in_ok-own.ensures.answer c.if-not-own.false in
+    let told : event_of names line ≡ Some event = rw named at (c.play-own.ensures.told c.if-not-own.false) in
+    let state_too : c.play-own.new.self.plain.state ≡ (step numbered w event).0 = state_is ∙ ap (behind w) told in
+    let said = c.play-own.new.self.told in
+    let answer : said ≡ (step numbered w event).1 = c.play-own.ensures.answer c.if-not-own.false in
     let saw : c.watch.new.self ≡ g.W.Watcher.watched c.loop-line.watcher names n (step numbered w event).1 (step numbered w event).0 =
     c.in_ok-watch.ensures
     ∙ ap (λ (lists : NameLists). g.W.Watcher.watched c.loop-line.watcher lists n said c.machine.result.now) named
@@ -88,7 +88,7 @@ loop-line-preserved g c =
           ∙ c.loop-line.invariant.watched;
       stop = rw state_is (sym (goes_behind names w n c.loop-line.rest.now line c.in-Some.after.now c.in-Some.ensures.line c.in-Some.ensures.rest (rw named at test)) ∙ c.loop-line.invariant.stop);
       goes = rw state_is own.0;
-      steps = omega (arith, c.loop-line.invariant.steps, c.play.ensures.steps);
+      steps = omega (arith, c.loop-line.invariant.steps, c.play-own.ensures.steps);
       left = omega (arith, c.loop-line.invariant.left, shorter 10 c.loop-line.rest.now c.in-Some.after.now c.in-Some.ensures.rest);
     }
 

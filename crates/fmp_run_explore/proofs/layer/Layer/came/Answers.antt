@@ -1,5 +1,5 @@
 use Rattle.std.proofs.Common.{◌≡◌, ◌<◌, ◌≤◌, ◌+◌, ◌-◌, ◌/◌, ◌∙◌, List, length, suc, take, ap, arith, subst, sym}
-use Rattle.fmp_search_question.specs.declared.question.Step.{Step}
+use Rattle.fmp_search_pattern.specs.declared.question.Step.{Step}
 use Rattle.fmp_search_orders.specs.Shown.{NoneShows}
 use Rattle.fmp_run_explore.specs.Came.{SomeShows}
 use Rattle.fmp_run_explore.specs.Explored.{Finds}

@@ -4,7 +4,7 @@ use Rattle.fmp_run_stream.proofs.Streaming.{piece_wanting, prefix_out, stream_cl
 use Rattle.fmp_run_stream.proofs.stream.Answering.take_piece.Goals as goal
 
 pub returns-in-Err-clause-leaves : goal.returns-in-Err-clause-leaves
-returns-in-Err-clause-leaves g c = λ tells d config text whole old written before. prefix_out d true config text whole old c.args.self.now written _ refl before
+returns-in-Err-clause-leaves g c = λ tells d config text whole old written before. prefix_out d true config text whole old c.args.self.now written _ refl before.told
 
 pub returns-in-Ok-eq0-clause-streams : goal.returns-in-Ok-eq0-clause-streams
 returns-in-Ok-eq0-clause-streams g c = λ known d told config text whole old written before.
@@ -24,4 +24,4 @@ pub returns-in-Err-push-clause-leaves : goal.returns-in-Err-push-clause-leaves
 returns-in-Err-push-clause-leaves g c = λ tells d config text whole old written before.
     let memory = rw c.in-Err-push.is at (c.push.ensures.memory c.requires.wanting.fine) in
     let full = c.in-Err-push.ensures.full c.requires.wanting.fine in
-    inr (rw memory (refl, refl), (prefix_out d true config text whole old c.args.self.now written _ refl before, piece_wanting d true config text whole old c.args.self.now written _ _ before c.requires.wanting (search rules) full))
+    inr (rw memory (refl, refl), (prefix_out d true config text whole old c.args.self.now written _ refl before.told, piece_wanting d true config text whole old c.args.self.now written _ _ before c.requires.wanting (search rules) full))

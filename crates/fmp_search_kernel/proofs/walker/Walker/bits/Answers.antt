@@ -4,7 +4,7 @@ use Rattle.fmp_kernel_order.specs.Queues.{listed}
 use Rattle.fmp_names.specs.Names.{NameLists}
 use Rattle.fmp_trace.specs.Lines.{line_text}
 use Rattle.fmp_show_state.specs.States.{state_lines}
-use Rattle.fmp_search_question.specs.Lasting.{is_so}
+use Rattle.fmp_search_pattern.specs.Lasting.{is_so}
 use Rattle.fmp_search_orders.specs.Places.{sight_at}
 use Rattle.fmp_search_orders.specs.Watched.{bits_of}
 use Rattle.fmp_search_kernel.specs.Walked.{Walked, count_in}

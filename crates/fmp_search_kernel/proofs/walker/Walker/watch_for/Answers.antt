@@ -1,5 +1,5 @@
 use Rattle.std.proofs.Common.{◌∙◌, ap, map, sym}
-use Rattle.fmp_search_question.specs.Lasting.{is_so}
+use Rattle.fmp_search_pattern.specs.Lasting.{is_so}
 use Rattle.fmp_search_orders.specs.Places.{sight_at}
 use Rattle.fmp_search_orders.specs.Watched.{bits_of}
 use Rattle.fmp_search_kernel.specs.Walked.{Walked, origin_of}

@@ -2,7 +2,7 @@ use Rattle.std.proofs.Common.{◌≡◌, map, subst}
 use Rattle.std.specs.Prelude.{IfOk}
 use Rattle.std.proofs.lemmas.Result.{IfOk-weaker}
 use Rattle.fmp_search.specs.Runs.{Watches}
-use Rattle.fmp_search_question.specs.Lasting.{is_so}
+use Rattle.fmp_search_pattern.specs.Lasting.{is_so}
 use Rattle.fmp_search_orders.specs.Lasting.{step_test}
 use Rattle.fmp_search_orders.specs.Watched.{bits_of, origin_at, watched, watched_after, watched_passes}
 use Rattle.fmp_search_kernel.specs.Walked.{Watching}

@@ -1,7 +1,0 @@
-use Rattle.std.proofs.Common.{◌≡◌, drop}
-use Rattle.fmp_search_question.specs.Matching.{any}
-use Rattle.fmp_search_question.specs.Questions.{has_moment}
-use Rattle.fmp_search_question.proofs.lasting.has_some.Given as goal
-
-abbrev pub invariant-loop-moment : goal.invariant-loop-moment
-invariant-loop-moment l = any (has_moment l.fn.text) (drop l.moment-index l.moments) ≡ any (has_moment l.fn.text) l.fn.moments

@@ -1,8 +1,0 @@
-use Rattle.std.proofs.Common.{◌≡◌, drop}
-use Rattle.fmp_search_question.specs.Items.{has_part}
-use Rattle.fmp_search_question.specs.Matching.{any}
-use Rattle.fmp_search_question.specs.Questions as spec
-use Rattle.fmp_search_question.proofs.matching.has_moment.Given as goal
-
-abbrev pub invariant-loop-part : goal.invariant-loop-part
-invariant-loop-part l = any (has_part l.fn.text) (drop l.part-index l.part-items) ≡ spec.has_moment l.fn.text l.fn.moment

@@ -1,0 +1,126 @@
+-- Where in a line a word stands, and which words may stand one behind the other. docs/FORMATS.md has the forms of a line of a trace and of a state.
+use Rattle.std.specs.Prelude.{ℕ, Bool, true, false, ◌==◌, List, [], ◌∷◌, Option, None, Some, if◌then◌else◌}
+use Rattle.std.specs.List.{list_any}
+use Rattle.fmp_search_words.specs.declared.spot.Spot.{Spot}
+use Rattle.fmp_search_words.specs.declared.spot.Spot.TheVariants.{Front, Anything, Number, Whole, Processor, Nobody, Task, Handler, Object, Lock, Timer, Return, Begun}
+use Rattle.fmp_search_words.specs.declared.spot.Spot.TheVariants.{BegunSome, BegunTold, Called, CalledSome, CalledTold, Argument, LastArgument, Taken, Accepted, Told}
+use Rattle.fmp_search_words.specs.declared.spot.Spot.TheVariants.{Answer, Release, Lost, Run, Requests, Ready, Locked, Disabled, Latch, Due, Suspended, Waits, Sleep}
+use Rattle.fmp_search_words.specs.declared.spot.Spot.TheVariants.{WaitsFor, Left, Priority, Activated, Wakeups, Fact, Stopped, Held, End}
+
+-- a number of its own for each
+abbrev pub number : Spot → ℕ
+number Front = 0
+number Anything = 1
+number Number = 2
+number Whole = 3
+number Processor = 4
+number Nobody = 5
+number Task = 6
+number Handler = 7
+number Object = 8
+number Lock = 9
+number Timer = 10
+number Return = 11
+number Begun = 12
+number BegunSome = 13
+number BegunTold = 14
+number Called = 15
+number CalledSome = 16
+number CalledTold = 17
+number Argument = 18
+number LastArgument = 19
+number Taken = 20
+number Accepted = 21
+number Told = 22
+number Answer = 23
+number Release = 24
+number Lost = 25
+number Run = 26
+number Requests = 27
+number Ready = 28
+number Locked = 29
+number Disabled = 30
+number Latch = 31
+number Due = 32
+number Suspended = 33
+number Waits = 34
+number Sleep = 35
+number WaitsFor = 36
+number Left = 37
+number Priority = 38
+number Activated = 39
+number Wakeups = 40
+number Fact = 41
+number Stopped = 42
+number Held = 43
+number End = 44
+
+abbrev pub is_number : Spot → Bool
+is_number Number = true
+is_number other = false
+
+-- what may stand right before a word of a line: where in the line there is nothing between the two, or nothing that has to be there. `Front` and
+-- `Anything` may stand before each
+abbrev pub before : Spot → List Spot
+before Nobody = Processor ∷ []
+before Task = Processor ∷ []
+before Handler = Processor ∷ []
+before Object = WaitsFor ∷ []
+before Timer = Nobody ∷ Task ∷ Handler ∷ []
+before Return = Nobody ∷ Task ∷ Handler ∷ []
+before Begun = Nobody ∷ Task ∷ Handler ∷ []
+before BegunTold = Nobody ∷ Task ∷ Handler ∷ []
+before Called = Nobody ∷ Task ∷ Handler ∷ []
+before CalledTold = Nobody ∷ Task ∷ Handler ∷ []
+before Argument = Begun ∷ BegunSome ∷ BegunTold ∷ []
+before LastArgument = Begun ∷ BegunSome ∷ BegunTold ∷ []
+before Taken = Timer ∷ []
+before Accepted = Return ∷ Called ∷ CalledSome ∷ []
+before Told = CalledSome ∷ CalledTold ∷ []
+before Answer = Return ∷ Called ∷ CalledSome ∷ CalledTold ∷ []
+before Release = Taken ∷ Accepted ∷ Told ∷ Answer ∷ Release ∷ []
+before Lost = Taken ∷ Accepted ∷ Told ∷ Answer ∷ Release ∷ []
+before Run = Processor ∷ Taken ∷ Accepted ∷ Told ∷ Answer ∷ Release ∷ Lost ∷ []
+before Requests = Taken ∷ Accepted ∷ Told ∷ Answer ∷ Release ∷ Lost ∷ Run ∷ []
+before Ready = Run ∷ []
+before Locked = Run ∷ Ready ∷ []
+before Disabled = Run ∷ Ready ∷ Locked ∷ []
+before Latch = Run ∷ Ready ∷ Locked ∷ Disabled ∷ []
+before Due = Run ∷ Ready ∷ Locked ∷ Disabled ∷ Latch ∷ []
+before Suspended = Task ∷ []
+before Waits = Task ∷ Suspended ∷ []
+before Sleep = Waits ∷ []
+before WaitsFor = Waits ∷ []
+before Left = Handler ∷ Sleep ∷ Object ∷ []
+before Priority = Task ∷ Suspended ∷ Sleep ∷ Object ∷ Left ∷ []
+before Activated = Task ∷ Suspended ∷ Sleep ∷ Object ∷ Left ∷ Priority ∷ []
+before Wakeups = Task ∷ Suspended ∷ Sleep ∷ Object ∷ Left ∷ Priority ∷ Activated ∷ []
+before Fact = Object ∷ []
+before Stopped = Handler ∷ []
+before Held = Lock ∷ []
+before other = []
+
+-- a word may stand behind another
+unfoldable pub may_follow : Spot → Spot → Bool
+may_follow Front next = true
+may_follow Number next = false
+may_follow Whole next = false
+may_follow Anything Number = false
+may_follow place Anything = true
+may_follow Anything next = true
+may_follow place next = list_any (λ s. number s == number place) (before next)
+
+-- where the words so far end: an argument belongs to the call that begins before it
+abbrev pub ended_by : Spot → Spot → Spot
+ended_by Begun Argument = Begun
+ended_by BegunTold Argument = BegunTold
+ended_by place Argument = BegunSome
+ended_by Begun LastArgument = Called
+ended_by BegunTold LastArgument = CalledTold
+ended_by place LastArgument = CalledSome
+ended_by place next = next
+
+-- the words so far, with one more
+abbrev pub stepped : Spot → Option Spot → Option Spot
+stepped place None = None
+stepped place (Some next) = if may_follow place next then Some (ended_by place next) else None

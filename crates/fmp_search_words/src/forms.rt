@@ -1,0 +1,327 @@
+//! Where in a line a word may stand.
+ghost use Rattle.std.specs.Prelude.{◌≡◌, map};
+ghost use Rattle.std.specs.Option.{option_copied};
+ghost use Rattle.fmp_search_words.specs.Forms as spec;
+
+use crate::spot::Spot;
+use crate::words::{has_star, has_word, is_processor};
+use fmp_bytes::{are_digits, behind, cut};
+use fmp_calls::{ArgumentKind, NameKind, ObjectKind, find_call, form};
+use fmp_names::Names;
+use fmp_search_pattern::is_code;
+
+/// Words that stand in a line as they are, and where.
+pub(crate) const WORD_SPOTS: [(&[u8], Spot); 25] = [
+    (b"-", Spot::Nobody),
+    (b"tick", Spot::Timer),
+    (b"ipi", Spot::Timer),
+    (b"ret_hdr", Spot::Return),
+    (b"wait", Spot::Answer),
+    (b"spin", Spot::Answer),
+    (b"gone", Spot::Answer),
+    (b"idle", Spot::Answer),
+    (b"held", Spot::Taken),
+    (b"taken", Spot::Taken),
+    (b"none", Spot::Taken),
+    (b"locked", Spot::Locked),
+    (b"disabled", Spot::Disabled),
+    (b"latch", Spot::Latch),
+    (b"suspended", Spot::Suspended),
+    (b"waits", Spot::Waits),
+    (b"slp", Spot::Sleep),
+    (b"dly", Spot::Sleep),
+    (b"sem", Spot::WaitsFor),
+    (b"flg", Spot::WaitsFor),
+    (b"sdtq", Spot::WaitsFor),
+    (b"rdtq", Spot::WaitsFor),
+    (b"mpf", Spot::WaitsFor),
+    (b"stopped", Spot::Stopped),
+    (b"end", Spot::End),
+];
+
+/// What stands before a `=`, and where.
+pub(crate) const KEY_SPOTS: [(&[u8], Spot); 15] = [
+    (b"rel", Spot::Release),
+    (b"lost", Spot::Lost),
+    (b"run", Spot::Run),
+    (b"ipi", Spot::Requests),
+    (b"ready", Spot::Ready),
+    (b"due", Spot::Due),
+    (b"left", Spot::Left),
+    (b"pri", Spot::Priority),
+    (b"act", Spot::Activated),
+    (b"wup", Spot::Wakeups),
+    (b"count", Spot::Fact),
+    (b"pattern", Spot::Fact),
+    (b"values", Spot::Fact),
+    (b"free", Spot::Fact),
+    (b"held", Spot::Held),
+];
+
+/// The calls that tell a value wherever they answer `E_OK`. No other call does.
+pub const TELLING: [&[u8]; 20] = [
+    b"can_act",
+    b"get_pri",
+    b"can_wup",
+    b"wai_flg",
+    b"twai_flg",
+    b"pol_flg",
+    b"rcv_dtq",
+    b"trcv_dtq",
+    b"prcv_dtq",
+    b"get_mpf",
+    b"tget_mpf",
+    b"pget_mpf",
+    b"get_tid",
+    b"iget_tid",
+    b"get_pid",
+    b"iget_pid",
+    b"sns_ctx",
+    b"sns_loc",
+    b"sns_dsp",
+    b"sns_dpn",
+];
+
+/// The spot of the first of these rows that has the word.
+fn spot_in(rows: &[(&[u8], Spot)], word: &[u8]) -> Option<Spot>
+    ensures { result ≡ spec.spot_in (map (λ row. (row.0.now, row.1)) rows.now) word.now }
+{
+    match rows {
+        [] => None,
+        [(other, spot), ..] if *other == word => Some(*spot),
+        [_, rows @ ..] => spot_in(rows, word),
+    }
+}
+
+/// Where an answer stands: a code, or `E_OK` with a value.
+fn answer_spot(word: &[u8]) -> Option<Spot>
+    ensures { result ≡ spec.answer_spot word.now }
+{
+    let (code, value) = cut(b':', word);
+    match value {
+        Some(value) if code == b"E_OK".as_slice() && is_number(value) => Some(Spot::Told),
+        Some(_) => None,
+        None if code == b"E_OK".as_slice() => Some(Spot::Accepted),
+        None if is_code(code) => Some(Spot::Answer),
+        None => None,
+    }
+}
+
+/// Whether a word is a number in decimal, behind a `-` or not.
+fn is_number(word: &[u8]) -> bool
+    ensures { result ≡ spec.is_number word.now }
+{
+    match behind(b'-', word) {
+        Some(digits) => are_digits(10, digits),
+        None => are_digits(10, word),
+    }
+}
+
+/// Where a word stands that is one of a line as it is, or an answer.
+fn plain_spot(word: &[u8]) -> Option<Spot>
+    ensures { result ≡ spec.plain_spot word.now }
+{
+    match spot_in(&WORD_SPOTS, word) {
+        Some(spot) => Some(spot),
+        None => answer_spot(word),
+    }
+}
+
+/// Whether an object of a kind has a name.
+fn is_one(names: &Names, kind: ObjectKind, name: &[u8]) -> bool
+    ensures { result ≡ spec.is_one names.now kind name.now }
+{
+    names.number(NameKind::Object(kind), name).is_some()
+}
+
+/// Where the name of an object stands.
+fn object_spot(names: &Names, name: &[u8]) -> Spot
+    ensures { result ≡ spec.object_spot names.now name.now }
+{
+    if is_one(names, ObjectKind::Task, name) {
+        Spot::Task
+    } else if is_one(names, ObjectKind::Cyclic, name) || is_one(names, ObjectKind::Alarm, name) {
+        Spot::Handler
+    } else if is_one(names, ObjectKind::SpinLock, name) {
+        Spot::Lock
+    } else {
+        Spot::Object
+    }
+}
+
+/// Where a name stands. One that is also a word of a line may be anywhere.
+fn name_spot(names: &Names, name: &[u8]) -> Spot
+    ensures { result ≡ spec.name_spot names.now name.now }
+{
+    if plain_spot(name).is_some() {
+        Spot::Anything
+    } else {
+        object_spot(names, name)
+    }
+}
+
+/// Whether what stands behind a `=` may stand there: a release has a code behind a colon, a lock is held by a processor, names stand behind `run`,
+/// `ready` and `due`, and numbers behind the other words.
+fn is_value(names: &Names, spot: Spot, value: &[u8]) -> bool
+    ensures { result ≡ spec.is_value names.now spot value.now }
+{
+    match spot {
+        Spot::Release => cut(b':', value).1.is_some(),
+        Spot::Held => is_processor(names, value),
+        Spot::Run | Spot::Ready | Spot::Due => !is_number(value),
+        _ => is_number(cut(b',', value).0),
+    }
+}
+
+/// Where a word with a `=` stands.
+fn key_spot(names: &Names, key: &[u8], value: &[u8]) -> Option<Spot>
+    ensures { result ≡ spec.key_spot names.now key.now value.now }
+{
+    match spot_in(&KEY_SPOTS, key) {
+        Some(spot) if is_value(names, spot, value) => Some(spot),
+        _ => None,
+    }
+}
+
+/// What stands before a byte that ends a word, and nowhere else in it.
+fn ended(byte: u8, word: &[u8]) -> Option<&[u8]>
+    ensures { option_copied result ≡ spec.ended byte word.now }
+{
+    match cut(byte, word) {
+        (front, Some([])) => Some(front),
+        _ => None,
+    }
+}
+
+/// Whether an argument may stand in a place of a kind: the name of an object, or a number.
+fn is_first(names: &Names, kind: ArgumentKind, argument: &[u8]) -> bool
+    ensures { result ≡ spec.is_first names.now kind argument.now }
+{
+    match kind {
+        ArgumentKind::Object(ObjectKind::Task) if argument == b"TSK_SELF".as_slice() => true,
+        ArgumentKind::Object(kind) if is_one(names, kind, argument) => true,
+        _ => is_number(argument),
+    }
+}
+
+/// Whether an argument is one, where there is one.
+fn has_first(names: &Names, kind: ArgumentKind, argument: Option<&[u8]>) -> bool
+    ensures { result ≡ spec.has_first names.now kind (option_copied argument.entry) }
+{
+    match argument {
+        Some(argument) => is_first(names, kind, argument),
+        None => false,
+    }
+}
+
+/// Where a call stands with what comes behind its `(` in a word, by the kinds of its arguments.
+fn arguments_spot(
+    names: &Names,
+    kinds: &[ArgumentKind],
+    telling: bool,
+    behind: &[u8],
+) -> Option<Spot>
+    ensures { result ≡ spec.arguments_spot names.now kinds.now telling behind.now }
+{
+    match kinds {
+        [] if behind == b")".as_slice() => Some(called(telling)),
+        [kind] if has_first(names, *kind, ended(b')', behind)) => Some(called(telling)),
+        [kind, _, ..] if has_first(names, *kind, ended(b',', behind)) => Some(begun(telling)),
+        _ => None,
+    }
+}
+
+/// Where a call with all its arguments stands.
+fn called(telling: bool) -> Spot
+    ensures { result ≡ spec.called telling }
+{
+    if telling {
+        Spot::CalledTold
+    } else {
+        Spot::Called
+    }
+}
+
+/// Where a call stands whose arguments go on.
+fn begun(telling: bool) -> Spot
+    ensures { result ≡ spec.begun telling }
+{
+    if telling {
+        Spot::BegunTold
+    } else {
+        Spot::Begun
+    }
+}
+
+/// Where a call stands that has this name, with what comes behind its `(` in a word.
+fn call_spot(names: &Names, name: &[u8], behind: &[u8]) -> Option<Spot>
+    ensures { result ≡ spec.call_spot names.now name.now behind.now }
+{
+    let form = form(find_call(name)?);
+    if form.bare {
+        None
+    } else {
+        arguments_spot(names, form.kinds, has_word(&TELLING, name), behind)
+    }
+}
+
+/// Whether a word may be an argument behind the first one: a number or a mode.
+fn is_further(argument: Option<&[u8]>) -> bool
+    ensures { result ≡ spec.is_further (option_copied argument.entry) }
+{
+    match argument {
+        Some(argument) => {
+            argument == b"TWF_ANDW".as_slice()
+                || argument == b"TWF_ORW".as_slice()
+                || is_number(argument)
+        }
+        None => false,
+    }
+}
+
+/// Where an argument behind the first one stands.
+fn argument_spot(word: &[u8]) -> Option<Spot>
+    ensures { result ≡ spec.argument_spot word.now }
+{
+    if is_further(ended(b',', word)) {
+        Some(Spot::Argument)
+    } else if is_further(ended(b')', word)) {
+        Some(Spot::LastArgument)
+    } else {
+        None
+    }
+}
+
+/// Where a word with a `=` or a `(` stands, or an argument.
+fn made_spot(names: &Names, word: &[u8]) -> Option<Spot>
+    ensures { result ≡ spec.made_spot names.now word.now }
+{
+    match (cut(b'=', word), cut(b'(', word)) {
+        ((key, Some(value)), _) => key_spot(names, key, value),
+        (_, (name, Some(behind))) => call_spot(names, name, behind),
+        _ => argument_spot(word),
+    }
+}
+
+/// Where in a line a word may stand. None where it stands in no line.
+#[tactic(auto, unfolding(crate::specs::Forms::spot_of))]
+pub fn spot_of(names: &Names, word: &[u8]) -> Option<Spot>
+    ensures { result ≡ spec.spot_of names.now word.now }
+{
+    if has_star(word) {
+        return Some(Spot::Anything);
+    }
+    if are_digits(10, word) {
+        return Some(Spot::Number);
+    }
+    if is_processor(names, word) {
+        return Some(Spot::Processor);
+    }
+    if names.contains_object(word) {
+        return Some(name_spot(names, word));
+    }
+    match plain_spot(word) {
+        Some(spot) => Some(spot),
+        None => made_spot(names, word),
+    }
+}

@@ -1,0 +1,12 @@
+//! Words of the lines of a trace and of a state: which ones may stand in some line, and where.
+//!
+//! docs/FORMATS.md has the forms of these lines.
+#![tactic(auto)]
+
+mod forms;
+mod spot;
+mod words;
+
+pub use forms::spot_of;
+pub use spot::Spot;
+pub use words::{are_fine, is_printed};

@@ -1,0 +1,193 @@
+//! Where in a line a word stands, and which words may stand before it.
+ghost use Rattle.std.specs.Prelude.{◌≡◌, ◌==◌};
+ghost use Rattle.std.specs.List.{list_any};
+ghost use Rattle.fmp_search_words.specs.Spots as spec;
+
+use Spot::*;
+
+/// Where in a line of a trace or of a state a word stands.
+#[derive(Clone, Copy)]
+pub enum Spot {
+    /// Nothing: a pattern begins.
+    Front,
+    /// A word that may be anywhere: it has a star, or is a name that is also a word of a line.
+    Anything,
+    /// A number alone, which stands before `times` and in no line.
+    Number,
+    /// `refused`, which is a pattern by itself.
+    Whole,
+    /// `P1`.
+    Processor,
+    /// `-`, where nobody runs.
+    Nobody,
+    /// The name of a task.
+    Task,
+    /// The name of an alarm or a cyclic handler.
+    Handler,
+    /// The name of an object that tasks wait for.
+    Object,
+    /// The name of a spin lock.
+    Lock,
+    /// `tick` or `ipi`.
+    Timer,
+    /// `ret_hdr`.
+    Return,
+    /// A call whose arguments go on, and which tells no value where it is accepted.
+    Begun,
+    /// The same of some call, which may tell one.
+    BegunSome,
+    /// The same of one that tells one.
+    BegunTold,
+    /// A call with all its arguments, and which tells no value where it is accepted.
+    Called,
+    /// The same of some call, which may tell one.
+    CalledSome,
+    /// The same of one that tells one.
+    CalledTold,
+    /// An argument with a comma behind it.
+    Argument,
+    /// The last one of several arguments.
+    LastArgument,
+    /// `taken`, `held` or `none`.
+    Taken,
+    /// `E_OK`.
+    Accepted,
+    /// `E_OK` with a value.
+    Told,
+    /// Another answer to a call.
+    Answer,
+    /// ` rel=`.
+    Release,
+    /// ` lost=`.
+    Lost,
+    /// ` run=`, behind a processor too.
+    Run,
+    /// ` ipi=`.
+    Requests,
+    /// ` ready=`.
+    Ready,
+    Locked,
+    Disabled,
+    Latch,
+    /// ` due=`.
+    Due,
+    Suspended,
+    Waits,
+    /// `slp` or `dly`.
+    Sleep,
+    /// `sem` and the like, before the name of the object.
+    WaitsFor,
+    /// ` left=`.
+    Left,
+    /// ` pri=`.
+    Priority,
+    /// ` act=`.
+    Activated,
+    /// ` wup=`.
+    Wakeups,
+    /// What is told of an object: ` count=` and the like.
+    Fact,
+    Stopped,
+    /// ` held=`.
+    Held,
+    End,
+}
+
+impl Spot {
+    ghost use Rattle.std.specs.Prelude.{◌≡◌};
+    ghost use Rattle.fmp_search_words.specs.Spots as spec;
+
+    /// A number of its own for each.
+    fn number(self) -> u8
+        ensures { result ≡ spec.number self }
+    {
+        self as u8
+    }
+
+    /// What may stand right before a word of a line, but for `Front` and `Anything`, which may stand before each.
+    fn before(self) -> &'static [Spot]
+        ensures { result.now ≡ spec.before self }
+    {
+        match self {
+            Nobody | Task | Handler => &[Processor],
+            Object => &[WaitsFor],
+            Timer | Return | Begun | BegunTold | Called | CalledTold => &[Nobody, Task, Handler],
+            Argument | LastArgument => &[Begun, BegunSome, BegunTold],
+            Taken => &[Timer],
+            Accepted => &[Return, Called, CalledSome],
+            Told => &[CalledSome, CalledTold],
+            Answer => &[Return, Called, CalledSome, CalledTold],
+            Release | Lost => &[Taken, Accepted, Told, Answer, Release],
+            Run => &[Processor, Taken, Accepted, Told, Answer, Release, Lost],
+            Requests => &[Taken, Accepted, Told, Answer, Release, Lost, Run],
+            Ready => &[Run],
+            Locked => &[Run, Ready],
+            Disabled => &[Run, Ready, Locked],
+            Latch => &[Run, Ready, Locked, Disabled],
+            Due => &[Run, Ready, Locked, Disabled, Latch],
+            Suspended => &[Task],
+            Waits => &[Task, Suspended],
+            Sleep | WaitsFor => &[Waits],
+            Left => &[Handler, Sleep, Object],
+            Priority => &[Task, Suspended, Sleep, Object, Left],
+            Activated => &[Task, Suspended, Sleep, Object, Left, Priority],
+            Wakeups => &[Task, Suspended, Sleep, Object, Left, Priority, Activated],
+            Fact => &[Object],
+            Stopped => &[Handler],
+            Held => &[Lock],
+            _ => &[],
+        }
+    }
+
+    /// Whether it is a number alone.
+    pub fn is_number(self) -> bool
+        ensures { result ≡ spec.is_number self }
+    {
+        matches!(self, Number)
+    }
+
+    /// Whether this is one of some.
+    fn is_among(self, spots: &[Spot]) -> bool
+        ensures { result ≡ list_any (λ s. spec.number s == spec.number self) spots.now }
+    {
+        spots.iter().any(|spot| spot.number() == self.number())
+    }
+
+    /// Whether a word may stand behind this one.
+    #[tactic(auto, unfolding(crate::specs::Spots::may_follow))]
+    fn may_precede(self, next: Spot) -> bool
+        ensures { result ≡ spec.may_follow self next }
+    {
+        match (self, next) {
+            (Front, _) => true,
+            (Number | Whole, _) | (Anything, Number) => false,
+            (_, Anything) | (Anything, _) => true,
+            _ => self.is_among(next.before()),
+        }
+    }
+
+    /// Where the words so far end with a word more: an argument belongs to the call that begins before it.
+    fn ended_by(self, next: Spot) -> Spot
+        ensures { result ≡ spec.ended_by self next }
+    {
+        match (self, next) {
+            (Begun, Argument) => Begun,
+            (BegunTold, Argument) => BegunTold,
+            (_, Argument) => BegunSome,
+            (Begun, LastArgument) => Called,
+            (BegunTold, LastArgument) => CalledTold,
+            (_, LastArgument) => CalledSome,
+            (_, next) => next,
+        }
+    }
+
+    /// Where the words so far end with a word more. None where it may not stand there, and without one.
+    pub fn step(self, next: Option<Spot>) -> Option<Spot>
+        ensures { result ≡ spec.stepped self next }
+    {
+        match next {
+            Some(next) if self.may_precede(next) => Some(self.ended_by(next)),
+            _ => None,
+        }
+    }
+}
