@@ -2,13 +2,16 @@
 # is what `rt run` leaves in crates/fmpsim, or ./test.sh, or `make unproved`.
 #
 #     make unproved
+#     make library            out/libfmp.a, the machine in process (docs/HOST.md): what is not proved yet is proved first
 #     make install PREFIX=$HOME/.local [PROGRAM=out/fmpsim-unproved]
 #     make uninstall PREFIX=$HOME/.local
 
 PREFIX = /usr/local
 PROGRAM = crates/fmpsim/out/fmpsim
 UNPROVED = out/fmpsim-unproved
+LIBRARY = out/libfmp.a
 INSTALL = install
+AR = ar
 
 bin = $(DESTDIR)$(PREFIX)/bin
 share = $(DESTDIR)$(PREFIX)/share
@@ -17,21 +20,34 @@ manual = $(share)/man/man1/fmpsim.1
 bash = $(share)/bash-completion/completions/fmpsim
 zsh = $(share)/zsh/site-functions/_fmpsim
 fish = $(share)/fish/vendor_completions.d/fmpsim.fish
+header = $(DESTDIR)$(PREFIX)/include/fmp.h
+library = $(DESTDIR)$(PREFIX)/lib/libfmp.a
 
 # What stands below share/fmpsim as it stands here, so that the links from page to page and to the examples hold there too. Each tool is also
 # a command, fmpsim-from-toppers and so on.
 own = $(share)/fmpsim
 tools = from-toppers from-log from-trace run-list
 pages = GUIDE.md HOST.md FORMATS.md PROFILE.md DECISIONS.md view.png wave.png
-files = LICENSE $(tools:%=tools/%) tools/c_numbers.py $(pages:%=docs/%) host/README.md host/fmphost.mk \
+files = LICENSE include/fmp.h $(tools:%=tools/%) tools/c_numbers.py $(pages:%=docs/%) host/README.md host/fmphost.mk \
     $(shell find tools/toppers-stub docs/formats examples host/include host/src host/gen host/programs -type f)
 
-.PHONY: unproved install uninstall
+.PHONY: unproved library install uninstall
 
 unproved:
 	@tests/unproved '$(UNPROVED)'
 	@echo 'to install it: make install PROGRAM=$(UNPROVED)'
 
+# One archive: what rt made of the crate fmp_c, and the kit's three functions that call malloc, realloc and free.
+library:
+	@cd crates/fmp_c && rt lib
+	@mkdir -p '$(dir $(LIBRARY))'
+	@rm -rf '$(LIBRARY)' '$(LIBRARY).parts' && mkdir '$(LIBRARY).parts'
+	@kit=$$(dirname "$$(dirname "$$(realpath "$$(command -v rt)")")") && from=$$PWD && cd '$(LIBRARY).parts' && \
+	    $(AR) x "$$from/crates/fmp_c/out/libfmp_c.a" && $(AR) x "$$kit/c/liblibc_c.a"
+	@$(AR) rc '$(LIBRARY)' '$(LIBRARY).parts'/*.o && rm -rf '$(LIBRARY).parts'
+	@echo 'the library: $(LIBRARY), with include/fmp.h'
+
+# The library is installed where there is one.
 install:
 	@test -x '$(PROGRAM)' || { echo 'there is no program $(PROGRAM): rt run in crates/fmpsim builds one; make unproved one without a proof, $(UNPROVED)' >&2; exit 1; }
 	$(INSTALL) -D -m 755 '$(PROGRAM)' '$(program)'
@@ -39,6 +55,7 @@ install:
 	$(INSTALL) -D -m 644 completions/fmpsim.bash '$(bash)'
 	$(INSTALL) -D -m 644 completions/_fmpsim '$(zsh)'
 	$(INSTALL) -D -m 644 completions/fmpsim.fish '$(fish)'
+	@test ! -e '$(LIBRARY)' || { $(INSTALL) -D -m 644 '$(LIBRARY)' '$(library)' && $(INSTALL) -D -m 644 include/fmp.h '$(header)'; }
 	@echo 'the tools, the pages and the examples: $(own)'
 	@for file in $(files); do \
 	    mode=644; test ! -x "$$file" || mode=755; \
@@ -49,7 +66,7 @@ install:
 
 # Files that this version does not know stay, and their folders.
 uninstall:
-	rm -f '$(program)' '$(manual)' '$(bash)' '$(zsh)' '$(fish)'
+	rm -f '$(program)' '$(manual)' '$(bash)' '$(zsh)' '$(fish)' '$(header)' '$(library)'
 	@for tool in $(tools); do rm -f '$(bin)'/"fmpsim-$$tool"; done
 	rm -f '$(bin)/fmphost-cfg'
 	@for file in $(files); do rm -f '$(own)'/"$$file"; done

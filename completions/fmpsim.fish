@@ -54,6 +54,7 @@ complete -c fmpsim -n '__fish_seen_subcommand_from explore' -l context -d 'Shows
 complete -c fmpsim -n '__fish_seen_subcommand_from explore' -l help -d 'Print help'
 complete -c fmpsim -n __fish_use_subcommand -f -a shrink -d 'Leaves out the events that are not needed to show something'
 complete -c fmpsim -n '__fish_seen_subcommand_from shrink' -l find -x -d 'What the answers to the events have to show'
+complete -c fmpsim -n '__fish_seen_subcommand_from shrink' -l runs -d 'Keep each task'\''s and each handler'\''s own order of calls'
 complete -c fmpsim -n '__fish_seen_subcommand_from shrink' -l context -d 'Shows below a fault its line, its place and what is expected there; at a terminal by itself, unless there is --no-context'
 complete -c fmpsim -n '__fish_seen_subcommand_from shrink' -l help -d 'Print help'
 complete -c fmpsim -n __fish_use_subcommand -f -a list -d 'Lists the calls, statements and faults, or what a configuration says'

@@ -18,18 +18,21 @@ FMPHOST_RUN ?= $(FMPHOST_OUT)/run
 FMPHOST_LIBRARY ?= $(FMPHOST_OUT)/libfmphost.a
 fmphost_room := $(dir $(FMPHOST_LIBRARY))parts
 FMPSIM ?= fmpsim
+# the library fmp, libfmp.a: then the kernel is in the program; else it is fmpsim behind two pipes
+FMPHOST_FMP ?=
 LD ?= ld
 OBJCOPY ?= objcopy
 
 fmphost_clang := $(findstring clang,$(shell $(CC) --version 2>/dev/null))
 fmphost_c := $(CC) -std=gnu11 -g -MMD -MP -I'$(FMPHOST)/include' -I'$(FMPHOST_OUT)'
 # The hooks have C's types, which are not those that gcc knows of its sanitizers.
-fmphost_own := -O2 -fvisibility=hidden -Wall -Wextra $(if $(fmphost_clang),,-Wno-builtin-declaration-mismatch)
+fmphost_own := -I'$(FMPHOST)/../include' -O2 -fvisibility=hidden -Wall -Wextra $(if $(fmphost_clang),,-Wno-builtin-declaration-mismatch)
 # Each access calls a hook, each line is its own (-O0), and a call's place is that of its caller.
 fmphost_seen := -O0 -fno-optimize-sibling-calls -fsanitize=thread \
     $(if $(fmphost_clang),-mllvm -tsan-distinguish-volatile=1 -mllvm -tsan-instrument-read-before-write=1,--param tsan-distinguish-volatile=1)
 fmphost_objects := $(patsubst %.c,$(FMPHOST_OUT)/%.o,$(notdir $(FMPHOST_SOURCES)))
-fmphost_parts := $(patsubst $(FMPHOST)/src/%.c,$(fmphost_room)/%.o,$(wildcard $(FMPHOST)/src/*.c))
+fmphost_kernel := $(if $(FMPHOST_FMP),pipes,in_process)
+fmphost_parts := $(patsubst $(FMPHOST)/src/%.c,$(fmphost_room)/%.o,$(filter-out %/$(fmphost_kernel).c,$(wildcard $(FMPHOST)/src/*.c)))
 vpath %.c $(sort $(dir $(FMPHOST_SOURCES)))
 
 .PHONY: fmphost
@@ -56,8 +59,8 @@ endif
 # One object whose own names are hidden, so that a program may have a function `run` or a variable `state`; and its code in a section of its
 # own, so that a crash in it is known to be that of the access for which it was called. Its copies of memory are no accesses of the program.
 fmphost_real := $(foreach name,memcpy memmove memset,--redefine-sym $(name)=__real_$(name))
-$(FMPHOST_LIBRARY): $(fmphost_parts)
-	$(LD) -r -o $(fmphost_room)/all.o $^
+$(FMPHOST_LIBRARY): $(fmphost_parts) $(FMPHOST_FMP)
+	$(LD) -r -o $(fmphost_room)/all.o $(fmphost_parts) $(if $(FMPHOST_FMP),--whole-archive $(FMPHOST_FMP) --no-whole-archive)
 	$(OBJCOPY) --localize-hidden --rename-section .text=fmphost_text,alloc,load,readonly,code,contents $(fmphost_real) $(fmphost_room)/all.o
 	rm -f $@ && $(AR) rc $@ $(fmphost_room)/all.o
 $(fmphost_parts): $(fmphost_room)/%.o: $(FMPHOST)/src/%.c

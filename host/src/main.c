@@ -3,6 +3,7 @@
 #include "memory.h"
 #include "options.h"
 #include "outcome.h"
+#include "machine.h"
 #include "places.h"
 #include "process.h"
 #include "report.h"
@@ -40,5 +41,6 @@ __attribute__((visibility("default"))) int main(int count, char **words) {
     search_make();
     report_make();
     proved_check(options.fmpsim, options.configuration);
+    machine_prepare(options.fmpsim, options.configuration);
     return options.mode == BY_REPLAY ? play_file() : options.mode == BY_PLACES ? play_places() : options.mode == BY_SEEDS ? play_seeds() : play_orders();
 }

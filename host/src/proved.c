@@ -1,28 +1,20 @@
 #define _GNU_SOURCE
 #include "proved.h"
+#include "machine.h"
 #include "outcome.h"
 #include "process.h"
 #include <errno.h>
-#include <fcntl.h>
-#include <spawn.h>
 #include <stdio.h>
 #include <stdlib.h>
 #include <string.h>
 #include <sys/wait.h>
-#include <unistd.h>
 
-extern char **environ;
 char *trace_text;
 long trace_length, answers;
 struct kept_answers *kept;
 
-static int to_kernel, from_kernel;
-static pid_t kernel;            /* 0 until it is needed */
-static const char *kernel_program, *kernel_configuration;
-static char unsent[1 << 15];    /* events whose answers are known from the run before, and are not asked for yet */
-static long unsent_length, unread;
-static char heard[1 << 16];
-static long heard_from, heard_to;
+static const char *kernel_program;
+static long unread; /* answers that were known from the run before, and are not passed over yet */
 
 /* --- another use of fmpsim: what it writes on these words --- */
 
@@ -73,70 +65,13 @@ void proved_check(const char *program, const char *configuration) {
     free(listed);
 }
 
-/* --- the pipes --- */
-
-static void start_kernel(void) {
-    int there[2], back[2];
-    char *arguments[] = {(char *)kernel_program, "calls", "--state", "--color=never", (char *)kernel_configuration, "-", NULL};
-    posix_spawn_file_actions_t actions;
-    if (pipe2(there, O_CLOEXEC) != 0 || pipe2(back, O_CLOEXEC) != 0)
-        give_up("no pipe to fmpsim");
-    posix_spawn_file_actions_init(&actions);
-    posix_spawn_file_actions_adddup2(&actions, there[0], 0);
-    posix_spawn_file_actions_adddup2(&actions, back[1], 1);
-    if (posix_spawnp(&kernel, kernel_program, &actions, NULL, arguments, environ) != 0)
-        give_up("fmpsim is not found (%s): name it with --fmpsim or FMPSIM", kernel_program);
-    posix_spawn_file_actions_destroy(&actions);
-    close(there[0]);
-    close(back[1]);
-    to_kernel = there[1];
-    from_kernel = back[0];
-}
-
-static const char *hear(void) { /* one line, ended by a zero in place of its line feed */
-    for (;;) {
-        char *end = memchr(heard + heard_from, '\n', (size_t)(heard_to - heard_from));
-        if (end != NULL) {
-            const char *line = heard + heard_from;
-            *end = '\0';
-            heard_from = end + 1 - heard;
-            return line;
-        }
-        memmove(heard, heard + heard_from, (size_t)(heard_to - heard_from));
-        heard_to -= heard_from;
-        heard_from = 0;
-        if (heard_to == sizeof heard)
-            give_up("fmpsim writes a line that is too long");
-        ssize_t got = read(from_kernel, heard + heard_to, sizeof heard - (size_t)heard_to);
-        if (got == 0 || (got < 0 && errno != EINTR))
-            give_up("fmpsim has ended before the run: what it told stands above");
-        if (got > 0)
-            heard_to += got;
-    }
-}
-
-static void send_all(void) {
-    for (long sent = 0; sent < unsent_length;) {
-        ssize_t wrote = write(to_kernel, unsent + sent, (size_t)(unsent_length - sent));
-        if (wrote < 0 && errno != EINTR)
-            give_up("fmpsim has ended before the run: what it told stands above");
-        if (wrote > 0)
-            sent += wrote;
-    }
-    unsent_length = 0;
-}
-
-/* Passes over the answers to events whose answers were known. The kernel is started when there is the first that is not. */
-static void catch_up(void) {
-    if (kernel == 0)
-        start_kernel();
-    send_all();
-    for (; unread > 0; unread--)
-        while (strcmp(hear(), "  end") != 0)
-            ;
-}
-
 /* --- answers, heard or kept --- */
+
+/* Passes over the answers to events whose answers were known. */
+static void catch_up(void) {
+    machine_skip(unread);
+    unread = 0;
+}
 
 static void keep(const char *line) {
     size_t length = strlen(line);
@@ -186,7 +121,7 @@ static void take_heard(struct answer *answer, bool boot) {
     if (boot)
         state_begin();
     for (;;) {
-        const char *line = hear();
+        const char *line = machine_hear();
         keep(line);
         if (!strcmp(line, "  end"))
             return;
@@ -218,18 +153,16 @@ static void next_answer(struct answer *answer, uint64_t event) {
 
 const struct answer *proved_event(int processor, const char *event) {
     static struct answer answer;
-    if (unsent_length > (long)sizeof unsent - 512)
+    char line[GREATEST_EVENT];
+    int length = snprintf(line, sizeof line, "P%d %s\n", processor, event);
+    uint64_t asked = hash_text(line, line + length);
+    if (machine_ask(line, length) > MACHINE_WAITS - GREATEST_EVENT)
         catch_up();
-    int length = snprintf(unsent + unsent_length, sizeof unsent - (size_t)unsent_length, "P%d %s\n", processor, event);
-    uint64_t asked = hash_text(unsent + unsent_length, unsent + unsent_length + length);
-    unsent_length += length;
     next_answer(&answer, asked);
     return &answer;
 }
 
-void proved_start(const char *program, const char *configuration) {
-    kernel_program = program;
-    kernel_configuration = configuration;
+void proved_start(void) {
     if (kept->valid < kept->count)
         kept->used = kept->at[kept->valid];
     struct answer none;
@@ -237,10 +170,5 @@ void proved_start(const char *program, const char *configuration) {
 }
 
 void proved_stop(void) {
-    if (kernel == 0)
-        return;
-    close(to_kernel);
-    close(from_kernel);
-    int status;
-    waitpid(kernel, &status, 0);
+    machine_stop();
 }

@@ -1,4 +1,4 @@
-/* The proved kernel behind two pipes: `fmpsim calls --state CFG -`. An event goes in, its record and the state after it come out. */
+/* The proved kernel (machine.h): an event goes in, its record and the state after it come out. */
 #ifndef PROVED_H
 #define PROVED_H
 #include "fmphost_cfg.h"
@@ -42,7 +42,7 @@ extern long trace_length;
 extern long answers;               /* how many came so far, that at boot among them */
 
 void proved_check(const char *program, const char *configuration); /* gives up where kernel_cfg.c was made of something else */
-void proved_start(const char *program, const char *configuration);
+void proved_start(void);
 void proved_stop(void);
 const struct answer *proved_event(int processor, const char *event);
 int object_of(int kind, int number);

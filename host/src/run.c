@@ -246,7 +246,7 @@ static bool only_ticks(uint32_t may) {
 
 void run(chooser *choose) {
     alarm((unsigned)options.seconds);
-    proved_start(options.fmpsim, options.configuration);
+    proved_start();
     ticks_began = ticks_from_boot || something_counts();
     learned->timed |= ticks_began;
     outcome->turns = 0;

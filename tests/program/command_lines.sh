@@ -67,6 +67,9 @@ refused_lines() {
 	shrink machine.cfg --find end
 	shrink machine.cfg events.txt events.txt --find end
 	shrink machine.cfg events.txt --find end --find end
+	shrink machine.cfg events.txt --runs
+	shrink machine.cfg events.txt --find end --runs --runs
+	calls --runs machine.cfg events.txt
 	explore machine.cfg scripts.txt
 	explore machine.cfg scripts.txt --ticks 1 --turns 1
 	explore machine.cfg scripts.txt --ticks any --find end

@@ -46,6 +46,8 @@ run() {
     play "${@:4}"
     ended=$?
     [ "$ended" = "$1" ] || { well=no && echo "status $ended in place of $1"; }
+    # how many places a search went through is compared only where that is told
+    grep -q '; lines to the farthest: ' "$3" || sed -i '/; lines to the farthest: /d' errors
     diff "$2" output || well=no
     diff "$3" errors || well=no
     count "$well" "${@:4}"

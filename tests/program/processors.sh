@@ -355,12 +355,16 @@ others_at_limits() {
 # Searches by the scripts, and the last seeds there are. The first call of the first task polls the second semaphore, and each call names
 # an object that is there.
 searches_at_limits() {
-    local words=(limits.cfg limits.txt --ticks 1) last=18446744073709551615 seed name task line
+    local words=(limits.cfg limits.txt --ticks 1) last=18446744073709551615 seed name task line well=no
     named T 1
     task=$name
     named S 2
     echo "1 P1 $task pol_sem($name) E_OK" > first.txt
-    run 6 "$(as_file echo not within 1)" /dev/null explore "${words[@]}" --turns 1 --find E_ID
+    # within one line a script comes to its first call at most: how many places there are, the next eight calls of one script, and how many more
+    play explore "${words[@]}" --turns 1 --find E_ID
+    [ $? = 6 ] && [ "$(cat output)" = 'not within 1' ] && [ "$(wc -l < errors)" = 10 ] &&
+        [ "$(grep -cE '^fmpsim: question: no order of at most 1 lines makes call [2-9] of ' errors)" = 8 ] && well=yes
+    count "$well" explore "${words[@]}" --turns 1 --find E_ID
     run 5 first.txt /dev/null explore "${words[@]}" --turns 1 --find "$task pol_sem($name) E_OK"
     run 6 "$(as_file echo not within 2)" /dev/null explore "${words[@]}" --turns 2 --find E_ID --from first.txt
     run 0 /dev/null /dev/null smp "${words[@]}" --turns 2000 --seeds 18446744073709551614..$last --find E_ID

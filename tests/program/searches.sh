@@ -34,7 +34,7 @@ searches() {
 }
 
 # asks FOLDER: each question of the folder is answered as its line says: those of questions.txt about scripts.txt, and those of NAME-questions.txt
-# about NAME.txt. A line has the answer, the options, and what is told beside `never`.
+# about NAME.txt. A line has the answer, the options, and what is said beside `never` and `not within`, but for the number of places.
 asks() {
     local file scripts
     for file in "$1"/*questions.txt; do
@@ -44,7 +44,7 @@ asks() {
     done
 }
 
-# lines_beside LINES: the path of a file with what is told beside `never`, where a `|` is between two lines.
+# lines_beside LINES: the path of a file with what is said beside `never` and `not within`, where a `|` is between two lines.
 lines_beside() {
     tr '|' '\n' <<< "$1" | sed '/^$/d; s/^/fmpsim: question: /' | as_file
 }
@@ -57,7 +57,7 @@ asks_of() {
         words=(explore "$1/machine.cfg" "$2" "${options[@]}")
         case $right in
             never) run 0 "$(as_file echo never)" "$(lines_beside "$beside")" "${words[@]}" ;;
-            not\ within\ *) run 6 "$(as_file echo "$right")" /dev/null "${words[@]}" ;;
+            not\ within\ *) run 6 "$(as_file echo "$right")" "$(lines_beside "$beside")" "${words[@]}" ;;
             *.txt)
                 errors=$1/${right%.txt}.errors
                 [ -e "$errors" ] || errors=/dev/null
@@ -100,12 +100,21 @@ has_places() {
     are_places "$2" "$top/examples/$1/machine.cfg" "$top/examples/$1/scripts.txt" "${@:3}" "${question[@]}"
 }
 
+# Nothing is on standard error but what is said beside an answer.
+is_beside() {
+    ! grep -qv '^fmpsim: question: ' errors
+}
+
 # are_places N WORD..: a search that shows nothing goes through so many places: there is room for all of them, and with one place less there is not.
 are_places() {
     local well=no
     run 0 "$(as_file echo never)" /dev/null explore "${@:2}" --places "$1"
+    play explore "${@:2}" --places "$1"
+    grep -q "^fmpsim: question: places gone through: $1, all there are; lines to the farthest: [0-9]*\$" errors && well=yes
+    count "$well" explore "${@:2}" --places "$1" '# tells how many places'
+    well=no
     play explore "${@:2}" --places $(($1 - 1))
-    [ $? = 6 ] && [ ! -s errors ] && grep -qxE 'not within [0-9]+' output && well=yes
+    [ $? = 6 ] && is_beside && grep -qxE 'not within [0-9]+' output && well=yes
     count "$well" explore "${@:2}" --places $(($1 - 1))
 }
 
@@ -187,7 +196,8 @@ leaves_traces() {
     local folder=$top/examples/explore-lock-order words file
     words=(explore "$folder/machine.cfg" "$folder/scripts.txt" --ticks 0 --find)
     rm -rf layer
-    run 6 "$(as_file echo not within 2)" /dev/null "${words[@]}" 'end & waits sem' --turns 2 --layer layer
+    run 6 "$(as_file echo not within 2)" "$(as_file printf 'fmpsim: question: no order of at most 2 lines makes call %s\n' '3 of reader: sig_sem(BUFFER)' \
+        '4 of reader: sig_sem(FLASH)' '3 of writer: sig_sem(FLASH)' '4 of writer: sig_sem(BUFFER)')" "${words[@]}" 'end & waits sem' --turns 2 --layer layer
     # each task has both semaphores, or each has one
     left_traces layer 3 '1 P1 READER wai_sem(FLASH) E_OK' '2 P1 READER wai_sem(BUFFER) E_OK'
     left_traces layer 3 '1 P1 READER wai_sem(FLASH) E_OK' '2 P2 WRITER wai_sem(BUFFER) E_OK'
@@ -265,7 +275,7 @@ takes_each_word() {
         sdtq rdtq mpf 'left=*' stopped 'pri=*' 'act=*' 'wup=*' 'count=*' 'pattern=*' 'values=*' 'free=*' 'held=*' end '*(TSK_SELF*' '*TWF_ANDW*' '*TWF_ORW*'; do
         play explore "$spin/machine.cfg" "$spin/scripts.txt" --ticks 0 --turns 2 --find "$word"
         case $? in
-            0 | 5 | 6) [ ! -s errors ] && count yes explore --find "$word" || count no explore --find "$word" ;;
+            0 | 5 | 6) is_beside && count yes explore --find "$word" || count no explore --find "$word" ;;
             *) count no explore --find "$word" ;;
         esac
     done
@@ -357,7 +367,7 @@ ends_in_time() {
         : > output
         play "${words[@]}" --find "$option"
         [ $? = 6 ] && lines=$(sed -n 's/^not within \([0-9]*\)$/\1/p' output) && [ "$(wc -l < output)" = 1 ] && [ "${lines:-1000000}" -lt 1000000 ] \
-            && [ ! -s errors ] && [ $((SECONDS - begun)) -ge 1 ] && [ $((SECONDS - begun)) -lt 60 ] && well=yes
+            && is_beside && [ $((SECONDS - begun)) -ge 1 ] && [ $((SECONDS - begun)) -lt 60 ] && well=yes
         count "$well" "${words[@]}" --find "$option"
     done
     # of what stays for ever, from a trace, and with a folder for the traces to go on from, of which there are none then

@@ -4,6 +4,9 @@ shrinking() {
     local folder=$top/examples/shrink-timeout
     local cfg=$folder/machine.cfg late='rel=WORKER:E_TMOUT' silent
     run 0 "$folder/left.txt" /dev/null shrink "$cfg" "$folder/events.txt" --find "$late"
+    # there each task makes its own calls as it is
+    run 0 "$folder/left.txt" /dev/null shrink "$cfg" "$folder/events.txt" --find "$late" --runs
+    kept_runs
     none_can_go "$cfg" "$folder/left.txt" "$late"
     # of 1,257 events six are left, within a second of processor time on the proved program
     noise 1251 "$folder/left.txt" > many.txt
@@ -35,6 +38,37 @@ shrinking() {
     unread shrink missing "$folder/events.txt" --find end
     unread shrink "$cfg" missing --find end
     unwritten shrink "$cfg" "$folder/events.txt" --find "$late"
+}
+
+# With --runs each task and handler makes only calls that it makes in the answers to the whole list, in its own order of them.
+kept_runs() {
+    printf '%s\n' 'PROCESSORS(2);' 'DEF_CLASS(C1, 1, {1});' 'DEF_CLASS(C2, 2, {2});' 'CLASS(C1) {' \
+        'CRE_TSK(HIGH, {TA_NULL, 0, high, 5, 4096, NULL});' 'CRE_TSK(LOW, {TA_ACT, 0, low, 10, 4096, NULL});' 'CRE_SEM(GATE, {TA_NULL, 0, 9});' \
+        'CRE_CYC(ISR, {TA_STA, 0, isr, 2147483647, 0});' '}' 'CLASS(C2) {' 'CRE_TSK(FAR, {TA_NULL, 0, far, 5, 4096, NULL});' '}' > runs.cfg
+    # HIGH makes the one call, and LOW the other: without act_tsk(HIGH) the first would be LOW's, which makes no such call
+    printf 'P1 act_tsk(HIGH)\nP1 sig_sem(GATE)\nP1 ext_tsk()\nP1 pol_sem(GATE)\n' > runs.txt
+    left_of runs.txt 'sig_sem(GATE) E_OK' 'P1 sig_sem(GATE)\n' 'P1 act_tsk(HIGH)\nP1 sig_sem(GATE)\n'
+    # without ext_tsk() the last call would be HIGH's
+    left_of runs.txt 'pol_sem(GATE) E_OK' 'P1 sig_sem(GATE)\nP1 pol_sem(GATE)\n' 'P1 act_tsk(HIGH)\nP1 sig_sem(GATE)\nP1 ext_tsk()\nP1 pol_sem(GATE)\n'
+    # LOW makes both calls, but the other way round: its own order counts, and how often it makes each
+    printf 'P1 get_tid()\nP1 act_tsk(HIGH)\nP1 sig_sem(GATE)\nP1 get_tid()\nP1 ext_tsk()\nP1 sig_sem(GATE)\n' > runs.txt
+    left_of runs.txt 'sig_sem(GATE) * then get_tid() *' 'P1 sig_sem(GATE)\nP1 get_tid()\n' 'P1 act_tsk(HIGH)\nP1 sig_sem(GATE)\nP1 get_tid()\n'
+    # a handler is a runner like a task: without the tick its call would be LOW's
+    printf 'P1 tick\nP1 isig_sem(GATE)\nP1 ret_hdr\nP1 pol_sem(GATE)\n' > runs.txt
+    left_of runs.txt 'isig_sem(GATE) *' 'P1 isig_sem(GATE)\n' 'P1 tick\nP1 isig_sem(GATE)\n'
+    # arguments are a part of the call
+    printf 'P1 wup_tsk(LOW)\nP1 act_tsk(HIGH)\nP1 wup_tsk(HIGH)\n' > runs.txt
+    left_of runs.txt 'wup_tsk(HIGH) *' 'P1 wup_tsk(HIGH)\n' 'P1 act_tsk(HIGH)\nP1 wup_tsk(HIGH)\n'
+    # a call that nobody makes any more is no other task's
+    printf 'P1 act_tsk(FAR)\nP2 ipi\nP2 get_tid()\n' > runs.txt
+    left_of runs.txt 'get_tid() *' 'P2 get_tid()\n' 'P2 get_tid()\n'
+    run 5 /dev/null "$(as_file echo 'fmpsim: runs.txt: the answers to these events do not show it')" shrink runs.cfg runs.txt --find 'act_tsk(FAR) E_QOVR' --runs
+}
+
+# left_of EVENTS QUESTION LINES LINES: what is left without --runs, and with it.
+left_of() {
+    run 0 "$(as_file printf '%b' "$3")" /dev/null shrink runs.cfg "$1" --find "$2"
+    run 0 "$(as_file printf '%b' "$4")" /dev/null shrink runs.cfg "$1" --find "$2" --runs
 }
 
 # noise N FILE: N events that change nothing for WORKER, and those of a file, one behind each hundred.

@@ -31,7 +31,7 @@ pub fn shrink<R: Source, S: Source, W: Sink>(
     // Both texts were read to their ends, and what is written are the events that are left. None of it is held back.
     ensures shrunk { IsKnown (R.left config.old) → IsKnown (S.left events.old) → IsKnown (W.written output.old)
         → IfOk result (λ status. (finding : AnyShrinking) × (status ≡ spec.status_of finding)
-        × IsShrunkOut (bytes_of (R.left config.old)) (bytes_of (S.left events.old)) request.now.question.now (bytes_of (W.written output.old))
+        × IsShrunkOut (bytes_of (R.left config.old)) (bytes_of (S.left events.old)) request.now.question.now request.now.runs (bytes_of (W.written output.old))
         (bytes_of (W.written output.new)) finding) }
     ensures known { IsKnown (W.written output.old) → IsKnown (W.written output.new) }
     ensures passed { OnOk result (W.buffered output.new ≡ []) }
@@ -46,7 +46,7 @@ pub fn shrink<R: Source, S: Source, W: Sink>(
 
     // After a failed write or flush a beginning of what is left is out, and after any other fault nothing is.
     ensures write { IsKnown (R.left config.old) → IsKnown (S.left events.old) → IsKnown (W.written output.old) → (result ≡ Err (ExploreFault.Run RunFault.Write))
-        → IsBegun (bytes_of (R.left config.old)) (bytes_of (S.left events.old)) request.now.question.now (bytes_of (W.written output.old))
+        → IsBegun (bytes_of (R.left config.old)) (bytes_of (S.left events.old)) request.now.question.now request.now.runs (bytes_of (W.written output.old))
         (bytes_of (W.written output.new)) }
     ensures unwritten { IsKnown (W.written output.old)
         → IfErr result (λ fault. fault ≢ ExploreFault.Run RunFault.Write → bytes_of (W.written output.new) ≡ bytes_of (W.written output.old)) }
@@ -58,7 +58,8 @@ pub fn shrink<R: Source, S: Source, W: Sink>(
     ensures reads { CountsReads (faults.as_run result) (R.failures config.old) (R.failures config.new) (S.failures events.old) (S.failures events.new) }
     ensures writes { W.failures output.new ≡ W.failures output.old + (if failed_write (faults.as_run result) then 1 else 0) }
 {
-    match run_shrink(alloc, config, events, output, request.question.as_bytes()) {
+    let question = request.question.as_bytes();
+    match run_shrink(alloc, config, events, output, question, request.runs) {
         Ok(finding) => Ok(finding.status()),
         Err(fault) => Err(fault),
     }

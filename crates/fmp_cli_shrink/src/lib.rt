@@ -30,6 +30,10 @@ Events are left out for as long as what is left still shows it: many in a row at
 last one by one. On standard output is a list of events, in the order in which they were given,
 of which no single one can go. `fmpsim calls CFG -` answers it.
 
+A call is made by whoever runs at its line, so without an event that stood before it another task
+may make it. With `--runs` each task and handler makes only calls that it makes where all EVENTS
+are given, in its own order of them.
+
 Exit status:
   0  done: the events that are left were written
   1  a fault in a text or in the question, reported on standard error with its place
@@ -53,6 +57,11 @@ const PARTS: &[Part<'static>] = &[
         form: Form::Wanted("QUESTION"),
         about: "What the answers to the events have to show",
     },
+    Part {
+        id: "runs",
+        form: Form::Flag,
+        about: "Keep each task's and each handler's own order of calls",
+    },
     CONTEXT_PART,
 ];
 
@@ -64,6 +73,8 @@ pub struct ShrinkRequest<'a> {
     /// The path of the events.
     pub events: &'a str,
     pub question: &'a str,
+    /// Whether each task and handler keeps its own order of calls.
+    pub runs: bool,
     /// Whether what stands beside a fault is to be shown.
     pub context: bool,
 }
@@ -82,11 +93,13 @@ fn request_of<'a>(matches: &ArgMatches<'a>) -> ShrinkRequest<'a>
     let config = text_in(matches, "CFG");
     let events = text_in(matches, "EVENTS");
     let question = text_in(matches, "find");
+    let runs = flag_in(matches, "runs");
     let context = flag_in(matches, "context");
     ShrinkRequest {
         config,
         events,
         question,
+        runs,
         context,
     }
 }

@@ -10,7 +10,7 @@ ghost use Rattle.fmp_law_safety.specs.Laws.{FindsNothing, TakesRequest, RunsTop}
 use fmp_codes::{Answer, Event, Record};
 use fmp_plain_machine::PlainMachine;
 use fmp_rules::Config;
-use fmp_step::{boot, step_into};
+use fmp_step::{boot, step_told};
 use std::alloc::AllocError;
 use std::marker::Model;
 
@@ -71,8 +71,23 @@ impl Plain {
         ensures taken { TakesRequest self.old.state event told.new self.new.state }
         ensures top { RunsTop numbered self.old.state event told.new self.new.state }
     {
+        told.event = event;
+        self.step_told(told);
+    }
+
+    /// Plays the event that a record tells, and makes it tell what the event answers and did, whatever it told of that before.
+    pub fn step_told(&mut self, told: &mut Record)
+        requires { self.old.steps < 4294967295 }
+        ensures step { (self.new.state, told.new) ≡ step numbered self.old.state told.old.event }
+        ensures steps { self.new.steps ≡ self.old.steps + 1 }
+
+        // As of `step`.
+        ensures nothing { FindsNothing numbered self.old.state told.old.event told.new self.new.state }
+        ensures taken { TakesRequest self.old.state told.old.event told.new self.new.state }
+        ensures top { RunsTop numbered self.old.state told.old.event told.new self.new.state }
+    {
         self.steps += 1;
-        step_into(&mut self.machine, event, told);
+        step_told(&mut self.machine, told);
     }
 
     /// Its state between two events.

@@ -2,8 +2,6 @@
 use Rattle.std.proofs.Common.{◌≡◌, ℕ, zero, suc, Bool, true, false, ◌||◌, List, [], ◌∷◌, Option, None, filter, get_or, set, refl, arith}
 use Rattle.std.specs.List.{list_any}
 use Rattle.fmp_codes.specs.declared.numbers.Task.{Task}
-use Rattle.fmp_codes.specs.declared.numbers.Object.{Object}
-use Rattle.fmp_rules.specs.World.{item}
 use Rattle.fmp_rules.specs.Tick.{is_over, tasks_expired, expired}
 
 left_false : (b c : Bool) → (b || c) ≡ false → b ≡ false

@@ -43,3 +43,10 @@ abbrev pub raised : List TaskRecord → List ℕ → Task → List (Option Task)
 raised records ready t tops =
     let r = item no_task records t.number in
     if is_runnable r then slice_set tops (r.assigned.number - 1) (ahead (comes_before (priority_in records) ready) t (item None tops r.assigned.number)) else tops
+
+-- what comes first on each processor, where a task changed that came first on this one: it is looked for there, and the task may come
+-- first on another processor that it is on now
+abbrev pub looked : List TaskRecord → List ℕ → Task → Proc → List (Option Task) → List (Option Task)
+looked records ready t p tops =
+    let found = slice_set tops (p.number - 1) (top_among records ready (length records) p) in
+    if (item no_task records t.number).assigned.number == p.number then found else raised records ready t found

@@ -56,13 +56,18 @@ fn counts_for(timer: Timer, p: Proc, q: Proc) -> bool
     }
 }
 
-/// The ticks left after one more tick, of which 0 stay 0. None where nothing is counted.
-fn one_less(left: Option<u64>) -> Option<u64>
-    ensures { result ≡ one_less left }
+/// Takes one more tick off the ticks left, of which 0 stay 0, and says whether none are left. Where nothing is counted, nothing changes.
+#[inline(always)]
+fn fall(left: &mut Option<u64>) -> bool
+    ensures fallen { left.new ≡ one_less left.old }
+    ensures over { result ≡ is_over left.new }
 {
     match left {
-        None => None,
-        Some(ticks) => Some(ticks.saturating_sub(1)),
+        None => false,
+        Some(ticks) => {
+            *ticks = ticks.saturating_sub(1);
+            *ticks == 0
+        }
     }
 }
 
@@ -129,6 +134,19 @@ impl<const N: usize> Counts<N> {
         self.may_be_over = self.may_be_over || is_over(left);
     }
 
+    /// Lowers the count at a place, if there is one.
+    #[inline(always)]
+    #[tactic(auto, using(crate::proofs::Over::none_set))]
+    fn lower_at(&mut self, index: usize)
+        ensures { self.new ≡ slice_set self.old index (one_less (slice_index_or self.old index None)) }
+    {
+        let Some(left) = self.left.get_mut(index) else {
+            return;
+        };
+        let is_over = fall(left);
+        self.may_be_over = self.may_be_over || is_over;
+    }
+
     /// Looks at all counts, where one may be 0.
     fn look(&mut self)
         ensures { self.new ≡ self.old }
@@ -137,13 +155,6 @@ impl<const N: usize> Counts<N> {
             self.may_be_over = any_over(self.left.as_slice());
         }
     }
-}
-
-/// Lowers the count at a place, if there is one.
-fn lower_at<const N: usize>(counts: &mut Counts<N>, index: usize)
-    ensures { counts.new ≡ slice_set counts.old index (one_less (slice_index_or counts.old index None)) }
-{
-    counts.set(index, one_less(counts.at(index)));
 }
 
 /// Lowers the counts of what a tick on a processor counts for.
@@ -158,7 +169,7 @@ pub(crate) fn lower<T: Assigned, const N: usize>(
     counts.look();
     for (index, item) in items.iter().enumerate() {
         if counts_for(timer, p, item.assigned()) {
-            lower_at(counts, index);
+            counts.lower_at(index);
         }
     }
 }

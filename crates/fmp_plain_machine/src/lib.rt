@@ -14,6 +14,7 @@ mod counts;
 mod data_queue;
 mod data_queues;
 mod due;
+mod firsts;
 mod groups;
 mod handlers;
 mod kept;

@@ -1,17 +1,19 @@
 //! The records of the tasks, and what comes first on each processor.
-ghost use Rattle.std.specs.Prelude.{◌≡◌, ◌≤◌, ◌-◌, false, IsTrue, None, length, map, slice_index_or};
+ghost use Rattle.std.specs.Prelude.{◌≡◌, ◌≤◌, ◌==◌, ◌&&◌, false, IsTrue, None, length, map};
 ghost use Rattle.fmp_rules.specs.Ordering.{is_runnable};
 ghost use Rattle.fmp_rules.specs.Arrivals.{comes_before, priority_in};
-ghost use Rattle.fmp_rules.specs.World.{item, with_item, no_task, resting};
-ghost use Rattle.fmp_plain_machine.specs.Better.{better};
+ghost use Rattle.fmp_rules.specs.World.{item, with_item, no_task, processors_to, resting};
 ghost use Rattle.fmp_plain_machine.specs.Signs.{kind_of, place_of};
-ghost use Rattle.fmp_plain_machine.specs.Tops.{AreTops, ahead, is_task, raised, rank_of, top_among};
+ghost use Rattle.fmp_plain_machine.specs.Tops.{ahead, is_task, looked, raised, rank_of, top_among};
+ghost use Rattle.fmp_plain_machine.specs.Best.{is_behind, met};
 
+use crate::firsts::Firsts;
 use crate::kept::each;
 use crate::signs::Signs;
 use arrayvec::ArrayVec;
 use fmp_codes::{Proc, Task};
 use fmp_rules::{TaskRecord, TaskSetup};
+use fmp_step_words::Tops;
 use std::marker::Model;
 
 /// The records of the tasks, and for each when it last became ready or was put last. What comes first on each processor is looked
@@ -20,7 +22,7 @@ use std::marker::Model;
 pub(crate) struct Tasks {
     records: ArrayVec<TaskRecord, 64>,
     ready: ArrayVec<u64, 64>,
-    tops: [Option<Task>; 8],
+    tops: Firsts,
     signs: Signs,
 }
 
@@ -64,14 +66,14 @@ fn priority_of(records: &[TaskRecord], t: Task) -> u8
     }
 }
 
-/// The place of the processor of a task.
+/// The processor of a task.
 #[inline(always)]
-fn place_of(records: &[TaskRecord], t: Task) -> usize
-    ensures { result ≡ (item no_task records.now t.number).assigned.number - 1 }
+fn home_of(records: &[TaskRecord], t: Task) -> Proc
+    ensures { result ≡ (item no_task records.now t.number).assigned }
 {
     match records.get(t.index()) {
-        Some(record) => record.assigned.index(),
-        None => TaskRecord::default().assigned.index(),
+        Some(record) => record.assigned,
+        None => TaskRecord::default().assigned,
     }
 }
 
@@ -93,29 +95,36 @@ fn comes_before(records: &[TaskRecord], ready: &[u64], t: Task, u: Task) -> bool
     a < b || (a == b && number_of(ready, t) < number_of(ready, u))
 }
 
-/// The task, or the best one so far where there is one that the task does not come before.
-#[inline(always)]
-fn better(records: &[TaskRecord], ready: &[u64], t: Task, best: Option<Task>) -> Option<Task>
-    ensures { result ≡ better (comes_before (priority_in records.now) ready.now) t best }
-{
-    match best {
-        None => Some(t),
-        Some(u) => {
-            if comes_before(records, ready, t, u) {
-                Some(t)
-            } else {
-                Some(u)
-            }
-        }
-    }
+/// The task that comes first of those that were met, with its priority and when it became ready. Where none was met, these are 0.
+#[derive(Drop)]
+pub(crate) struct Best {
+    pub(crate) task: Option<Task>,
+    pub(crate) priority: u8,
+    pub(crate) number: u64,
 }
 
-/// What stands at a place, if anything.
-#[inline(always)]
-fn top_at(tops: &[Option<Task>], index: usize) -> Option<Task>
-    ensures { result ≡ slice_index_or tops.now index None }
-{
-    tops.get(index).copied().flatten()
+impl Best {
+    /// Whether a task of this priority that became ready then comes before it.
+    #[inline(always)]
+    fn is_behind(&self, priority: u8, number: u64) -> bool
+        ensures { result ≡ is_behind self.now priority number }
+    {
+        self.task.is_none()
+            || priority < self.priority
+            || (priority == self.priority && number < self.number)
+    }
+
+    /// Meets a task. The fields are written one by one, so that the walk keeps each in a register.
+    #[inline(always)]
+    fn meet(&mut self, task: Task, priority: u8, number: u64)
+        ensures { self.new ≡ met self.old task priority number }
+    {
+        if self.is_behind(priority, number) {
+            self.task = Some(task);
+            self.priority = priority;
+            self.number = number;
+        }
+    }
 }
 
 /// Whether both records say the same of what comes first: whether the task is ready, on which processor and with which priority.
@@ -128,13 +137,12 @@ fn ranks_alike(a: &TaskRecord, b: &TaskRecord) -> bool
         && a.priority.number == b.priority.number
 }
 
-/// Whether a task comes first on its processor.
+/// Whether a task comes first on a processor.
 #[inline(always)]
-fn is_top(records: &ArrayVec<TaskRecord, 64>, tops: &[Option<Task>], t: Task) -> bool
-    ensures { result ≡ is_task t (item None tops.now (item no_task records.now.items t.number).assigned.number) }
+fn is_top(tops: &Firsts, p: Proc, t: Task) -> bool
+    ensures { result ≡ is_task t (item None tops.now p.number) }
 {
-    let place = place_of(records.as_slice(), t);
-    match top_at(tops, place) {
+    match tops.at(p.index()) {
         Some(u) => u.number == t.number,
         None => false,
     }
@@ -156,49 +164,73 @@ fn ahead(records: &[TaskRecord], ready: &[u64], t: Task, best: Option<Task>) -> 
 }
 
 /// Puts a task first on its processor where it is ready and comes before what came first there.
-fn raise(records: &[TaskRecord], ready: &[u64], t: Task, tops: &mut [Option<Task>; 8])
+fn raise(records: &[TaskRecord], ready: &[u64], t: Task, tops: &mut Firsts)
     ensures { tops.new ≡ raised records.now ready.now t tops.old }
 {
     if let Some(record) = records.get(t.index()) {
         if is_runnable(record) {
             let place = record.assigned.index();
-            let best = ahead(records, ready, t, top_at(tops, place));
-            tops[place] = best;
+            let best = ahead(records, ready, t, tops.at(place));
+            tops.set(place, best);
         }
     }
 }
 
-/// What comes first on each processor, found in one walk over the tasks.
-fn tops_of(records: &[TaskRecord], ready: &[u64]) -> [Option<Task>; 8]
-    requires { length records.now ≤ 64 }
-    ensures { AreTops records.now ready.now result }
+/// Whether a task of this record is ready on a processor.
+#[inline(always)]
+fn is_ready_on(task: &TaskRecord, p: Proc) -> bool
+    ensures { result ≡ (is_runnable task.now && task.now.assigned.number == p.number) }
 {
-    let mut tops = [None; 8];
-    for (index, record) in records.iter().enumerate() {
-        if is_runnable(record) {
-            let t = Task::from_index(index);
-            let place = record.assigned.index();
-            let best = better(records, ready, t, top_at(&tops, place));
-            tops[place] = best;
-        }
-    }
-    tops
+    is_runnable(task) && task.assigned.number == p.number
 }
 
-/// Finds what comes first on each processor once a task has changed. Only where it came first on its own there is a walk over the tasks.
+/// What comes first on a processor, found in one walk over the tasks.
+fn first_on(records: &[TaskRecord], ready: &[u64], p: Proc) -> Option<Task>
+    requires { length records.now ≤ 64 }
+    ensures { result ≡ top_among records.now ready.now (length records.now) p }
+{
+    let mut best = Best {
+        task: None,
+        priority: 0,
+        number: 0,
+    };
+    for (index, record) in records.iter().enumerate() {
+        if is_ready_on(record, p) {
+            let task = Task::from_index(index);
+            best.meet(task, record.priority.number, number_of(ready, task));
+        }
+    }
+    best.task
+}
+
+/// Looks for what comes first on a processor, of which a task changed that came first there. Where that is on another one now, it may
+/// come first on that.
+fn look_again(records: &[TaskRecord], ready: &[u64], t: Task, p: Proc, tops: &mut Firsts)
+    requires { length records.now ≤ 64 }
+    ensures { tops.new ≡ looked records.now ready.now t p tops.old }
+{
+    tops.set(p.index(), first_on(records, ready, p));
+    if home_of(records, t).number != p.number {
+        raise(records, ready, t, tops);
+    }
+}
+
+/// Finds what comes first on each processor once a task has changed that was on this one. Only where it came first there on its own
+/// there is a walk over the tasks.
 fn renew(
-    tops: &mut [Option<Task>; 8],
+    tops: &mut Firsts,
     records: &ArrayVec<TaskRecord, 64>,
     ready: &ArrayVec<u64, 64>,
     t: Task,
+    p: Proc,
     was_top: bool,
 )
     ensures few { length records.now.items ≤ 64 }
-    ensures walked { IsTrue was_top → AreTops records.now.items ready.now.items tops.new }
+    ensures looked { IsTrue was_top → tops.new ≡ looked records.now.items ready.now.items t p tops.old }
     ensures raised { was_top ≡ false → tops.new ≡ raised records.now.items ready.now.items t tops.old }
 {
     if was_top {
-        *tops = tops_of(records.as_slice(), ready.as_slice());
+        look_again(records.as_slice(), ready.as_slice(), t, p, tops);
     } else {
         raise(records.as_slice(), ready.as_slice(), t, tops);
     }
@@ -230,12 +262,11 @@ impl Tasks {
     {
         let records = each(setups);
         let ready = each(setups);
-        let tops = tops_of(records.as_slice(), ready.as_slice());
         let signs = Signs::of(records.as_slice());
         Tasks {
             records,
             ready,
-            tops,
+            tops: Firsts::none(),
             signs,
         }
     }
@@ -290,7 +321,16 @@ impl Tasks {
     pub(crate) fn top(&self, p: Proc) -> Option<Task>
         ensures { result ≡ top_among self.now.records self.now.ready (length self.now.records) p }
     {
-        top_at(&self.tops, p.index())
+        self.tops.at(p.index())
+    }
+
+    /// What comes first on each of the first so many processors.
+    #[inline(always)]
+    pub(crate) fn tops(&self, count: usize) -> Tops
+        requires { count ≤ 8 }
+        ensures { result ≡ map (top_among self.now.records self.now.ready (length self.now.records)) (processors_to count) }
+    {
+        Tops::new(self.tops.numbers(), count)
     }
 
     /// Changes the record of a task. Most changes are none of what comes first, so nothing is looked for then.
@@ -298,11 +338,12 @@ impl Tasks {
         ensures { self.new ≡ record self.old { records = with_item self.old.records t.number changed } }
     {
         let same = ranks_alike(&self.record(t), &changed);
-        let was_top = is_top(&self.records, &self.tops, t);
+        let p = home_of(self.records.as_slice(), t);
+        let was_top = is_top(&self.tops, p, t);
         self.signs.note(t, &changed);
         write(&mut self.records, t, changed);
         if !same {
-            renew(&mut self.tops, &self.records, &self.ready, t, was_top);
+            renew(&mut self.tops, &self.records, &self.ready, t, p, was_top);
         }
     }
 
@@ -310,10 +351,11 @@ impl Tasks {
     pub(crate) fn put(&mut self, t: Task, changed: TaskRecord, number: u64)
         ensures { self.new ≡ record self.old { records = with_item self.old.records t.number changed; ready = with_item self.old.ready t.number number } }
     {
-        let was_top = is_top(&self.records, &self.tops, t);
+        let p = home_of(self.records.as_slice(), t);
+        let was_top = is_top(&self.tops, p, t);
         self.signs.note(t, &changed);
         write(&mut self.records, t, changed);
         write_number(&mut self.ready, t, number);
-        renew(&mut self.tops, &self.records, &self.ready, t, was_top);
+        renew(&mut self.tops, &self.records, &self.ready, t, p, was_top);
     }
 }

@@ -11,7 +11,7 @@ use crate::tops::is_runnable;
 use arrayvec::ArrayVec;
 use fmp_codes::{Pri, Proc, Runner, Task};
 use fmp_rules::{Limits, Processor, TaskRecord, Wait};
-use fmp_step_words::{Overview, Tops, Words, each_top};
+use fmp_step_words::{Overview, Tops, Words};
 
 impl PlainMachine {
     /// The ready tasks of a priority on a processor, in their precedence.
@@ -165,8 +165,9 @@ impl Words for PlainMachine {
 }
 
 impl Overview for PlainMachine {
+    #[tactic(auto, unfolding(fmp_rules::specs::Arrivals::numbered))]
     fn tops(&self) -> Tops {
-        each_top(self)
+        self.tasks.tops(self.processors.len())
     }
 
     #[tactic(auto, using(crate::proofs::Over::no_task_over, crate::proofs::Over::no_object_over))]

@@ -2,4 +2,6 @@ pub mod Explored  -- What a search through all orders says, and what is written 
 pub mod Faults  -- The faults of a run through all orders.
 pub mod Views  -- The orders from which a search is to go on, as contracts see them.
 pub mod Left  -- What is left to go on from, beside what was found of all orders.
+pub mod Gone  -- How far a search through all orders went.
 pub mod Came  -- How many steps of a question come, where no order shows all of them.
+pub mod Made  -- Which calls of the scripts are made in orders.

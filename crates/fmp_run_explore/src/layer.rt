@@ -12,7 +12,7 @@ use crate::finding::Finding;
 use crate::searching::found;
 use crate::telling::trace_along;
 use fmp_names::Names;
-use fmp_search::{Progress, Roots};
+use fmp_search::{Extent, Progress, Roots};
 use fmp_search_orders::Rules;
 use fmp_search_pattern::Question;
 use std::alloc::{AllocError, Global};
@@ -22,8 +22,8 @@ use std::marker::Model;
 /// the search was asked.
 #[derive(Drop)]
 pub struct Layer {
-    asked: Asked,
-    rules: Rules,
+    pub(crate) asked: Asked,
+    pub(crate) rules: Rules,
     roots: Roots,
 }
 
@@ -120,10 +120,12 @@ impl Layer {
     }
 }
 
-/// What a search found of all orders, and those from which it is to go on.
+/// What a search found of all orders, how far it went, and those from which it is to go on.
 #[derive(Drop)]
 pub struct Outcome {
     pub finding: Finding,
+    /// How far the search went. None where an order was found.
+    pub extent: Option<Extent>,
     pub layer: Layer,
     pub ghost none_shows: { (finding ≡ Never) → NoneShows layer.config layer.scripts layer.rules layer.question },
 }

@@ -3,8 +3,9 @@
 //! [`run_explore`] reads both texts and the question, goes through every order of calls, interrupts and ticks that the rules allow, and writes
 //! `never`, `not within` and a number, or the trace of a shortest order that shows the question. What each of them says of all orders is
 //! `Finds` in `specs/Explored`: begin there. From where a search is to go on, and that what is known of the orders that go on from there is known of
-//! all, is `LeavesLayer` in `specs/Left`. How many steps come of a question that no order shows is `HasCome` in `specs/Came`. Orders, and when one
-//! shows a question, are in `fmp_search_orders`.
+//! all, is `LeavesLayer` in `specs/Left`. How many steps come of a question that no order shows is `HasCome` in `specs/Came`, how far the search went
+//! is `IsGone` in `specs/Gone`, and which calls of the scripts are made `SaysMade` in `specs/Made`. Orders, and when one shows a question, are in
+//! `fmp_search_orders`.
 #![tactic(auto)]
 
 mod asking;
@@ -12,6 +13,7 @@ mod came;
 mod fault;
 mod finding;
 mod layer;
+mod made;
 mod run;
 mod searching;
 mod telling;
@@ -20,10 +22,11 @@ mod writing;
 pub use asking::question_from;
 pub use fault::{ExploreFault, QuestionLine};
 pub use finding::Finding;
-pub use fmp_search::Progress;
+pub use fmp_search::{Extent, Met, Progress};
 pub use fmp_search_orders::Rules;
 pub use fmp_search_question::QuestionFault;
 pub use layer::{Layer, Outcome};
+pub use made::is_made;
 pub use run::run_explore;
 pub use searching::two_walkers;
 pub use telling::{never, not_within, trace_along};

@@ -5,6 +5,7 @@ ghost use Rattle.fmp_run_texts.specs.Faults.{failed_write, is_thread_fault};
 ghost use Rattle.fmp_run_texts.specs.Texts.{CountsReads};
 ghost use Rattle.fmp_run_explore.specs.Explored.{IsBegun, IsEndedBy, IsExplored};
 ghost use Rattle.fmp_run_explore.specs.Faults as faults;
+ghost use Rattle.fmp_run_explore.specs.Gone.{IsGone};
 ghost use Rattle.fmp_run_explore.specs.Left.{LeavesLayer};
 
 use crate::asking::asked_from;
@@ -47,6 +48,9 @@ pub fn run_explore<R: Source, S: Source, W: Sink, P: Progress>(
     // Beside that it gives the orders from which a search is to go on.
     ensures layer { IsKnown (R.left config.old) → IsKnown (S.left scripts.old)
         → IfOk result (λ o. LeavesLayer (bytes_of (R.left config.old)) (bytes_of (S.left scripts.old)) question.now rules turns o.finding o.layer) }
+
+    // It tells how far it went.
+    ensures went { IfOk result (λ o. IsGone o.layer o.finding o.extent) }
 
     // Less is known than was asked for, with room that is left, only where the search was ended.
     ensures ended { IfOk result (λ o. IsEndedBy (P.over progress.new) o.finding) }

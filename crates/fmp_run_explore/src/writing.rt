@@ -3,6 +3,7 @@ ghost use Rattle.std.specs.Prelude.{◌≡◌, ◌+◌, ◌-◌, ◌≤◌, ◌<
 ghost use Rattle.fmp_run_devices.specs.Devices.{IsKnown, bytes_of};
 ghost use Rattle.fmp_text_scripts.specs.Scripts.{AreInBits};
 ghost use Rattle.fmp_run_explore.specs.Explored.{IsEndedBy, IsPartWritten, IsWritten};
+ghost use Rattle.fmp_run_explore.specs.Gone.{IsGone};
 ghost use Rattle.fmp_run_explore.specs.Left.{IsLeft};
 ghost use Rattle.fmp_run_explore.specs.Faults as faults;
 
@@ -40,6 +41,7 @@ pub(crate) fn found_written<W: Sink, P: Progress>(
         → IfOk result (λ o. IsWritten asked.config asked.scripts rules asked.question turns more (bytes_of (W.written output.old))
         (bytes_of (W.written output.new)) o.finding) }
     ensures left { IfOk result (λ o. IsLeft asked.config asked.scripts rules asked.question turns o.finding o.layer) }
+    ensures went { IfOk result (λ o. IsGone o.layer o.finding o.extent) }
     ensures ended { IfOk result (λ o. IsEndedBy (P.over progress.new) o.finding) }
     ensures known { IsKnown (W.written output.old) → IsKnown (W.written output.new) }
     ensures passed { OnOk result (W.buffered output.new ≡ []) }
@@ -65,6 +67,7 @@ pub(crate) fn found_written<W: Sink, P: Progress>(
     match write_out(output, report.text.as_slice()) {
         Ok(()) => Ok(Outcome {
             finding: report.finding,
+            extent: report.extent,
             layer: Layer::of(asked, rules, report.roots),
         }),
         Err(_) => Err(WriteFault::Write),

@@ -3,6 +3,7 @@ ghost use Rattle.std.specs.Prelude.{◌≡◌, ◌≢◌, ◌+◌, ◌-◌, ◌�
 ghost use Rattle.fmp_run_devices.specs.Devices.{IsKnown, bytes_of};
 ghost use Rattle.fmp_run_explore.specs.Faults as faults;
 ghost use Rattle.fmp_run_forever.specs.Asked as asked;
+ghost use Rattle.fmp_run_forever.specs.Gone.{HasGone};
 ghost use Rattle.fmp_run_forever.specs.Stayed.{IsBegun, IsExplored};
 ghost use Rattle.fmp_run_texts.specs.Faults.{failed_write, is_thread_fault};
 ghost use Rattle.fmp_run_texts.specs.Texts.{CountsReads};
@@ -42,6 +43,10 @@ pub fn run_forever<R: Source, S: Source, W: Sink, P: Progress>(
     ensures explored { IsKnown (R.left config.old) → IsKnown (S.left scripts.old) → IsKnown (W.written output.old)
         → IfOk result (λ s. IsExplored (bytes_of (R.left config.old)) (bytes_of (S.left scripts.old)) question.now rules turns (bytes_of (W.written output.old))
         (bytes_of (W.written output.new)) s.lasting.items s.staying) }
+
+    // It tells how far it went.
+    ensures gone { IsKnown (R.left config.old) → IsKnown (S.left scripts.old)
+        → IfOk result (λ s. HasGone (bytes_of (R.left config.old)) (bytes_of (S.left scripts.old)) question.now rules s.lasting.items s.staying s.extent) }
     ensures known { IsKnown (W.written output.old) → IsKnown (W.written output.new) }
     ensures passed { OnOk result (W.buffered output.new ≡ []) }
     ensures config_read { IsKnown (R.left config.old) → OnOk result (bytes_of (R.left config.new) ≡ []) }
@@ -72,9 +77,10 @@ pub fn run_forever<R: Source, S: Source, W: Sink, P: Progress>(
         Err(fault) => return Err(fault),
     };
     match found_written(alloc, &asked, rules, output, progress, turns, places - 1) {
-        Ok(staying) => Ok(Stayed {
+        Ok((staying, extent)) => Ok(Stayed {
             staying,
             lasting: asked.lasting,
+            extent,
         }),
         Err(WriteFault::Memory) => Err(ExploreFault::Run(RunFault::Memory)),
         Err(WriteFault::Write) => Err(ExploreFault::Run(RunFault::Write)),

@@ -1,6 +1,9 @@
 //! The search through all orders of one machine and its scripts for what stays.
-ghost use Rattle.std.specs.Prelude.{◌≡◌, ◌≤◌, ◌<◌, ◌+◌, ◌^◌, [], length, IfOk, IsTrue, if◌then◌else◌};
+ghost use Rattle.std.specs.Prelude.{◌≡◌, ◌≤◌, ◌<◌, ◌^◌, List, [], length, IfOk, IsTrue, if◌then◌else◌};
+ghost use Rattle.fmp_search.specs.declared.nodes.Node.{Node};
+ghost use Rattle.fmp_run_forever.specs.Gone.{IsGone};
 ghost use Rattle.fmp_run_forever.specs.Stayed.{Finds, IsLeast};
+ghost use Rattle.fmp_search.specs.Extents.{HasGone, WentForEver};
 ghost use Rattle.fmp_search.specs.Forever.{SaysForEver};
 ghost use Rattle.fmp_search_orders.specs.Places as places;
 ghost use Rattle.fmp_search_orders.specs.Watched as watched;
@@ -9,7 +12,7 @@ ghost use Rattle.fmp_text_scripts.specs.Scripts.{AreInBits};
 use crate::staying::Staying;
 use fmp_rules::Config;
 use fmp_run_explore::{never, not_within, trace_along};
-use fmp_search::{Progress, Space, Stay, for_ever};
+use fmp_search::{Extent, Progress, Space, Stay, for_ever};
 use fmp_search_kernel::Watcher;
 use fmp_search_orders::{Rules, watched_answer};
 use fmp_search_pattern::{Lasting, Question};
@@ -19,11 +22,12 @@ use std::alloc::{AllocError, Global};
 // The greatest number of lines of a trace.
 const MOST_LINES: usize = 1_000_000;
 
-/// What is known of all orders, and the text that tells it.
+/// What is known of all orders, the text that tells it, and how far the search went.
 #[derive(Drop)]
 pub(crate) struct Report {
     pub(crate) staying: Staying,
     pub(crate) text: Vec<u8>,
+    pub(crate) extent: Extent,
 }
 
 /// Two who watch, where all runs begin. The question has no steps.
@@ -54,11 +58,12 @@ fn stayed<W: Space + Drop, P: Progress>(
     turns: u32,
     more: u32,
     tests: u8,
-) -> Result<Stay, AllocError>
+) -> Result<(Stay, Extent), AllocError>
     requires origins { (W.origin walkers.1 ≡ W.origin walkers.0) × (W.origin others.0 ≡ W.origin walkers.0) × (W.origin others.1 ≡ W.origin walkers.0) }
-    requires turns { turns + 1 < 2 ^ 31 }
+    requires turns { turns < 2 ^ 31 }
     requires tests { tests ≤ 64 }
-    ensures { IfOk result (λ s. SaysForEver W.after W.passes (W.origin walkers.0) tests turns s) }
+    ensures says { IfOk result (λ r. SaysForEver W.after W.passes (W.origin walkers.0) tests turns r.0) }
+    ensures went { IfOk result (λ r. WentForEver W.after (W.origin walkers.0) r.0 r.1) }
 {
     let (mut walker, mut base) = walkers;
     let (mut other, mut trunk) = others;
@@ -75,7 +80,7 @@ fn stayed<W: Space + Drop, P: Progress>(
     )
 }
 
-/// What is known of all runs over places, with room for so many besides the first.
+/// What is known of all runs over places, with room for so many besides the first, and how far the search went.
 fn answered<P: Progress>(
     alloc: Global,
     config: &Config,
@@ -86,12 +91,13 @@ fn answered<P: Progress>(
     progress: &mut P,
     turns: u32,
     more: u32,
-) -> Result<Stay, AllocError>
+) -> Result<(Stay, Extent), AllocError>
     requires turns { turns ≤ 1000000 }
     requires none { none.now ≡ [] }
     requires few { length lasting.now ≤ 64 }
-    ensures { IfOk result (λ s. SaysForEver watched.watched_after watched.watched_passes (watched.watched lasting.now (places.origin config.now scripts.now rules []))
-        (length lasting.now) turns s) }
+    ensures says { IfOk result (λ r. SaysForEver watched.watched_after watched.watched_passes
+        (watched.watched lasting.now (places.origin config.now scripts.now rules [])) (length lasting.now) turns r.0) }
+    ensures went { IfOk result (λ r. WentForEver watched.watched_after (watched.watched lasting.now (places.origin config.now scripts.now rules [])) r.0 r.1) }
 {
     let walkers = two_watchers(config, scripts, rules, none, lasting)?;
     let others = two_watchers(config, scripts, rules, none, lasting)?;
@@ -122,13 +128,16 @@ fn told_along(
     test: u8,
     steps: &[u8],
     shortest: bool,
+    extent: Extent,
 ) -> Result<Report, AllocError>
     requires in_bits { AreInBits scripts.now }
     requires none { none.now ≡ [] }
     requires is_one { test < length _lasting.now }
     requires ends { watched.WatchedEnds config.now scripts.now rules _lasting.now test steps.now }
     requires least { IsTrue shortest → IsLeast config.now scripts.now rules _lasting.now (length steps.now) }
-    ensures { IfOk result (λ r. Finds config.now scripts.now rules _lasting.now turns r.text.items r.staying) }
+    requires gone { (nodes : List Node) × HasGone watched.watched_after (watched.watched _lasting.now (places.origin config.now scripts.now rules [])) nodes extent }
+    ensures finds { IfOk result (λ r. Finds config.now scripts.now rules _lasting.now turns r.text.items r.staying) }
+    ensures gone { IfOk result (λ r. IsGone config.now scripts.now rules _lasting.now r.staying r.extent) }
 {
     config.names().validity();
     watched_answer();
@@ -136,11 +145,16 @@ fn told_along(
         return Ok(Report {
             staying: Staying::NotWithin(turns),
             text: not_within(alloc, turns)?,
+            extent,
         });
     }
     let text = trace_along(alloc, config, scripts, rules, none, steps)?;
     let staying = staying_of(test, steps.len() as u32, shortest);
-    Ok(Report { staying, text })
+    Ok(Report {
+        staying,
+        text,
+        extent,
+    })
 }
 
 /// What is known of all orders, with the text that tells it. There is room for so many places besides the first. The error is want of memory.
@@ -157,28 +171,31 @@ pub(crate) fn found<P: Progress>(
     requires turns { turns ≤ 1000000 }
     requires few { length lasting.now ≤ 64 }
     requires in_bits { AreInBits scripts.now }
-    ensures { IfOk result (λ r. Finds config.now scripts.now rules lasting.now turns r.text.items r.staying) }
+    ensures finds { IfOk result (λ r. Finds config.now scripts.now rules lasting.now turns r.text.items r.staying) }
+    ensures gone { IfOk result (λ r. IsGone config.now scripts.now rules lasting.now r.staying r.extent) }
 {
     config.names().validity();
     watched_answer();
     let none = Question::new(Vec::new(alloc));
-    let stay = answered(
+    let (stay, extent) = answered(
         alloc, config, scripts, rules, &none, lasting, progress, turns, more,
     )?;
     match stay {
         Stay::Shortest(test, steps) => told_along(
-            alloc, config, scripts, rules, &none, lasting, turns, test, &steps, true,
+            alloc, config, scripts, rules, &none, lasting, turns, test, &steps, true, extent,
         ),
         Stay::Found(test, steps) => told_along(
-            alloc, config, scripts, rules, &none, lasting, turns, test, &steps, false,
+            alloc, config, scripts, rules, &none, lasting, turns, test, &steps, false, extent,
         ),
         Stay::Never => Ok(Report {
             staying: Staying::Never,
             text: never(alloc)?,
+            extent,
         }),
         Stay::NotKnown(turns) => Ok(Report {
             staying: Staying::NotWithin(turns),
             text: not_within(alloc, turns)?,
+            extent,
         }),
     }
 }

@@ -3,6 +3,7 @@ ghost use Rattle.std.specs.Prelude.{◌≡◌};
 ghost use Rattle.fmp_run_forever.specs.Stayed as spec;
 
 use fmp_run_texts::Status;
+use fmp_search::Extent;
 use fmp_search_pattern::Lasting;
 
 /// What is known of all orders, by a search through them.
@@ -32,9 +33,10 @@ impl Staying {
     }
 }
 
-/// What was found, and what was asked.
+/// What was found, what was asked, and how far the search went.
 #[derive(Drop)]
 pub struct Stayed {
     pub staying: Staying,
     pub lasting: Vec<Lasting>,
+    pub extent: Extent,
 }

@@ -1,6 +1,7 @@
 //! The search for what was read, and what is written of it.
 ghost use Rattle.std.specs.Prelude.{◌≡◌, ◌+◌, ◌-◌, ◌≤◌, ◌<◌, ◌^◌, [], Err, OnOk, IfOk, if◌then◌else◌, length};
 ghost use Rattle.fmp_run_devices.specs.Devices.{IsKnown, bytes_of};
+ghost use Rattle.fmp_run_forever.specs.Gone.{IsGone};
 ghost use Rattle.fmp_run_forever.specs.Stayed.{IsPartWritten, IsWritten, is_unwritten};
 ghost use Rattle.fmp_text_scripts.specs.Scripts.{AreInBits};
 
@@ -8,7 +9,7 @@ use crate::asking::Asked;
 use crate::searching::found;
 use crate::staying::Staying;
 use fmp_run_devices::{Sink, write_out};
-use fmp_search::Progress;
+use fmp_search::{Extent, Progress};
 use fmp_search_orders::Rules;
 use std::alloc::Global;
 
@@ -30,14 +31,15 @@ pub(crate) fn found_written<W: Sink, P: Progress>(
     progress: &mut P,
     turns: u32,
     more: u32,
-) -> Result<Staying, WriteFault>
+) -> Result<(Staying, Extent), WriteFault>
     requires output_calls { W.failures output.old < 2 ^ 64 - 1 }
     requires turns { turns ≤ 1000000 }
     requires few { length asked.now.lasting.items ≤ 64 }
     requires in_bits { AreInBits asked.now.scripts }
     ensures written { IsKnown (W.written output.old)
-        → IfOk result (λ s. IsWritten asked.now.config asked.now.scripts rules asked.now.lasting.items turns (bytes_of (W.written output.old))
-        (bytes_of (W.written output.new)) s) }
+        → IfOk result (λ r. IsWritten asked.now.config asked.now.scripts rules asked.now.lasting.items turns (bytes_of (W.written output.old))
+        (bytes_of (W.written output.new)) r.0) }
+    ensures gone { IfOk result (λ r. IsGone asked.now.config asked.now.scripts rules asked.now.lasting.items r.0 r.1) }
     ensures known { IsKnown (W.written output.old) → IsKnown (W.written output.new) }
     ensures passed { OnOk result (W.buffered output.new ≡ []) }
     ensures part { IsKnown (W.written output.old) → (result ≡ Err WriteFault.Write)
@@ -60,7 +62,7 @@ pub(crate) fn found_written<W: Sink, P: Progress>(
     };
     progress.end();
     match write_out(output, report.text.as_slice()) {
-        Ok(()) => Ok(report.staying),
+        Ok(()) => Ok((report.staying, report.extent)),
         Err(_) => Err(WriteFault::Write),
     }
 }

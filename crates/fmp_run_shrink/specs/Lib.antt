@@ -1,3 +1,2 @@
-pub mod Telling  -- What is written of events.
 pub mod Shrunk  -- What is left of a list of events, and what is written of it.
 pub mod Faults  -- The faults of a run that leaves events out.

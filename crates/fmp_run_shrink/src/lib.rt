@@ -6,7 +6,6 @@
 
 mod finding;
 mod run;
-mod telling;
 mod texts;
 
 pub use finding::Shrinking;

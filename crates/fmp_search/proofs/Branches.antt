@@ -72,7 +72,7 @@ path-step ns k d behind lt =
 
 -- ---- where it leads
 
-nobody : Node
+abbrev pub nobody : Node
 nobody = record { hash = 0; parent = 0; step = 0 }
 
 module _ {P : Type 0} (after : P → ℕ → Option P) (q : P) where

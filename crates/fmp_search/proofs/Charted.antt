@@ -1,16 +1,19 @@
 -- One edge more of a chart.
-use Rattle.std.proofs.Common.{◌≡◌, ◌⊎◌, inl, inr, ℕ, ◌+◌, ◌<◌, ◌≤◌, Bool, false, Option, None, Some, List, [], ◌∷◌, ◌++◌, length, get_or, refl, ap, sym, subst, ◌∙◌, arith, rules}
+use Rattle.std.proofs.Common.{◌≡◌, ◌⊎◌, inl, inr, ℕ, ◌+◌, ◌<◌, ◌≤◌, true, Option, None, Some, List, [], ◌∷◌, ◌++◌, length, get_or, refl, ap, sym, subst, ◌∙◌, below_more, arith, rules}
 use Rattle.std.specs.Prelude.{slice_get}
 use Rattle.std.proofs.lemmas.Grind.{common_steps}
+use Rattle.std.proofs.Math.Nat.{eq-or-lt_of_le}
 use Rattle.std.proofs.lemmas.Bool.{cases_lt}
 use Rattle.std.proofs.lemmas.Option.{slice_get_within, slice_get-get_or, get_or_from_slice_get}
 use Rattle.std.proofs.Math.ListN.{get_or-append}
 use Rattle.std.proofs.Math.Seq.{get_or-append_seam}
-use Rattle.fmp_search.specs.declared.marks.Edge.{Edge}
+use Rattle.fmp_search.specs.declared.edges.Edge.{Edge}
 use Rattle.fmp_search.specs.declared.nodes.Node.{Node}
 use Rattle.fmp_search.specs.Runs.{Watches}
 use Rattle.fmp_search.specs.Trees.{found_at, IsAt}
-use Rattle.fmp_search.specs.Forever.{IsTrueEdge, AreTrue, IsJoined}
+use Rattle.fmp_search.specs.declared.chart.Chart.{Chart}
+use Rattle.fmp_search.specs.Growth.{Extends}
+use Rattle.fmp_search.specs.Charts.{Charting, IsTrueEdge, AreTrue, IsJoined}
 
 longer : {A : Type 0} (xs : List A) (x : A) → length (xs ++ x ∷ []) ≡ length xs + 1
 longer xs x = grind (arith, common_steps)
@@ -111,23 +114,88 @@ module _ {P : Type 0} (after : P → ℕ → Option P) (passes : P → ℕ → �
         comes = at.1 ∙ sym same;
       }
 
-  -- the edges from the places that are not open, with one place more
-  joined_one :
-      (edges : List Edge) (marks : List Bool) (mark : Bool) (n : ℕ) → length marks ≡ n →
-      ((i s : ℕ) → slice_get marks i ≡ Some false → IsJoined after passes q nodes edges i s) → (mark ≡ false → (s : ℕ) → IsJoined after passes q nodes edges n s) →
-      (i s : ℕ) → (slice_get marks i ≡ Some false) ⊎ ((i ≡ length marks) × (mark ≡ false)) → IsJoined after passes q nodes edges i s
-  joined_one edges marks mark n long earlier last i s (inl is) = earlier i s is
-  joined_one edges marks mark n long earlier last i s (inr is) = subst (λ k. IsJoined after passes q nodes edges k s) (sym (is.0 ∙ long)) (last is.1 s)
-
-  pub joined_more :
-      (edges : List Edge) (marks more : List Bool) (mark : Bool) (n : ℕ) → more ≡ marks ++ mark ∷ [] → length marks ≡ n →
-      ((i s : ℕ) → slice_get marks i ≡ Some false → IsJoined after passes q nodes edges i s) → (mark ≡ false → (s : ℕ) → IsJoined after passes q nodes edges n s) →
-      (i s : ℕ) → slice_get more i ≡ Some false → IsJoined after passes q nodes edges i s
-  joined_more edges marks more mark n is long earlier last i s get =
-      joined_one edges marks mark n long earlier last i s (item_of marks mark false i (subst (λ (ms : List Bool). slice_get ms i ≡ Some false) is get))
-
-  pub joined_none : (edges : List Edge) (marks : List Bool) → marks ≡ [] → (i s : ℕ) → slice_get marks i ≡ Some false → IsJoined after passes q nodes edges i s
-  joined_none edges marks is i s get = let lt = slice_get_within marks i false get in let long : length marks ≡ 0 = ap length is in absurd (omega (arith, lt, long))
-
   pub true_none : (edges : List Edge) → edges ≡ [] → AreTrue after passes q nodes edges
   true_none edges is k e get = let lt = slice_get_within edges k e get in let long : length edges ≡ 0 = ap length is in absurd (omega (arith, lt, long))
+
+-- edges stay true, and there, where places are added
+module _ {P : Type 0} (after : P → ℕ → Option P) (passes : P → ℕ → ℕ) (q : P) (nodes more : List Node) (extends : Extends after q nodes more) where
+  true_there : (e : Edge) → IsTrueEdge after passes q nodes e → IsTrueEdge after passes q more e
+  true_there e sure =
+      let longer = extends.longer in
+      let few = sure.from in
+      let low = sure.to in
+      let from = extends.stays e.from sure.from in
+      let to = extends.stays e.to sure.to in
+      record { from = omega (arith, few, longer); to = omega (arith, low, longer); goes = rw from (rw to sure.goes); told = rw from sure.told }
+
+  trues_there : (edges : List Edge) → AreTrue after passes q nodes edges → AreTrue after passes q more edges
+  trues_there edges sure k e is = true_there e (sure k e is)
+
+  joined_there : (edges : List Edge) (i s : ℕ) → i ≤ length nodes → AreTrue after passes q nodes edges → IsJoined after passes q nodes edges i s → IsJoined after passes q more edges i s
+  joined_there edges i s few sure joined r goes =
+      let had = joined r (rw (← extends.stays i few) goes) in
+      let to = (sure had.number had.edge had.is_one).to in
+      record { number = had.number; edge = had.edge; is_one = had.is_one; leaves = had.leaves; by = had.by; comes = rw (extends.stays had.edge.to to) had.comes }
+
+  -- one edge more, of a step of the place that is opened
+  pub charting_more :
+      (old new : Chart) (at s : ℕ) (e : Edge) → at ≤ length nodes → new.opened ≡ old.opened → new.kept ≡ old.kept → (old.kept ≡ true → new.edges ≡ old.edges ++ e ∷ []) →
+      IsTrueEdge after passes q more e → (new.kept ≡ true → IsJoined after passes q more new.edges at s) → Charting after passes q nodes old at s → Charting after passes q more new at (s + 1)
+  charting_more old new at s e few opened kept added sure last x = record {
+    opened = opened ∙ x.opened;
+    charted = λ is.
+        let was : old.kept ≡ true = sym kept ∙ is in
+        let before = x.charted was in
+        let low = before.few in
+        let longer = extends.longer in record {
+          sure = true_more after passes q more old.edges new.edges e (added was) sure (trues_there old.edges before.sure);
+          joined = λ i t lt. joined_stays after passes q more old.edges new.edges e (added was) i t
+              (joined_there old.edges i t (omega (arith, lt, opened, low)) before.sure (before.joined i t (omega (arith, lt, opened))));
+          few = omega (arith, opened, low, longer);
+        };
+    linked = λ is.
+        let was : old.kept ≡ true = sym kept ∙ is in
+        below_more (λ k. IsJoined after passes q more new.edges at k) s
+        (λ k lt. joined_stays after passes q more old.edges new.edges e (added was) at k (joined_there old.edges at k few (x.charted was).sure (x.linked was k lt)))
+        (last is);
+  }
+
+module _ {P : Type 0} (after : P → ℕ → Option P) (passes : P → ℕ → ℕ) (q : P) (nodes : List Node) where
+  -- a step that needs no edge was tried
+  pub charting_same : (chart : Chart) (at s : ℕ) → IsJoined after passes q nodes chart.edges at s → Charting after passes q nodes chart at s → Charting after passes q nodes chart at (s + 1)
+  charting_same chart at s last x = record {
+    opened = x.opened;
+    charted = x.charted;
+    linked = λ is. below_more (λ k. IsJoined after passes q nodes chart.edges at k) s (x.linked is) last;
+  }
+
+  next_joined : (edges : List Edge) (at n i s : ℕ) → ((j t : ℕ) → j < at → IsJoined after passes q nodes edges j t) → ((t : ℕ) → t < n → IsJoined after passes q nodes edges at t) →
+      ((t : ℕ) → n ≤ t → IsJoined after passes q nodes edges at t) → (i ≡ at) ⊎ (i < at) → (s < n) ⊎ (n ≤ s) → IsJoined after passes q nodes edges i s
+  next_joined edges at n i s before linked rest (inr lt) which = before i s lt
+  next_joined edges at n i s before linked rest (inl is) (inl lt) = subst (λ k. IsJoined after passes q nodes edges k s) (sym is) (linked s lt)
+  next_joined edges at n i s before linked rest (inl is) (inr le) = subst (λ k. IsJoined after passes q nodes edges k s) (sym is) (rest s le)
+
+  -- all steps of a place were tried
+  pub charting_next :
+      (old : Chart) (at n : ℕ) → at ≤ length nodes → ((t : ℕ) → n ≤ t → IsJoined after passes q nodes old.edges at t) → Charting after passes q nodes old at n →
+      Charting after passes q nodes (record old { opened = at + 1 }) (at + 1) 0
+  charting_next old at n few rest x =
+      let opened = x.opened in record {
+        opened = refl;
+        charted = λ is.
+            let before = x.charted is in record {
+              sure = before.sure;
+              joined = λ i s lt. next_joined old.edges at n i s (λ j t low. before.joined j t (omega (arith, low, opened))) (x.linked is) rest
+                  (let le : i ≤ at = omega (arith, lt) in eq-or-lt_of_le le) (cases_lt s n);
+              few = omega (arith, few);
+            };
+        linked = λ is s lt. absurd (omega (arith, lt));
+      }
+
+  -- nothing was tried
+  pub charting_none : (chart : Chart) → chart.opened ≡ 0 → chart.edges ≡ [] → Charting after passes q nodes chart 0 0
+  charting_none chart opened none = record {
+    opened = opened;
+    charted = λ is. record { sure = true_none after passes q nodes chart.edges none; joined = λ i s lt. absurd (omega (arith, lt, opened)); few = omega (arith, opened) };
+    linked = λ is s lt. absurd (omega (arith, lt));
+  }

@@ -1,14 +1,15 @@
 -- Where no place is open, the run that was found is no longer than any that ends for ever.
-use Rattle.std.proofs.Common.{◌≡◌, ℕ, ◌+◌, ◌<◌, ◌≤◌, Bool, true, false, Option, None, Some, List, length, get_or, ap, sym, subst, ◌∙◌, arith}
-use Rattle.std.specs.Prelude.{slice_get}
-use Rattle.std.proofs.lemmas.Option.{slice_get-get_or}
-use Rattle.fmp_search.specs.declared.charting.Chart.{Chart}
+use Rattle.std.proofs.Common.{◌≡◌, ℕ, ◌+◌, ◌≤◌, Bool, true, Option, None, Some, List, length, sym, subst, arith}
+use Rattle.fmp_search.specs.declared.chart.Chart.{Chart}
 use Rattle.fmp_search.specs.declared.nodes.Node.{Node}
 use Rattle.fmp_search.specs.declared.staying.Run.{Run}
 use Rattle.fmp_search.specs.Trees.{found_at}
-use Rattle.fmp_search.specs.Answers.{AreOpened, Explored}
-use Rattle.fmp_search.specs.Forever.{ForEver, is_bit, test_of, mark_at, AreClosed, AreEarned, AreEntered, AreNearest, Covers, HasWithin, IsCharted, IsRight, IsWhole}
-use Rattle.fmp_search.proofs.Lasting.{Marked, yes, no, is_marked, sound, free_there, enters_near}
+use Rattle.fmp_search.specs.Answers.{AreOpened}
+use Rattle.fmp_search.specs.Charts.{IsCharted}
+use Rattle.fmp_search.specs.Growth.{AreFound}
+use Rattle.fmp_search.specs.Forever.{ForEver, is_bit, test_of, mark_at, AreClosed, AreEarned, AreNearest}
+use Rattle.fmp_search.specs.Stays.{AreEntered, Covers, HasWithin, IsRight}
+use Rattle.fmp_search.proofs.Lasting.{is_marked, sound, free_there, enters_near}
 use Rattle.fmp_search.proofs.Layers.{complete-all}
 
 pub within_more : (o : Option Run) (n m : ℕ) → HasWithin o n → n ≤ m → HasWithin o m
@@ -19,27 +20,15 @@ pub right_more : {P : Type 0} (after : P → ℕ → Option P) (passes : P → �
 right_more after passes q n m None le h = h
 right_more after passes q n m (Some r) le h = let lt = h.0 in (omega (arith, lt, le), h.1)
 
-not_open : (b : Bool) → (b ≡ true → ⊥) → Marked b → b ≡ false
-not_open b never (yes is) = absurd (never is)
-not_open b never (no is) = is
-
--- where no place is open, none is
-pub shut_at : (marks : List Bool) (i : ℕ) → IsWhole marks → i < length marks → slice_get marks i ≡ Some false
-shut_at marks i whole lt =
-    let get = slice_get-get_or marks i true lt in
-    get ∙ ap (λ (b : Bool). Some b) (not_open (get_or marks i true) (λ is. whole i (get ∙ ap (λ (b : Bool). Some b) is)) (is_marked (get_or marks i true)))
-
-module _ {P : Type 0} (after : P → ℕ → Option P) (passes : P → ℕ → ℕ) (q : P) (nodes : List Node) (chart : Chart) (charted : IsCharted after passes q nodes chart) (whole : IsWhole chart.open.items) where
+module _ {P : Type 0} (after : P → ℕ → Option P) (passes : P → ℕ → ℕ) (q : P) (nodes : List Node) (chart : Chart) (charted : IsCharted after passes q nodes chart) (whole : chart.opened ≡ length nodes + 1) where
   pub covers_by :
       (test : ℕ) (marks : List Bool) (best : Option Run) → AreClosed after (test_of passes test) q nodes marks → AreEarned after (test_of passes test) q nodes marks →
-      AreNearest after q nodes → AreEntered after q nodes chart.edges.items marks test best → Covers after passes q test best
+      AreNearest after q nodes → AreEntered after q nodes chart.edges marks test best → Covers after passes q test best
   covers_by test marks best closed earned nearest entered others ends =
       let it = enters_near after (test_of passes test) q nodes marks earned nearest others ends in
       let enters = it.enters in
       let few = enters.few in
-      let many = charted.as_many in
-      let get = shut_at chart.open.items it.place whole (omega (arith, few, many)) in
-      let step = charted.joined it.place it.step get (found_at after q nodes enters.next).place enters.goes in
+      let step = charted.joined it.place it.step (omega (arith, few, whole)) (found_at after q nodes enters.next).place enters.goes in
       let sure = charted.sure step.number step.edge step.is_one in
       let by = subst (λ n. is_bit (passes (found_at after q nodes it.place).place n) test ≡ true) (sym step.by) enters.passes in
       let from = subst (λ n. is_bit (passes (found_at after q nodes n).place step.edge.step) test ≡ true) (sym step.leaves) by in
@@ -52,13 +41,12 @@ module _ {P : Type 0} (after : P → ℕ → Option P) (passes : P → ℕ → �
 
   all_opened : AreOpened after q nodes (length nodes + 1)
   all_opened j s r lt goes =
-      let many = charted.as_many in
-      let step = charted.joined j s (shut_at chart.open.items j whole (omega (arith, lt, many))) r goes in
+      let step = charted.joined j s (omega (arith, lt, whole)) r goes in
       let sure = charted.sure step.number step.edge step.is_one in
       (step.edge.to, sure.to, step.comes)
 
-  pub nearest_by : (wanted : P → Bool) (n opened : ℕ) → Explored after wanted q nodes n (length nodes + 1) opened → AreNearest after q nodes
-  nearest_by wanted n opened x steps r leads =
-      let got = complete-all after wanted q nodes n x.complete all_opened x.depths (length steps) steps r (omega arith) leads in
+  pub nearest_by : (n : ℕ) → AreFound after q n nodes → AreNearest after q nodes
+  nearest_by n x steps r leads =
+      let got = complete-all after (λ p. true) q nodes n x.complete all_opened x.near (length steps) steps r (omega arith) leads in
       let lt = got.1 in
       (got.0, omega (arith, lt), got.2, got.3)

@@ -6,10 +6,12 @@ use Rattle.std.proofs.lemmas.Bool.{cases_lt, false≢true}
 use Rattle.std.proofs.lemmas.Option.{slice_get-get_or}
 use Rattle.std.proofs.lemmas.List.{get_or_past}
 use Rattle.fmp_search.specs.declared.nodes.Node.{Node}
-use Rattle.fmp_search.specs.declared.charting.Chart.{Chart}
+use Rattle.fmp_search.specs.declared.chart.Chart.{Chart}
 use Rattle.fmp_search.specs.Runs.{run}
 use Rattle.fmp_search.specs.Trees.{found_at}
-use Rattle.fmp_search.specs.Forever.{GetsOut, is_bit, test_of, mark_at, AreClosed, AreEarned, AreWithin, IsWay, AreDue, IsSpread, AreKept, AreMarked, HasFailing, IsCharted, IsWhole}
+use Rattle.fmp_search.specs.Charts.{IsCharted}
+use Rattle.fmp_search.specs.Forever.{GetsOut, is_bit, test_of, mark_at, AreClosed, AreEarned}
+use Rattle.fmp_search.specs.Spreads.{AreWithin, IsWay, AreDue, IsSpread, AreKept, AreMarked, AreOpenFrom, HasFailing}
 
 -- one of two, whether it is so
 data Is (b : Bool) : Type 0 where
@@ -42,7 +44,7 @@ mark_got marks i b lt is = slice_get-get_or marks i true lt ∙ ap (λ (x : Bool
 module _ {P : Type 0} (after : P → ℕ → Option P) (passes : P → ℕ → ℕ) (q : P) (nodes : List Node) (test : ℕ) (chart : Chart) (charted : IsCharted after passes q nodes chart) where
   -- from the place where an edge leaves that fails the test, a run gets out
   ways :
-      (over : List ℕ) (from to : ℕ) → IsWay chart.edges.items from over to → HasFailing chart.edges.items test to →
+      (over : List ℕ) (from to : ℕ) → IsWay chart.edges from over to → HasFailing chart.edges test to →
       GetsOut after (test_of passes test) (found_at after q nodes from).place
   ways [] from to is failing =
       let sure = charted.sure failing.number failing.edge failing.is_one in
@@ -76,14 +78,14 @@ module _ {P : Type 0} (after : P → ℕ → Option P) (passes : P → ℕ → �
       }
 
   -- both ends of each edge are places
-  pub within : (marks : List Bool) → length marks ≡ length nodes + 1 → AreWithin chart.edges.items (length marks)
+  pub within : (marks : List Bool) → length marks ≡ length nodes + 1 → AreWithin chart.edges (length marks)
   within marks long k e one =
       let sure = charted.sure k e one in
       let from = sure.from in
       let to = sure.to in
       (omega (arith, long, from), omega (arith, long, to))
 
-  end_low : (n : ℕ) → n ≡ length nodes + 1 → (over : List ℕ) (from to : ℕ) → from < n → IsWay chart.edges.items from over to → to < n
+  end_low : (n : ℕ) → n ≡ length nodes + 1 → (over : List ℕ) (from to : ℕ) → from < n → IsWay chart.edges from over to → to < n
   end_low n is [] from to lt same = subst (λ m. m < n) same lt
   end_low n is (next ∷ rest) from to lt goes =
       let one = goes.0 in
@@ -92,14 +94,16 @@ module _ {P : Type 0} (after : P → ℕ → Option P) (passes : P → ℕ → �
       let comes = one.comes in
       end_low n is rest next to (omega (arith, few, comes, is)) goes.1
 
-  module _ (first spread : List Bool) (long : length first ≡ length nodes + 1) (long' : length spread ≡ length nodes + 1) (failing : AreMarked chart.edges.items test first)
-      (opened : AreKept chart.open.items first) (kept : AreKept first spread) (done : IsSpread chart.edges.items spread) where
+  early : (i : ℕ) → (chart.opened ≤ i → ⊥) → (i < chart.opened) ⊎ (chart.opened ≤ i) → i < chart.opened
+  early i never (inl lt) = lt
+  early i never (inr le) = absurd (never le)
+
+  module _ (start first spread : List Bool) (long : length first ≡ length nodes + 1) (long' : length spread ≡ length nodes + 1) (failing : AreMarked chart.edges test first)
+      (opened : AreOpenFrom chart.opened start) (begun : AreKept start first) (kept : AreKept first spread) (done : IsSpread chart.edges spread) where
     pub closed : AreClosed after (test_of passes test) q nodes spread
     closed i s r free goes =
-        let lt = low spread i free in
-        let many = charted.as_many in
-        let shut : mark_at chart.open.items i ≡ false = unmarked_if (mark_at chart.open.items i) (λ is. false≢true (sym free ∙ kept i (opened i is))) (which (mark_at chart.open.items i)) in
-        let step = charted.joined i s (mark_got chart.open.items i false (omega (arith, lt, many, long')) shut) r goes in
+        let lt = early i (λ le. false≢true (sym free ∙ kept i (begun i (opened.marked i le)))) (cases_lt i chart.opened) in
+        let step = charted.joined i s lt r goes in
         let sure = charted.sure step.number step.edge step.is_one in
         let here = λ (is : mark_at spread step.edge.from ≡ true). false≢true (sym free ∙ subst (λ n. mark_at spread n ≡ true) step.leaves is) in
         let passed : is_bit step.edge.passes test ≡ true =
@@ -111,14 +115,13 @@ module _ {P : Type 0} (after : P → ℕ → Option P) (passes : P → ℕ → �
         (by, (step.edge.to, next, step.comes))
 
     pub earned :
-        AreDue chart.edges.items first spread → ((i : ℕ) → i < length first → mark_at first i ≡ true → (mark_at chart.open.items i ≡ true) ⊎ HasFailing chart.edges.items test i) →
-        IsWhole chart.open.items → AreEarned after (test_of passes test) q nodes spread
+        AreDue chart.edges first spread → ((i : ℕ) → i < length first → mark_at first i ≡ true → (mark_at start i ≡ true) ⊎ HasFailing chart.edges test i) →
+        chart.opened ≡ length nodes + 1 → AreEarned after (test_of passes test) q nodes spread
     earned due from whole i few marked =
         let way = due i (omega (arith, few, long')) marked in
         let lt = end_low (length first) long way.over i way.to (omega (arith, few, long)) way.goes in
-        let many = charted.as_many in
-        ways way.over i way.to way.goes (failing_of way.to (omega (arith, lt, long, many)) (from way.to lt way.marked))
+        ways way.over i way.to way.goes (failing_of way.to (omega (arith, lt, long, whole)) (from way.to lt way.marked))
       where
-        failing_of : (n : ℕ) → n < length chart.open.items → (mark_at chart.open.items n ≡ true) ⊎ HasFailing chart.edges.items test n → HasFailing chart.edges.items test n
-        failing_of n lt (inl is) = absurd (whole n (mark_got chart.open.items n true lt is))
+        failing_of : (n : ℕ) → n < chart.opened → (mark_at start n ≡ true) ⊎ HasFailing chart.edges test n → HasFailing chart.edges test n
+        failing_of n lt (inl is) = absurd (false≢true (sym (opened.shut n lt) ∙ is))
         failing_of n lt (inr is) = is

@@ -1,9 +1,12 @@
 //! One layer of places: those that are found by so many steps and by no fewer.
-ghost use Rattle.std.specs.Prelude.{◌≡◌, ◌≤◌, ◌<◌, ◌+◌, ◌^◌, length, IfOk};
+ghost use Rattle.std.specs.Prelude.{◌≡◌, ◌≤◌, ◌<◌, ◌+◌, ◌^◌, false, length, Some, IfOk};
 ghost use Rattle.fmp_search.specs.Trees.{found_at, StandsAt};
 ghost use Rattle.fmp_search.specs.Answers.{Explored};
-ghost use Rattle.fmp_search.specs.Growth.{AreBefore, Fills, IsNotOver, IsOverBy, Opens, Steps};
+ghost use Rattle.fmp_search.specs.Charts.{Charting, Charts};
+ghost use Rattle.fmp_search.specs.Growth.{AreBefore, Fills, IsNotOver, IsOverBy, LeavesRoom, Numbers, Opens, Steps};
 
+use crate::chart::Chart;
+use crate::edges::Edge;
 use crate::nodes::{Node, stand_at, steps_to};
 use crate::progress::Progress;
 use crate::space::Space;
@@ -31,8 +34,50 @@ pub(crate) struct Front {
     pub(crate) stem: usize,
 }
 
-/// Tries a step from the place where `base` stands, and adds the place it leads to where that is new and not looked for. It is done, too,
-/// where the step cannot be made. The error is want of memory.
+/// The number of the place where a walker stands, to which a step leads from the place of a number. It is added where it is new. None where there is
+/// no room for it. The error is want of memory.
+fn number_of<W: Space>(
+    alloc: Global,
+    walker: &W,
+    other: &mut W,
+    trunk: &W,
+    store: &mut Store,
+    front: Front,
+    at: usize,
+    step: u8,
+) -> Result<Option<u32>, AllocError>
+    requires explored { Explored W.after W.wanted (W.origin walker.now) store.old.nodes.items front.depth front.end at }
+    requires place { at < front.end }
+    requires depth { front.depth + 1 < 2 ^ 31 }
+    requires made { W.after (found_at W.after (W.origin walker.now) store.old.nodes.items at).place step ≡ Some (W.place walker.now) }
+    requires clean { W.wanted (W.place walker.now) ≡ false }
+    requires origins { (W.origin other.old ≡ W.origin walker.now) × (W.origin trunk.now ≡ W.origin walker.now) }
+    requires trunk { StandsAt W.after (W.origin walker.now) store.old.nodes.items front.stem (W.place trunk.now) (W.room trunk.now) }
+    requires before { AreBefore store.old.nodes.items at step }
+    ensures number { IfOk result (λ o. Numbers W.after W.wanted (W.origin walker.now) store.old.nodes.items front.depth front.end at (W.place walker.now) o
+        store.new.nodes.items) }
+    ensures leaves { IfOk result (λ o. LeavesRoom store.old.most at step o store.new.nodes.items) }
+    ensures room { store.new.most ≡ store.old.most }
+    ensures trunk { IfOk result (λ o. StandsAt W.after (W.origin walker.now) store.new.nodes.items front.stem (W.place trunk.now) (W.room trunk.now)) }
+    ensures origin { W.origin other.new ≡ W.origin other.old }
+{
+    let hash = walker.hash();
+    if let Some(number) = store.find(alloc, walker, other, trunk, front.stem, hash)? {
+        return Ok(Some(number));
+    }
+    if store.is_full() {
+        return Ok(None);
+    }
+    store.push(Node {
+        hash,
+        parent: at as u32,
+        step,
+    })?;
+    Ok(Some(store.nodes.len() as u32))
+}
+
+/// Tries a step from the place where `base` stands, adds the place it leads to where that is new and not looked for, and the edge to there. It is done,
+/// too, where the step cannot be made. The error is want of memory.
 fn try_step<W: Space>(
     alloc: Global,
     walker: &mut W,
@@ -40,6 +85,7 @@ fn try_step<W: Space>(
     other: &mut W,
     trunk: &W,
     store: &mut Store,
+    chart: &mut Chart,
     front: Front,
     at: usize,
     step: u8,
@@ -52,11 +98,14 @@ fn try_step<W: Space>(
     requires origins { (W.origin base.now ≡ W.origin walker.old) × (W.origin other.old ≡ W.origin walker.old) × (W.origin trunk.now ≡ W.origin walker.old) }
     requires trunk { StandsAt W.after (W.origin walker.old) store.old.nodes.items front.stem (W.place trunk.now) (W.room trunk.now) }
     requires before { AreBefore store.old.nodes.items at step }
+    requires chart { Charting W.after W.passes (W.origin walker.old) store.old.nodes.items chart.old at step }
     ensures fills { IfOk result (λ how. Fills W.after (W.origin walker.old) front.depth store.old.most at (step + 1) how store.new.nodes.items) }
     ensures room { store.new.most ≡ store.old.most }
     ensures trunk { IfOk result (λ how. StandsAt W.after (W.origin walker.old) store.new.nodes.items front.stem (W.place trunk.now) (W.room trunk.now)) }
     ensures steps { IfOk result (λ how. Steps W.after W.wanted (W.origin walker.old) store.old.nodes.items front.depth front.end at step how store.new.nodes.items) }
     ensures goes_on { IfOk result IsNotOver }
+    ensures chart { IfOk result (λ how. Charts W.after W.passes (W.origin walker.old) how store.new.nodes.items chart.new at (step + 1)) }
+    ensures kept { chart.new.kept ≡ chart.old.kept }
     ensures walker_origin { W.origin walker.new ≡ W.origin walker.old }
     ensures other_origin { W.origin other.new ≡ W.origin other.old }
 {
@@ -64,27 +113,26 @@ fn try_step<W: Space>(
         return Ok(Layer::Done);
     }
     walker.copy_from(base)?;
-    let made = walker.go(step)?;
-    if !made {
+    let Some(passes) = walker.watch(step)? else {
         return Ok(Layer::Done);
-    }
+    };
     if walker.is_wanted() {
         let mut steps = steps_to(alloc, walker, &store.nodes, at)?;
         steps.push(step)?;
         return Ok(Layer::Found(steps));
     }
-    let hash = walker.hash();
-    if store.has(alloc, walker, other, trunk, front.stem, hash)? {
-        return Ok(Layer::Done);
-    }
-    if store.is_full() {
+    let Some(to) = number_of(alloc, walker, other, trunk, store, front, at, step)? else {
         return Ok(Layer::Full);
-    }
-    store.push(Node {
-        hash,
-        parent: at as u32,
-        step,
-    })?;
+    };
+    chart.add(
+        alloc,
+        Edge {
+            passes,
+            from: at as u32,
+            to,
+            step,
+        },
+    )?;
     Ok(Layer::Done)
 }
 
@@ -97,6 +145,7 @@ fn open_place<W: Space>(
     other: &mut W,
     trunk: &W,
     store: &mut Store,
+    chart: &mut Chart,
     front: Front,
     at: usize,
 ) -> Result<Layer, AllocError>
@@ -106,11 +155,14 @@ fn open_place<W: Space>(
     requires origins { (W.origin base.old ≡ W.origin walker.old) × (W.origin other.old ≡ W.origin walker.old) × (W.origin trunk.now ≡ W.origin walker.old) }
     requires trunk { StandsAt W.after (W.origin walker.old) store.old.nodes.items front.stem (W.place trunk.now) (W.room trunk.now) }
     requires before { AreBefore store.old.nodes.items at 0 }
+    requires chart { Charting W.after W.passes (W.origin walker.old) store.old.nodes.items chart.old at 0 }
     ensures fills { IfOk result (λ how. Fills W.after (W.origin walker.old) front.depth store.old.most (at + 1) 0 how store.new.nodes.items) }
     ensures room { store.new.most ≡ store.old.most }
     ensures trunk { IfOk result (λ how. StandsAt W.after (W.origin walker.old) store.new.nodes.items front.stem (W.place trunk.now) (W.room trunk.now)) }
     ensures opens { IfOk result (λ how. Opens W.after W.wanted (W.origin walker.old) front.depth front.end (at + 1) how store.new.nodes.items) }
     ensures goes_on { IfOk result IsNotOver }
+    ensures chart { IfOk result (λ how. Charts W.after W.passes (W.origin walker.old) how store.new.nodes.items chart.new (at + 1) 0) }
+    ensures kept { chart.new.kept ≡ chart.old.kept }
     ensures walker_origin { W.origin walker.new ≡ W.origin walker.old }
     ensures base_origin { W.origin base.new ≡ W.origin base.old }
     ensures other_origin { W.origin other.new ≡ W.origin other.old }
@@ -118,11 +170,14 @@ fn open_place<W: Space>(
     stand_at(alloc, base, trunk, &store.nodes, front.stem, at)?;
     let steps = base.steps();
     for step in 0..steps {
-        match try_step(alloc, walker, base, other, trunk, store, front, at, step)? {
+        match try_step(
+            alloc, walker, base, other, trunk, store, chart, front, at, step,
+        )? {
             Layer::Done => {}
             how => return Ok(how),
         }
     }
+    chart.opened = at + 1;
     Ok(Layer::Done)
 }
 
@@ -135,6 +190,7 @@ pub(crate) fn open_layer<W: Space, P: Progress>(
     trunk: &W,
     progress: &mut P,
     store: &mut Store,
+    chart: &mut Chart,
     front: Front,
     begin: usize,
 ) -> Result<Layer, AllocError>
@@ -144,11 +200,14 @@ pub(crate) fn open_layer<W: Space, P: Progress>(
     requires origins { (W.origin base.old ≡ W.origin walker.old) × (W.origin other.old ≡ W.origin walker.old) × (W.origin trunk.now ≡ W.origin walker.old) }
     requires trunk { StandsAt W.after (W.origin walker.old) store.old.nodes.items front.stem (W.place trunk.now) (W.room trunk.now) }
     requires before { AreBefore store.old.nodes.items begin 0 }
+    requires chart { Charting W.after W.passes (W.origin walker.old) store.old.nodes.items chart.old begin 0 }
     ensures fills { IfOk result (λ how. Fills W.after (W.origin walker.old) front.depth store.old.most front.end 0 how store.new.nodes.items) }
     ensures room { store.new.most ≡ store.old.most }
     ensures trunk { IfOk result (λ how. StandsAt W.after (W.origin walker.old) store.new.nodes.items front.stem (W.place trunk.now) (W.room trunk.now)) }
     ensures opens { IfOk result (λ how. Opens W.after W.wanted (W.origin walker.old) front.depth front.end front.end how store.new.nodes.items) }
     ensures over { IfOk result (IsOverBy (P.over progress.new)) }
+    ensures chart { IfOk result (λ how. Charts W.after W.passes (W.origin walker.old) how store.new.nodes.items chart.new front.end 0) }
+    ensures kept { chart.new.kept ≡ chart.old.kept }
     ensures walker_origin { W.origin walker.new ≡ W.origin walker.old }
     ensures base_origin { W.origin base.new ≡ W.origin base.old }
     ensures other_origin { W.origin other.new ≡ W.origin other.old }
@@ -158,7 +217,7 @@ pub(crate) fn open_layer<W: Space, P: Progress>(
         if progress.is_over() {
             return Ok(Layer::Over);
         }
-        match open_place(alloc, walker, base, other, trunk, store, front, at)? {
+        match open_place(alloc, walker, base, other, trunk, store, chart, front, at)? {
             Layer::Done => {}
             how => return Ok(how),
         }

@@ -1,15 +1,9 @@
 //! Marks that spread along edges, from where they lead back to where they come from.
 ghost use Rattle.std.specs.Prelude.{◌≡◌, ◌<◌, ◌⊎◌, ℕ, List, Bool, true, false, length};
-ghost use Rattle.fmp_search.specs.Forever.{mark_at, unmarked, AreDue, AreKept, AreWithin, IsSpread};
+ghost use Rattle.fmp_search.specs.Forever.{mark_at};
+ghost use Rattle.fmp_search.specs.Spreads.{unmarked, AreDue, AreKept, AreWithin, IsSpread};
 
-/// A step between two places, by their numbers, and the tests that it passes.
-#[derive(Clone, Copy, PartialEq, Eq, Debug)]
-pub struct Edge {
-    pub passes: u64,
-    pub from: u32,
-    pub to: u32,
-    pub step: u8,
-}
+use crate::edges::{Edge, Edges};
 
 /// Marks the place from which an edge leads, where the one to which it leads is marked. Says whether that mark is new.
 fn pass_back(marks: &mut [bool], edge: Edge) -> bool
@@ -30,7 +24,7 @@ fn pass_back(marks: &mut [bool], edge: Edge) -> bool
 }
 
 /// Goes over all edges once, the last one first, and marks what can be. Says whether any mark is new.
-fn spread_once(marks: &mut [bool], edges: &[Edge]) -> bool
+fn spread_once(marks: &mut [bool], edges: &Edges) -> bool
     requires within { AreWithin edges.now (length marks.old) }
     ensures done { result ≡ false → IsSpread edges.now marks.new }
     ensures kept { AreKept marks.old marks.new }
@@ -41,14 +35,14 @@ fn spread_once(marks: &mut [bool], edges: &[Edge]) -> bool
     let count = edges.len();
     let mut changed = false;
     for at in 0..count {
-        let edge = edges[count - 1 - at];
+        let edge = edges.get(count - 1 - at);
         changed |= pass_back(marks, edge);
     }
     changed
 }
 
 /// Marks each place from which a way leads to one that is marked.
-pub(crate) fn spread(marks: &mut [bool], edges: &[Edge])
+pub(crate) fn spread(marks: &mut [bool], edges: &Edges)
     requires within { AreWithin edges.now (length marks.old) }
     ensures done { IsSpread edges.now marks.new }
     ensures kept { AreKept marks.old marks.new }

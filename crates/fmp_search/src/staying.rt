@@ -1,15 +1,22 @@
 //! Steps from which on a test is passed for ever.
 ghost use Rattle.std.specs.Prelude.{◌≡◌, ◌≤◌, ◌<◌, ◌+◌, ◌^◌, ◌⊎◌, ℕ, Some, true, false, length, IfOk};
 ghost use Rattle.fmp_search.specs.Trees.{found_at, IsTree};
-ghost use Rattle.fmp_search.specs.Forever.{is_bit, mark_at, test_of, AreClosed, AreEarned, AreEntered, AreKept, AreMarked, AreNearest, AreTrue, AreWithin, Covers};
-ghost use Rattle.fmp_search.specs.Forever.{HasFailing, HasWithin, IsCharted, IsRight, IsTrueEdge, IsWhole, SaysForEver, Surveyed};
+ghost use Rattle.fmp_search.specs.Charts.{AreTrue, IsCharted, IsTrueEdge};
+ghost use Rattle.fmp_search.specs.Answers.{IsComplete};
+ghost use Rattle.fmp_search.specs.Extents.{AreOf, WentForEver};
+ghost use Rattle.fmp_search.specs.Forever.{is_bit, mark_at, test_of, AreClosed, AreEarned, AreNearest, SaysForEver};
+ghost use Rattle.fmp_search.specs.Spreads.{AreKept, AreMarked, AreOpenFrom, AreWithin, HasFailing};
+ghost use Rattle.fmp_search.specs.Stays.{AreEntered, Covers, HasWithin, IsRight};
 
-use crate::charting::{Chart, chart_places};
-use crate::marks::{Edge, spread};
+use crate::chart::Chart;
+use crate::edges::{Edge, Edges};
+use crate::extent::{Extent, extent_of};
+use crate::layer::Layer;
+use crate::marks::spread;
 use crate::nodes::{Node, steps_to};
 use crate::progress::Progress;
 use crate::space::Space;
-use crate::surveying::{Survey, survey_places};
+use crate::surveying::go_through;
 use std::alloc::{AllocError, Global};
 
 /// What is known of runs whose last step passes one of some tests, and every step behind it too.
@@ -34,7 +41,7 @@ fn is_bit(tests: u64, test: u8) -> bool
 }
 
 /// Marks each place from which a step fails a test, besides those that are marked.
-fn mark_failing(marks: &mut [bool], edges: &[Edge], test: u8)
+fn mark_failing(marks: &mut [bool], edges: &Edges, test: u8)
     requires test { test < 64 }
     requires within { AreWithin edges.now (length marks.old) }
     ensures failing { AreMarked edges.now test marks.new }
@@ -42,7 +49,8 @@ fn mark_failing(marks: &mut [bool], edges: &[Edge], test: u8)
     ensures due { (i : ℕ) → i < length marks.new → mark_at marks.new i ≡ true → (mark_at marks.old i ≡ true) ⊎ HasFailing edges.now test i }
     ensures long { length marks.new ≡ length marks.old }
 {
-    for edge in edges {
+    for at in 0..edges.len() {
+        let edge = edges.get(at);
         if !is_bit(edge.passes, test) {
             marks[edge.from as usize] = true;
         }
@@ -53,13 +61,25 @@ fn mark_failing(marks: &mut [bool], edges: &[Edge], test: u8)
 fn mark_test<W: Space>(_walker: &W, _nodes: &[Node], chart: &Chart, marks: &mut [bool], test: u8)
     requires test { test < 64 }
     requires charted { IsCharted W.after W.passes (W.origin _walker.now) _nodes.now chart.now }
-    requires opened { marks.old ≡ chart.now.open.items }
+    requires opened { AreOpenFrom chart.now.opened marks.old }
+    requires long { length marks.old ≡ length _nodes.now + 1 }
     ensures closed { AreClosed W.after (test_of W.passes test) (W.origin _walker.now) _nodes.now marks.new }
-    ensures earned { IsWhole chart.now.open.items → AreEarned W.after (test_of W.passes test) (W.origin _walker.now) _nodes.now marks.new }
+    ensures earned { chart.now.opened ≡ length _nodes.now + 1 → AreEarned W.after (test_of W.passes test) (W.origin _walker.now) _nodes.now marks.new }
     ensures long { length marks.new ≡ length marks.old }
 {
     mark_failing(marks, &chart.edges, test);
     spread(marks, &chart.edges);
+}
+
+/// So many marks, of which those from a number on are set. The error is want of memory.
+fn open_from(alloc: Global, opened: usize, count: usize) -> Result<Vec<bool>, AllocError>
+    requires { opened ≤ count }
+    ensures opened { IfOk result (λ marks. AreOpenFrom opened marks.items) }
+    ensures long { IfOk result (λ marks. length marks.items ≡ count) }
+{
+    let mut marks = vec![in alloc; false; opened]?;
+    marks.resize(count, true)?;
+    Ok(marks)
 }
 
 /// The marks of a test: of each place from which a way leads to a step that fails it, or to a place that is open. The error is want of memory.
@@ -73,24 +93,12 @@ fn marks_of<W: Space>(
     requires test { test < 64 }
     requires charted { IsCharted W.after W.passes (W.origin walker.now) nodes.now chart.now }
     ensures closed { IfOk result (λ marks. AreClosed W.after (test_of W.passes test) (W.origin walker.now) nodes.now marks.items) }
-    ensures earned { IfOk result (λ marks. IsWhole chart.now.open.items → AreEarned W.after (test_of W.passes test) (W.origin walker.now) nodes.now marks.items) }
+    ensures earned { IfOk result (λ marks. chart.now.opened ≡ length nodes.now + 1 → AreEarned W.after (test_of W.passes test) (W.origin walker.now) nodes.now marks.items) }
     ensures long { IfOk result (λ marks. length marks.items ≡ length nodes.now + 1) }
 {
-    let mut marks = Vec::from_slice(alloc, &chart.open)?;
+    let mut marks = open_from(alloc, chart.opened, nodes.len() + 1)?;
     mark_test(walker, nodes, chart, &mut marks, test);
     Ok(marks)
-}
-
-/// Whether no place is open.
-fn is_whole(marks: &[bool]) -> bool
-    ensures { result ≡ true → IsWhole marks.now }
-{
-    for is in marks {
-        if *is {
-            return false;
-        }
-    }
-    true
 }
 
 /// A run whose last step passes the test of a number, as every step behind it does.
@@ -165,7 +173,7 @@ fn entered<W: Space>(
     alloc: Global,
     walker: &W,
     nodes: &[Node],
-    edges: &[Edge],
+    edges: &Edges,
     marks: &[bool],
     test: u8,
     before: Option<Run>,
@@ -181,18 +189,28 @@ fn entered<W: Space>(
     ensures within { IfOk result (λ o. AreEntered W.after (W.origin walker.now) nodes.now edges.now marks.now test o) }
 {
     let mut best = before;
-    for edge in edges {
-        let over = run_over(alloc, walker, nodes, *edge, marks, test)?;
+    for at in 0..edges.len() {
+        let over = run_over(alloc, walker, nodes, edges.get(at), marks, test)?;
         best = better(best, over);
     }
     Ok(best)
 }
 
 /// The answer of a run that was found, or of none, where all was gone through or not.
-fn told<W: Space>(_walker: &W, best: Option<Run>, whole: bool, _tests: u8, turns: u32) -> Stay
+fn told<W: Space>(
+    _walker: &W,
+    _nodes: &[Node],
+    best: Option<Run>,
+    whole: bool,
+    _tests: u8,
+    turns: u32,
+) -> Stay
     requires right { IsRight W.after W.passes (W.origin _walker.now) _tests best }
     requires covers { whole ≡ true → (k : ℕ) → k < _tests → Covers W.after W.passes (W.origin _walker.now) k best }
-    ensures { SaysForEver W.after W.passes (W.origin _walker.now) _tests turns result }
+    requires nearest { whole ≡ true → AreNearest W.after (W.origin _walker.now) _nodes.now }
+    requires complete { IsComplete W.after (W.origin _walker.now) _nodes.now turns (length _nodes.now + 1) }
+    ensures says { SaysForEver W.after W.passes (W.origin _walker.now) _tests turns result }
+    ensures all { AreOf W.after (W.origin _walker.now) result _nodes.now }
 {
     match best {
         Some(found) => {
@@ -224,47 +242,22 @@ fn told_of<W: Space>(
     requires tests { tests ≤ 64 }
     requires tree { IsTree W.after (W.origin walker.now) nodes.now }
     requires charted { IsCharted W.after W.passes (W.origin walker.now) nodes.now chart.now }
-    requires nearest { IsWhole chart.now.open.items → AreNearest W.after (W.origin walker.now) nodes.now }
-    ensures { IfOk result (λ s. SaysForEver W.after W.passes (W.origin walker.now) tests turns s) }
+    requires nearest { chart.now.opened ≡ length nodes.now + 1 → AreNearest W.after (W.origin walker.now) nodes.now }
+    requires complete { IsComplete W.after (W.origin walker.now) nodes.now turns (length nodes.now + 1) }
+    ensures says { IfOk result (λ s. SaysForEver W.after W.passes (W.origin walker.now) tests turns s) }
+    ensures all { IfOk result (λ s. AreOf W.after (W.origin walker.now) s nodes.now) }
 {
     let mut best = None;
     for test in 0..tests {
         let marks = marks_of(alloc, walker, nodes, chart, test)?;
         best = entered(alloc, walker, nodes, &chart.edges, &marks, test, best)?;
     }
-    let whole = is_whole(&chart.open);
-    Ok(told(walker, best, whole, tests, turns))
+    let whole = chart.opened == nodes.len() + 1;
+    Ok(told(walker, nodes, best, whole, tests, turns))
 }
 
-/// All places up to so many steps, or up to as many as there is room for. The error is want of memory.
-fn surveyed<W: Space, P: Progress>(
-    alloc: Global,
-    walker: &mut W,
-    base: &mut W,
-    other: &mut W,
-    trunk: &mut W,
-    progress: &mut P,
-    turns: u32,
-    most: u32,
-) -> Result<Survey, AllocError>
-    requires origins { (W.origin base.old ≡ W.origin walker.old) × (W.origin other.old ≡ W.origin walker.old) × (W.origin trunk.old ≡ W.origin walker.old) }
-    requires turns { turns + 1 < 2 ^ 31 }
-    ensures surveyed { IfOk result (λ s. Surveyed W.after W.wanted (W.origin walker.old) turns s) }
-    ensures walker_origin { W.origin walker.new ≡ W.origin walker.old }
-    ensures base_origin { W.origin base.new ≡ W.origin base.old }
-    ensures other_origin { W.origin other.new ≡ W.origin other.old }
-    ensures trunk_origin { W.origin trunk.new ≡ W.origin trunk.old }
-{
-    match survey_places(alloc, walker, base, other, trunk, progress, turns, most)? {
-        Survey::Full(depth) => {
-            survey_places(alloc, walker, base, other, trunk, progress, depth, most)
-        }
-        survey => Ok(survey),
-    }
-}
-
-/// Looks for a run whose last step passes one of so many tests, as every step behind it does: through all places, up to so many steps from where all runs begin, and
-/// with room for so many places. The error is want of memory.
+/// Looks for a run whose last step passes one of so many tests, as every step behind it does: through all places, up to so many steps from where all
+/// runs begin, and with room for so many besides the first. How far it went is told too. The error is want of memory.
 pub fn for_ever<W: Space, P: Progress>(
     alloc: Global,
     walker: &mut W,
@@ -275,27 +268,24 @@ pub fn for_ever<W: Space, P: Progress>(
     turns: u32,
     most: u32,
     tests: u8,
-) -> Result<Stay, AllocError>
+) -> Result<(Stay, Extent), AllocError>
     requires origins { (W.origin base.old ≡ W.origin walker.old) × (W.origin other.old ≡ W.origin walker.old) × (W.origin trunk.old ≡ W.origin walker.old) }
-    requires turns { turns + 1 < 2 ^ 31 }
+    requires turns { turns < 2 ^ 31 }
     requires tests { tests ≤ 64 }
-    ensures { IfOk result (λ s. SaysForEver W.after W.passes (W.origin walker.old) tests turns s) }
+    ensures says { IfOk result (λ r. SaysForEver W.after W.passes (W.origin walker.old) tests turns r.0) }
+    ensures went { IfOk result (λ r. WentForEver W.after (W.origin walker.old) r.0 r.1) }
 {
-    match surveyed(alloc, walker, base, other, trunk, progress, turns, most)? {
-        Survey::Full(depth) | Survey::Over(depth) => Ok(Stay::NotKnown(depth)),
-        Survey::Done(places) => {
-            let charted = chart_places(alloc, walker, base, other, trunk, progress, &places)?;
-            let Some(chart) = charted else {
-                return Ok(Stay::NotKnown(places.turns));
-            };
-            told_of(
-                alloc,
-                walker,
-                &places.store.nodes,
-                &chart,
-                tests,
-                places.turns,
-            )
+    let found = go_through(
+        alloc, walker, base, other, trunk, progress, turns, most, true,
+    )?;
+    let extent = extent_of(alloc, &found.store.nodes)?;
+    let depth = found.depth;
+    match found.how {
+        Layer::Over => Ok((Stay::NotKnown(depth), extent)),
+        _ => {
+            let nodes = &found.store.nodes;
+            let stay = told_of(alloc, walker, nodes, &found.chart, tests, depth)?;
+            Ok((stay, extent))
         }
     }
 }

@@ -1,13 +1,11 @@
 //! All places that were found, and a table by which one is found again.
 ghost use Rattle.std.specs.Prelude.{◌≡◌, ◌≤◌, ◌<◌, ◌+◌, ◌^◌, ◌++◌, ◌∷◌, ◌↔◌, [], true, length, IfOk, IfSome, ℕ};
-ghost use Rattle.fmp_search.specs.Trees.{found_at, IsAt, IsTree, Has, StandsAt};
+ghost use Rattle.fmp_search.specs.Trees.{found_at, IsAt, IsTree, StandsAt};
 
 use crate::nodes::{Node, stand_at};
 use crate::space::Space;
+use crate::table::{NOBODY, put, slot};
 use std::alloc::{AllocError, Global};
-
-// What stands in the table where there is no place.
-const NOBODY: u32 = u32::MAX;
 
 /// The nodes, of which there are at most so many, and a table of the numbers of places, each near the slot that its hash names.
 #[derive(Drop)]
@@ -18,26 +16,6 @@ pub(crate) struct Store {
     table: Vec<u32>,
     ghost few: { length nodes.items ≤ most },
     ghost small: { length nodes.items < 2 ^ 32 },
-}
-
-/// The index of the slot that is tried for a hash at a turn, counted from 0. It is less than `slots`.
-fn slot(hash: u64, turn: usize, slots: usize) -> usize
-    requires { 0 < slots }
-    ensures { result < slots }
-{
-    (hash.wrapping_add(turn as u64) % slots as u64) as usize
-}
-
-/// Puts the number of a place into the first free slot that is tried for its hash, or nowhere where none is free.
-fn put(table: &mut [u32], hash: u64, place: u32) {
-    let slots = table.len();
-    for turn in 0..slots {
-        let at = slot(hash, turn, slots);
-        if table[at] == NOBODY {
-            table[at] = place;
-            return;
-        }
-    }
 }
 
 impl Store {
@@ -121,29 +99,6 @@ impl Store {
             }
         }
         Ok(None)
-    }
-
-    /// Whether the place where a walker stands, of this hash, was found already.
-    pub(crate) fn has<W: Space>(
-        &self,
-        alloc: Global,
-        walker: &W,
-        other: &mut W,
-        trunk: &W,
-        stem: usize,
-        hash: u64,
-    ) -> Result<bool, AllocError>
-        requires tree { IsTree W.after (W.origin other.old) self.now.nodes.items }
-        requires origins { (W.origin other.old ≡ W.origin walker.now) × (W.origin trunk.now ≡ W.origin walker.now) }
-        requires trunk { StandsAt W.after (W.origin other.old) self.now.nodes.items stem (W.place trunk.now) (W.room trunk.now) }
-        requires depths { (i : ℕ) → i ≤ length self.now.nodes.items → (found_at W.after (W.origin other.old) self.now.nodes.items i).depth < 2 ^ 31 }
-        ensures known { IfOk result (λ k. k ≡ true → Has W.after (W.origin other.old) self.now.nodes.items (W.place walker.now)) }
-        ensures origin { W.origin other.new ≡ W.origin other.old }
-    {
-        match self.find(alloc, walker, other, trunk, stem, hash)? {
-            Some(_number) => Ok(true),
-            None => Ok(false),
-        }
     }
 
     /// Whether `walker` stands at the place of a number, of this hash. It may say no where it does. The other walker goes there to compare.

@@ -1,36 +1,70 @@
-//! All places to which runs lead, none of which is looked for.
-ghost use Rattle.std.specs.Prelude.{◌≡◌, ◌<◌, ◌+◌, ◌^◌, IfOk};
-ghost use Rattle.fmp_search.specs.Forever.{Surveyed};
+//! Going through places, the nearest first.
+ghost use Rattle.std.specs.Prelude.{◌≡◌, ◌≤◌, ◌<◌, ◌+◌, ◌^◌, length, IfOk};
+ghost use Rattle.fmp_search.specs.Surveys.{GoesSo, IsSurveyed};
+ghost use Rattle.fmp_search.specs.Growth.{IsOverBy};
+ghost use Rattle.fmp_search.specs.Trees.{found_at, IsTree, StandsAt};
 
-use crate::exploring::move_trunk;
+use crate::chart::Chart;
 use crate::layer::{Front, Layer, open_layer};
+use crate::nodes::stand_at;
 use crate::progress::Progress;
 use crate::space::Space;
 use crate::store::Store;
 use std::alloc::{AllocError, Global};
 
-/// The places that were found, and how many of them were opened: from each of these all steps lead to places that were found.
+/// What came of going through places: how the last layer went, the places that were found, and how many of the first were opened, with the edges from
+/// there. All places of runs of at most so many steps are among them.
 #[derive(Drop)]
-pub(crate) struct Places {
+pub(crate) struct Survey {
+    pub(crate) how: Layer,
     pub(crate) store: Store,
-    pub(crate) opened: usize,
-    /// Up to so many steps, or to as many as was asked for, where there are no others.
-    pub(crate) turns: u32,
+    pub(crate) chart: Chart,
+    pub(crate) depth: u32,
 }
 
-/// What came of going through places.
-#[derive(Drop)]
-pub(crate) enum Survey {
-    /// All places that so many steps lead to, or all that there are.
-    Done(Places),
-    /// The room did for so many steps.
-    Full(u32),
-    /// The search was ended when so many steps were made.
-    Over(u32),
+impl Survey {
+    fn of(how: Layer, store: Store, chart: Chart, depth: u32) -> Survey
+        ensures { result ≡ record { how = how; store = store; chart = chart; depth = depth } }
+    {
+        Survey {
+            how,
+            store,
+            chart,
+            depth,
+        }
+    }
 }
 
-/// Goes through all places, the nearest first, up to so many steps from where all runs begin, and with room for so many. The error is want of memory.
-pub(crate) fn survey_places<W: Space, P: Progress>(
+/// Makes `trunk` stand at the place where a layer begins, if that is the only one there: all places that are found behind it are made again from
+/// there. Gives the number of the place where it stands then. The error is want of memory.
+fn move_trunk<W: Space>(
+    alloc: Global,
+    trunk: &mut W,
+    base: &mut W,
+    store: &Store,
+    stem: usize,
+    begin: usize,
+) -> Result<usize, AllocError>
+    requires tree { IsTree W.after (W.origin trunk.old) store.now.nodes.items }
+    requires place { begin ≤ length store.now.nodes.items }
+    requires depth { (found_at W.after (W.origin trunk.old) store.now.nodes.items begin).depth < 2 ^ 31 }
+    requires trunk { StandsAt W.after (W.origin trunk.old) store.now.nodes.items stem (W.place trunk.old) (W.room trunk.old) }
+    requires origins { W.origin base.old ≡ W.origin trunk.old }
+    ensures trunk { IfOk result (λ at. StandsAt W.after (W.origin trunk.old) store.now.nodes.items at (W.place trunk.new) (W.room trunk.new)) }
+    ensures trunk_origin { W.origin trunk.new ≡ W.origin trunk.old }
+    ensures base_origin { W.origin base.new ≡ W.origin base.old }
+{
+    if begin + 1 < store.count() {
+        return Ok(stem);
+    }
+    stand_at(alloc, base, trunk, &store.nodes, stem, begin)?;
+    trunk.copy_from(base)?;
+    Ok(begin)
+}
+
+/// Goes through all places, the nearest first, until one is found that is looked for: up to so many steps from where all runs begin, and with room for so
+/// many besides the first. Whether the edges between them are kept is given. The error is want of memory.
+pub(crate) fn go_through<W: Space, P: Progress>(
     alloc: Global,
     walker: &mut W,
     base: &mut W,
@@ -39,41 +73,41 @@ pub(crate) fn survey_places<W: Space, P: Progress>(
     progress: &mut P,
     turns: u32,
     most: u32,
+    kept: bool,
 ) -> Result<Survey, AllocError>
     requires origins { (W.origin base.old ≡ W.origin walker.old) × (W.origin other.old ≡ W.origin walker.old) × (W.origin trunk.old ≡ W.origin walker.old) }
-    requires turns { turns + 1 < 2 ^ 31 }
-    ensures surveyed { IfOk result (λ s. Surveyed W.after W.wanted (W.origin walker.old) turns s) }
+    requires turns { turns < 2 ^ 31 }
+    ensures surveyed { IfOk result (λ s. IsSurveyed W.after W.passes (W.origin walker.old) s) }
+    ensures through { IfOk result (λ s. GoesSo W.after W.wanted (W.origin walker.old) turns most s.store.nodes.items s.depth s.chart.opened s.how) }
+    ensures over { IfOk result (λ s. IsOverBy (P.over progress.new) s.how) }
+    ensures kept { IfOk result (λ s. s.chart.kept ≡ kept) }
     ensures walker_origin { W.origin walker.new ≡ W.origin walker.old }
     ensures base_origin { W.origin base.new ≡ W.origin base.old }
-    ensures other_origin { W.origin other.new ≡ W.origin other.old }
     ensures trunk_origin { W.origin trunk.new ≡ W.origin trunk.old }
 {
     trunk.restart()?;
-    if trunk.is_wanted() {
-        return Ok(Survey::Full(0));
-    }
     let mut store = Store::new(alloc, trunk.hash(), most)?;
+    let mut chart = Chart::new(alloc, kept);
+    if trunk.is_wanted() {
+        let none = Layer::Found(Vec::new(alloc));
+        return Ok(Survey::of(none, store, chart, 0));
+    }
     let mut begin = 0;
     let mut stem = 0;
     for depth in 0..turns {
         let end = store.count();
         if begin == end {
-            break;
+            return Ok(Survey::of(Layer::Done, store, chart, depth));
         }
         stem = move_trunk(alloc, trunk, base, &store, stem, begin)?;
         let front = Front { depth, end, stem };
-        match open_layer(
-            alloc, walker, base, other, trunk, progress, &mut store, front, begin,
-        )? {
-            Layer::Found(_) | Layer::Full => return Ok(Survey::Full(depth)),
-            Layer::Over => return Ok(Survey::Over(depth)),
-            Layer::Done => {}
+        let how = open_layer(
+            alloc, walker, base, other, trunk, progress, &mut store, &mut chart, front, begin,
+        )?;
+        match how {
+            Layer::Done => begin = end,
+            _ => return Ok(Survey::of(how, store, chart, depth)),
         }
-        begin = end;
     }
-    Ok(Survey::Done(Places {
-        store,
-        opened: begin,
-        turns,
-    }))
+    Ok(Survey::of(Layer::Done, store, chart, turns))
 }

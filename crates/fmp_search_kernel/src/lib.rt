@@ -2,6 +2,8 @@
 #![tactic(auto)]
 
 mod begun;
+mod caller;
+mod calls;
 mod sights;
 mod space;
 mod ticks;
@@ -9,6 +11,8 @@ mod walker;
 mod watcher;
 
 pub use begun::choice_of;
+pub use caller::Caller;
+pub use calls::{NUMBERS, POSITIONS, number_of_call};
 pub use sights::{has_to_look, is_over, look, put_sight};
 pub use ticks::advance_taken;
 pub use walker::Walker;

@@ -111,7 +111,7 @@ pub(crate) fn is_marked(step: u8) -> bool
 
 impl<'a> Walker<'a> {
     /// Where the script of a task, or of the handlers on a processor, has come to.
-    fn position(&self, p: Proc, runner: Runner) -> u32
+    pub(crate) fn position(&self, p: Proc, runner: Runner) -> u32
         ensures { result ≡ places.position_at self.now.place p runner }
     {
         match runner {

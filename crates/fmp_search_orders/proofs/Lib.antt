@@ -7,3 +7,4 @@ pub mod Begun  -- What an answer over runs that begin with an order's steps says
 pub mod Behind  -- Orders from which all go on that show a question.
 pub mod Staying  -- What stays for ever, over places and over orders.
 pub mod Watching  -- What is asked of every event from one on, over places and over orders.
+pub mod Made  -- Which calls are made, over places and over orders.

@@ -86,7 +86,7 @@ is_other c s is = ap (λ b. (c.step == s) || b) (eq-eqb c.other s (sym is)) ∙ 
 -- ---- what may happen at a place is what may happen after a history that leads there
 
 module _ (c : Setup) (scripts : List Steps) (rs : Rules) (question : List Step) (w : Place) (h : List Record) (marks : List Bool) (leads : LeadsTo c scripts rs question w h marks) where
-  same_runner : (p : Proc) → runner_of w.machine p ≡ runner_of (state_after c h) p
+  pub same_runner : (p : Proc) → runner_of w.machine p ≡ runner_of (state_after c h) p
   same_runner p = ap (λ (x : World Queues). runner_of x p) leads.stands.same
 
   same_asked : (p : Proc) → is_asked_at w p ≡ is_asked (state_after c h) p
@@ -105,7 +105,7 @@ module _ (c : Setup) (scripts : List Steps) (rs : Rules) (question : List Step) 
       let back : p.number - 1 + 1 ≡ p.number = omega (arith, least) in
       leads.handlers_placed (p.number - 1) (omega (arith, least, most)) ∙ ap (λ n. handler_position c scripts n h) back
 
-  same_position : (p : Proc) (r : Runner) → position_at w p r ≡ position_of c scripts r p h
+  pub same_position : (p : Proc) (r : Runner) → position_at w p r ≡ position_of c scripts r p h
   same_position p (runner.Task t) =
       let least = t.least in
       let most = t.most in

@@ -58,16 +58,16 @@ module _ (c : Setup) (scripts : List Steps) (rules : Rules) (valid : IsValid c) 
   next_order = record { run = run_more c h r.event r order.run answer refl may.0; in_order = order_more c scripts rules h r order.in_order may }
 
 module _ (c : Setup) (scripts : List Steps) (rs : Rules) (valid : IsValid c) where
-  abbrev On : Place → List Record → Type 0
+  abbrev pub On : Place → List Record → Type 0
   On w h = OnOrder c scripts rs valid w h
 
   -- a place after one event more, which is not marked
-  record Next (w : Place) (h : List Record) (r : Record) : Type 0 where
-    step_number : ℕ
-    event_is : event_of w step_number ≡ Some r.event
-    goes : after w step_number ≡ Some (went w false (step listed w.machine r.event))
-    told_is : r ≡ (step listed w.machine r.event).1
-    on : On (went w false (step listed w.machine r.event)) (h ++ r ∷ [])
+  pub record Next (w : Place) (h : List Record) (r : Record) : Type 0 where
+    pub step_number : ℕ
+    pub event_is : event_of w step_number ≡ Some r.event
+    pub goes : after w step_number ≡ Some (went w false (step listed w.machine r.event))
+    pub told_is : r ≡ (step listed w.machine r.event).1
+    pub on : On (went w false (step listed w.machine r.event)) (h ++ r ∷ [])
 
   goes_there : (w : Place) (h : List Record) → On w h → (s : ℕ) (e : Event) → event_of w s ≡ Some e → is_marked s ≡ false → after w s ≡ Some (went w false (step listed w.machine e))
   unfolding after
@@ -78,7 +78,7 @@ module _ (c : Setup) (scripts : List Steps) (rs : Rules) (valid : IsValid c) whe
       ap (next_place w (is_marked s)) here ∙ ap (λ b. allowed w b did) unmarked ∙ ap (λ b. cond b (Some (went w false did)) None) free
 
   -- where an order goes on, so do the places
-  next_of : (w : Place) (h : List Record) → On w h → (r : Record) (more : List Record) → IsOrder c scripts rs (h ++ r ∷ more) → Next w h r
+  pub next_of : (w : Place) (h : List Record) → On w h → (r : Record) (more : List Record) → IsOrder c scripts rs (h ++ r ∷ more) → Next w h r
   next_of w h on r more longer =
       let one = next_order c scripts rs valid h on.1.order r more longer in
       let told = (on_next c scripts rs valid w h on r one).1 in
@@ -94,14 +94,14 @@ module _ (c : Setup) (scripts : List Steps) (rs : Rules) (valid : IsValid c) whe
       }
 
   -- and so on
-  record Walk (w : Place) (h g : List Record) : Type 0 where
-    steps : List ℕ
-    place : Place
-    leads : run after w steps ≡ Some place
-    on : On place (h ++ g)
-    long : length steps ≡ length g
+  pub record Walk (w : Place) (h g : List Record) : Type 0 where
+    pub steps : List ℕ
+    pub place : Place
+    pub leads : run after w steps ≡ Some place
+    pub on : On place (h ++ g)
+    pub long : length steps ≡ length g
 
-  walk : (g rest : List Record) (w : Place) (h : List Record) → On w h → IsOrder c scripts rs (h ++ (g ++ rest)) → Walk w h g
+  pub walk : (g rest : List Record) (w : Place) (h : List Record) → On w h → IsOrder c scripts rs (h ++ (g ++ rest)) → Walk w h g
   walk [] rest w h on order = record { steps = []; place = w; leads = refl; on = subst (λ x. On w x) (sym (append-nil h)) on; long = refl }
   walk (r ∷ g) rest w h on order =
       let one = next_of w h on r (g ++ rest) order in
@@ -117,11 +117,11 @@ module _ (c : Setup) (scripts : List Steps) (rs : Rules) (valid : IsValid c) whe
       }
 
   -- the event of a step that can be made at a place to which an order leads
-  record Made (w : Place) (h : List Record) (s : ℕ) (u : Place) : Type 0 where
-    event : Event
-    event_is : event_of w s ≡ Some event
-    next_is : u ≡ went w false (step listed w.machine event)
-    on : On u (h ++ (step listed w.machine event).1 ∷ [])
+  pub record Made (w : Place) (h : List Record) (s : ℕ) (u : Place) : Type 0 where
+    pub event : Event
+    pub event_is : event_of w s ≡ Some event
+    pub next_is : u ≡ went w false (step listed w.machine event)
+    pub on : On u (h ++ (step listed w.machine event).1 ∷ [])
 
   refused : (n : ℕ) (text : List ℕ) → allows [] n true text ≡ false
   unfolding allows
@@ -145,7 +145,7 @@ module _ (c : Setup) (scripts : List Steps) (rs : Rules) (valid : IsValid c) whe
       let there : went w false did ≡ u = some_place _ _ (sym (ap (λ b. cond b (Some (went w false did)) None) free) ∙ goes) in
       record { event = e; event_is = is; next_is = sym there; on = subst (λ x. On x (h ++ did.1 ∷ [])) there (on_more c scripts rs valid w h on s e is) }
 
-  made_of : (w : Place) (h : List Record) → On w h → (s : ℕ) (u : Place) → after w s ≡ Some u → Made w h s u
+  pub made_of : (w : Place) (h : List Record) → On w h → (s : ℕ) (u : Place) → after w s ≡ Some u → Made w h s u
   unfolding after
   made_of w h on s u goes = made_by w h on s u (event_of w s) refl (is_marked s) refl goes
 

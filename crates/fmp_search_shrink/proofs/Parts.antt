@@ -1,27 +1,12 @@
 -- Parts of lists.
-use Rattle.std.proofs.Common.{◌≡◌, ◌⊎◌, ℕ, zero, suc, ◌+◌, ◌≤◌, ◌<◌, List, [], ◌∷◌, length, take, drop, refl, sym, ap, subst, ◌∙◌, inl, inr, arith}
+use Rattle.std.proofs.Common.{◌≡◌, ◌⊎◌, ℕ, zero, suc, ◌+◌, ◌≤◌, ◌<◌, List, [], ◌∷◌, length, take, drop, refl, ap, inl, inr, arith}
 use Rattle.std.proofs.lemmas.Grind.{common_steps}
-use Rattle.std.proofs.lemmas.List.Elements.{All-append, All-cons, All-drop, All-head, All-nil, All-tail, All-take}
+use Rattle.std.proofs.lemmas.List.Elements.{All-append, All-drop, All-take}
 use Rattle.fmp_codes.specs.Records.{AreOn, processor_of}
 use Rattle.fmp_codes.specs.declared.records.Event.{Event}
-use Rattle.fmp_search_shrink.specs.Shrinking.{IsPartOf, without}
-
-pub part_of_itself : (es : List Event) → IsPartOf es es
-part_of_itself [] = tt
-part_of_itself (e ∷ es) = inl (refl, part_of_itself es)
-
--- a part of the rest is a part of the list
-part_behind : (x : Event) (es whole : List Event) → IsPartOf es whole → IsPartOf es (x ∷ whole)
-part_behind x [] whole part = tt
-part_behind x (e ∷ es) whole part = inr part
-
-pub part_of_part : (es part whole : List Event) → IsPartOf es part → IsPartOf part whole → IsPartOf es whole
-part_of_part [] part whole a b = tt
-part_of_part (e ∷ es) [] whole a b = absurd a
-part_of_part (e ∷ es) (p ∷ part) [] a b = absurd b
-part_of_part (e ∷ es) (p ∷ part) (x ∷ whole) (inl same) (inl here) = inl (same.0 ∙ here.0, part_of_part es part whole same.1 here.1)
-part_of_part (e ∷ es) (p ∷ part) (x ∷ whole) (inr later) (inl here) = inr (part_of_part (e ∷ es) part whole later here.1)
-part_of_part (e ∷ es) (p ∷ part) (x ∷ whole) a (inr there) = inr (part_of_part (e ∷ es) (p ∷ part) whole a there)
+use Rattle.fmp_search_runners.specs.Runners.{IsPartOf}
+use Rattle.fmp_search_runners.proofs.Parts.{part_all, part_behind, part_of_itself}
+use Rattle.fmp_search_shrink.specs.Shrinking.{without}
 
 -- the end of a list is a part of it
 drop_is_part : (n : ℕ) (es : List Event) → IsPartOf (drop n es) es
@@ -47,13 +32,7 @@ without_is_on n es from to on =
     All-append P (take from es) (drop to es) (All-take P from es on) (All-drop P to es on)
 
 pub part_is_on : (n : ℕ) (es whole : List Event) → IsPartOf es whole → AreOn n whole → AreOn n es
-part_is_on n [] whole part on = All-nil (λ e. (processor_of e).number ≤ n)
-part_is_on n (e ∷ es) [] part on = absurd part
-part_is_on n (e ∷ es) (x ∷ whole) (inl here) on =
-    let P : Event → Type 0 = λ y. (processor_of y).number ≤ n in
-    let first : P x = All-head P x whole on in
-    All-cons P e es (subst P (sym here.0) first) (part_is_on n es whole here.1 (All-tail P x whole on))
-part_is_on n (e ∷ es) (x ∷ whole) (inr there) on = part_is_on n (e ∷ es) whole there (All-tail (λ y. (processor_of y).number ≤ n) x whole on)
+part_is_on n es whole part on = part_all (λ e. (processor_of e).number ≤ n) es whole part on
 
 -- what stands before the gap stays
 pub without_is_long : (es : List Event) (from to : ℕ) → from ≤ length es → from ≤ length (without es from to)

@@ -9,7 +9,7 @@ use fmp_text_scripts::Scripts;
 
 /// The number of the function that a task or a handler runs. None where the configuration has no such task or handler.
 #[inline(always)]
-pub(crate) fn function_of(config: &Config, runner: Runner) -> Option<u8>
+pub fn function_of(config: &Config, runner: Runner) -> Option<u8>
     ensures { result ≡ function_of config.now runner }
 {
     match runner {

@@ -9,6 +9,6 @@ mod choice;
 mod laws;
 mod positions;
 
-pub use choice::asked_at;
+pub use choice::{asked_at, function_of};
 pub use laws::straight_scripts_are_counted;
 pub use positions::{advance_handler, advance_task, is_taken};

@@ -201,7 +201,10 @@ impl Space for Ring {
 #[cfg(test)]
 mod tests {
     use crate::{Board, Ring};
-    use fmp_search::{Answer, Choice, Quiet, Roots, Stay, explore, explore_along, for_ever};
+    use fmp_search::{
+        Answer, Choice, Extent, Quiet, Roots, Stay, explore, explore_along, explore_measured,
+        for_ever, meet,
+    };
     use std::alloc::{AllocError, Global};
 
     /// What `explore` gives from place 1, where `goal` is looked for in up to `turns` steps and with room for `most` places.
@@ -334,6 +337,50 @@ mod tests {
         assert_eq!(rt; steps.len(), 2);
     }
 
+    /// How far a search from place 1 for place 24 goes, or to 0 places where it tells nothing.
+    fn gone(alloc: Global, turns: u32, most: u32) -> Result<Extent, AllocError>
+        requires { turns < 2 ^ 31 }
+    {
+        let goal = 24;
+        let mut walker = Board { at: 1, goal };
+        let mut base = Board { at: 1, goal };
+        let mut other = Board { at: 1, goal };
+        let mut trunk = Board { at: 1, goal };
+        let (_answer, _roots, extent) = explore_measured(
+            alloc,
+            &mut walker,
+            &mut base,
+            &mut other,
+            &mut trunk,
+            &mut Quiet,
+            turns,
+            most,
+        )?;
+        match extent {
+            Some(extent) => Ok(extent),
+            None => Ok(Extent {
+                places: 0,
+                farthest: 0,
+            }),
+        }
+    }
+
+    // 1, then 2, then 3 and 4
+    #[test]
+    fn how_far(rt: HostRuntime) {
+        let extent = gone(rt.alloc(), 2, 200).expect(&rt, "memory");
+        assert_eq!(rt; extent.places, 4);
+        assert_eq!(rt; extent.farthest, 2);
+    }
+
+    // 1, 2 and 3, where 4 does not fit
+    #[test]
+    fn how_far_with_little_room(rt: HostRuntime) {
+        let extent = gone(rt.alloc(), 50, 2).expect(&rt, "memory");
+        assert_eq!(rt; extent.places, 3);
+        assert_eq!(rt; extent.farthest, 2);
+    }
+
     // where no step may be made there is one place, and to that none leads
     #[test]
     fn the_first_place(rt: HostRuntime) {
@@ -351,9 +398,9 @@ mod tests {
         assert_eq!(rt; roots.count(), 0);
     }
 
-    /// What `for_ever` answers of so many tests in the ring. The error is want of memory.
-    fn stay(alloc: Global, turns: u32, most: u32, tests: u8) -> Result<Stay, AllocError>
-        requires turns { turns + 1 < 2 ^ 31 }
+    /// What `for_ever` gives for so many tests in the ring. The error is want of memory.
+    fn stay(alloc: Global, turns: u32, most: u32, tests: u8) -> Result<(Stay, Extent), AllocError>
+        requires turns { turns < 2 ^ 31 }
         requires tests { tests ≤ 64 }
     {
         let mut walker = Ring { at: 0 };
@@ -376,7 +423,7 @@ mod tests {
     // three steps on, and one into the trap, from which none leads out
     #[test]
     fn into_the_trap(rt: HostRuntime) {
-        match stay(rt.alloc(), 50, 50, 1).expect(&rt, "memory") {
+        match stay(rt.alloc(), 50, 50, 1).expect(&rt, "memory").0 {
             Stay::Shortest(test, steps) => {
                 assert_eq!(rt; test, 0);
                 assert_eq!(rt; steps.len(), 4);
@@ -385,10 +432,18 @@ mod tests {
         }
     }
 
+    // the trap is 6, 7 and 8, and to 6 lead four steps
+    #[test]
+    fn how_far_in_the_ring(rt: HostRuntime) {
+        let (_stay, extent) = stay(rt.alloc(), 50, 50, 1).expect(&rt, "memory");
+        assert_eq!(rt; extent.places, 9);
+        assert_eq!(rt; extent.farthest, 6);
+    }
+
     // of no test nothing is so
     #[test]
     fn never_of_no_test(rt: HostRuntime) {
-        match stay(rt.alloc(), 50, 50, 0).expect(&rt, "memory") {
+        match stay(rt.alloc(), 50, 50, 0).expect(&rt, "memory").0 {
             Stay::Never => {}
             _ => panic!(rt; "never"),
         }
@@ -397,18 +452,51 @@ mod tests {
     // the places of three steps are not all
     #[test]
     fn not_known_of_few(rt: HostRuntime) {
-        match stay(rt.alloc(), 3, 50, 2).expect(&rt, "memory") {
+        match stay(rt.alloc(), 3, 50, 2).expect(&rt, "memory").0 {
             Stay::NotKnown(turns) => assert_eq!(rt; turns, 3),
             _ => panic!(rt; "not known"),
         }
     }
 
-    // where the room does for the trap and not for the ring, it is found, and may not be the nearest
+    // 1, 2, 3 and 4, where 6 does not fit
     #[test]
     fn not_known_without_room(rt: HostRuntime) {
-        match stay(rt.alloc(), 50, 4, 2).expect(&rt, "memory") {
+        match stay(rt.alloc(), 50, 4, 2).expect(&rt, "memory").0 {
             Stay::NotKnown(_) => {}
             _ => panic!(rt; "not known"),
         }
+    }
+
+    /// Whether a number below 4 is told of a step in the ring. None where that is not known. The error is want of memory.
+    fn is_told(alloc: Global, most: u32, number: usize) -> Result<Option<bool>, AllocError> {
+        let mut walker = Ring { at: 0 };
+        let mut base = Ring { at: 0 };
+        let mut other = Ring { at: 0 };
+        let mut trunk = Ring { at: 0 };
+        let met = meet(
+            alloc,
+            &mut walker,
+            &mut base,
+            &mut other,
+            &mut trunk,
+            &mut Quiet,
+            50,
+            most,
+            4,
+        )?;
+        match met {
+            Some(met) => Ok(met.marks.get(number).copied()),
+            None => Ok(None),
+        }
+    }
+
+    // bit 0 is told in the trap alone, and there bit 1 is told too
+    #[test]
+    fn which_are_told(rt: HostRuntime) {
+        let alloc = rt.alloc();
+        assert!(rt; matches!(is_told(alloc, 50, 0).expect(&rt, "memory"), Some(true)));
+        assert!(rt; matches!(is_told(alloc, 50, 1).expect(&rt, "memory"), Some(false)));
+        assert!(rt; matches!(is_told(alloc, 50, 3).expect(&rt, "memory"), Some(true)));
+        assert!(rt; is_told(alloc, 4, 0).expect(&rt, "memory").is_none());
     }
 }

@@ -7,7 +7,6 @@ use Rattle.std.proofs.lemmas.Option.{slice_get-get_or}
 use Rattle.fmp_codes.specs.Records.{AreOn, Ascend}
 use Rattle.fmp_codes.specs.declared.numbers.Task.{Task}
 use Rattle.fmp_codes.specs.declared.records.Event.{Event}
-use Rattle.fmp_codes.specs.declared.records.Event.TheVariants as events
 use Rattle.fmp_codes.specs.declared.records.Record.{Record}
 use Rattle.fmp_codes.specs.declared.records.Release.{Release}
 use Rattle.fmp_codes.specs.declared.records.Runner.{Runner}
@@ -21,7 +20,6 @@ use Rattle.fmp_rules.specs.Arrivals.{State, numbered}
 use Rattle.fmp_setup.specs.Setup.{Setup}
 use Rattle.fmp_rules.specs.Step.{step, answers}
 use Rattle.fmp_setup.specs.Valid.{IsValid}
-use Rattle.fmp_rules.specs.World.{processor}
 use Rattle.fmp_rules.proofs.Replays.{step_event}
 use Rattle.fmp_setup.proofs.Named.{length_at}
 use Rattle.fmp_law_safety.proofs.Telling.{runs_name}

@@ -12,12 +12,13 @@ ghost use Rattle.fmp_trace.specs.Heads.{event_of as event_told};
 ghost use Rattle.fmp_trace.specs.Reading.{Passes, records_from, records_in};
 
 use crate::same::is_same;
+use crate::told::tell_event;
 use crate::watching::Watcher;
 use fmp_codes::{Answer, Event, Proc, Record};
 use fmp_plain::Plain;
 use fmp_rules::Config;
 use fmp_text::{MOST_BYTES, MOST_EVENTS, Names, TextFault, TextKind};
-use fmp_trace::{event_of, next_line, validate_from};
+use fmp_trace::{next_line, validate_from};
 use fmp_trace_buffer::{LineBuffer, line_is_short};
 use std::alloc::{AllocError, Global};
 
@@ -55,15 +56,13 @@ impl Player {
         ensures steps { self.new.plain.steps ≤ self.old.plain.steps + 1 }
     {
         self.own.clear();
-        match event_of(names, line) {
-            None => false,
-            Some(event) => {
-                self.plain.step_into(event, &mut self.told);
-                line_is_short(names, &self.told);
-                self.own.put_core(names, n, &self.told);
-                is_same(self.own.as_slice(), line)
-            }
+        if !tell_event(names, line, &mut self.told.event) {
+            return false;
         }
+        self.plain.step_told(&mut self.told);
+        line_is_short(names, &self.told);
+        self.own.put_core(names, n, &self.told);
+        is_same(self.own.as_slice(), line)
     }
 }
 

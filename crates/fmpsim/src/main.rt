@@ -15,6 +15,7 @@ mod questions;
 mod scripts;
 mod staying;
 mod texts;
+mod unmade;
 mod unshown;
 mod values;
 mod waiting;
@@ -31,7 +32,7 @@ use fmp_cli_runs::{answer, judge, search, search_forever, search_from, shrink};
 use fmp_cli_shrink::ShrinkRequest;
 use fmp_cli_table::SmpRequest;
 use fmp_run_events::{MemSource, ReadSource, RunFault, Status, WriteSink, run_life};
-use fmp_run_explore::Progress;
+use fmp_run_explore::{Finding, Progress};
 use fmp_run_list::run_list;
 use fmp_run_seeds::SeedProgress;
 use fmp_run_wave::run_save;
@@ -226,8 +227,13 @@ fn explore<R: Files + Input + Print + Eprint + Clock + AllocGlobal>(
     if let Some(folder) = request.layer {
         layer::written(rt, folder, &outcome.layer)?;
     }
+    if let Some(extent) = outcome.extent {
+        let all = matches!(outcome.finding, Finding::Never);
+        unmade::tell_extent(rt, "question", extent, all);
+    }
     line.allow_as_much();
     unshown::tell(rt, "question", &outcome, request, line);
+    unmade::tell_calls_unmade(rt, "question", &outcome, request.bounds, line);
     Ok(outcome.finding.status())
 }
 

@@ -6,7 +6,7 @@ use crate::layer::folder_made;
 use crate::output::{Ending, settled_search};
 use crate::progress::ProgressLine;
 use crate::texts::{STANDARD_INPUT, both_opened, text_read, trace_read};
-use crate::{beside, lines, unshown};
+use crate::{beside, lines, unmade, unshown};
 use fmp_cli::Paths;
 use fmp_cli_explore::{ExploreRequest, FEW_TICKS};
 use fmp_cli_questions::{
@@ -291,7 +291,7 @@ fn searched<P: Progress>(
     Ok(Found {
         answer,
         trace: output.text,
-        outcome: unshown::is_told(alloc, &outcome).then_some(outcome),
+        outcome: matches!(outcome.finding, Finding::Never).then_some(outcome),
     })
 }
 
@@ -385,6 +385,19 @@ fn replies_to<R: Files + Print + Eprint + Clock + AllocGlobal>(
     Ok(replies)
 }
 
+/// Tells which calls of the scripts no order makes, where some question is shown by none: that is the same beside each of them.
+fn tell_unmade<R: Eprint + Clock + AllocGlobal>(
+    rt: &R,
+    asking: &Asking<'_>,
+    outcomes: &[Option<Outcome>],
+    progress: &mut ProgressLine<'_, R>,
+) {
+    for outcome in outcomes.iter().flatten().take(1) {
+        let bounds = asking.request.bounds;
+        unmade::tell_calls_unmade(rt, "questions", outcome, bounds, progress);
+    }
+}
+
 /// Tells of each question that no order shows how much of it comes, after all answers: these searches are not to take the time of others.
 fn tell_unshown<R: Eprint + Clock + AllocGlobal>(
     rt: &R,
@@ -400,6 +413,7 @@ fn tell_unshown<R: Eprint + Clock + AllocGlobal>(
             unshown::tell(rt, name, outcome, &asking.request, progress);
         }
     }
+    tell_unmade(rt, asking, outcomes, progress);
 }
 
 /// How answers end the program.

@@ -1,5 +1,6 @@
 //! What is told of something that stays for ever.
 use crate::patterns::{put_between, put_item};
+use crate::unmade::tell_extent;
 use fmp_run_forever::{Stayed, Staying};
 use fmp_search_pattern::Lasting;
 use std::alloc::{AllocError, Global};
@@ -43,6 +44,7 @@ pub fn tell_stayed<R: Eprint + AllocGlobal>(rt: &R, stayed: &Stayed) {
             tell_from(rt, stayed, number, line);
             let _ = eprintln!(rt; "fmpsim: a shorter one is not ruled out");
         }
-        Staying::Never | Staying::NotWithin(_) => {}
+        Staying::Never => tell_extent(rt, "question", stayed.extent, true),
+        Staying::NotWithin(_) => tell_extent(rt, "question", stayed.extent, false),
     }
 }

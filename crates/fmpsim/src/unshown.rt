@@ -79,7 +79,7 @@ fn asks_spurious(alloc: Global, question: &Question) -> bool {
 
 /// Whether something is told of what was found: of a question that no order shows, and that is more than one pattern or asks for interrupts which
 /// change nothing.
-pub fn is_told(alloc: Global, outcome: &Outcome) -> bool {
+fn is_told(alloc: Global, outcome: &Outcome) -> bool {
     let question = outcome.layer.question();
     matches!(outcome.finding, Finding::Never)
         && (!is_plain(question) || asks_spurious(alloc, question))

@@ -1,5 +1,6 @@
 use Rattle.std.proofs.Common.{◌∙◌, IfOk, ap, subst, sym}
 use Rattle.fmp_search.specs.Answers.{Says}
+use Rattle.fmp_search.specs.Extents.{Went}
 use Rattle.fmp_search.specs.Roots.{Leaves}
 use Rattle.fmp_search_orders.specs.Laws.{is_seen}
 use Rattle.fmp_search_orders.specs.Places.{Place, after}
@@ -21,3 +22,6 @@ returns-clause-says g c =
 pub returns-clause-leaves : goal.returns-clause-leaves
 returns-clause-leaves g c =
     subst (λ (w : Place). IfOk c.explored.result (λ r. Leaves after is_seen w c.args.turns r.0 r.1)) (ap origin_of c.in_ok-walkers.ensures.first) c.explored.ensures.leaves
+
+pub returns-clause-went : goal.returns-clause-went
+returns-clause-went g c = subst (λ (w : Place). IfOk c.explored.result (λ r. Went after w r.0 r.2)) (ap origin_of c.in_ok-walkers.ensures.first) c.explored.ensures.went

@@ -3,6 +3,7 @@ use Rattle.std.specs.Prelude.{is_some}
 use Rattle.fmp_names.specs.Names.{AreValid}
 use Rattle.fmp_trace.specs.Lines.{lines_from}
 use Rattle.fmp_search.specs.Answers.{Says}
+use Rattle.fmp_search.specs.Extents.{Went}
 use Rattle.fmp_search.specs.Roots.{Leaves as LeavesRoots}
 use Rattle.fmp_search.specs.Runs.{run}
 use Rattle.fmp_search_orders.specs.Laws.{is_seen}
@@ -98,3 +99,23 @@ pub returns-in_ok-not_within-in-Ended-clause-made : goal.returns-in_ok-not_withi
 returns-in_ok-not_within-in-Ended-clause-made g c =
     let begin = origin c.args.config.now c.args.scripts.now c.args.rules c.args.question.now in
     made_none begin c.in_ok-answer.roots (subst (λ a. LeavesRoots after is_seen begin c.args.turns a c.in_ok-answer.roots) c.in-Ended.is c.in_ok-answer.ensures.leaves)
+
+pub returns-in_ok-text-in-Found-clause-went : goal.returns-in_ok-text-in-Found-clause-went
+returns-in_ok-text-in-Found-clause-went g c =
+    let begin = origin c.args.config.now c.args.scripts.now c.args.rules c.args.question.now in
+    subst (λ a. Went after begin a c.in_ok-answer.extent) c.in-Found.is c.in_ok-answer.ensures.went
+
+pub returns-in_ok-never-in-Never-clause-went : goal.returns-in_ok-never-in-Never-clause-went
+returns-in_ok-never-in-Never-clause-went g c =
+    let begin = origin c.args.config.now c.args.scripts.now c.args.rules c.args.question.now in
+    subst (λ a. Went after begin a c.in_ok-answer.extent) c.in-Never.is c.in_ok-answer.ensures.went
+
+pub returns-in_ok-not_within-in-NotWithin-clause-went : goal.returns-in_ok-not_within-in-NotWithin-clause-went
+returns-in_ok-not_within-in-NotWithin-clause-went g c =
+    let begin = origin c.args.config.now c.args.scripts.now c.args.rules c.args.question.now in
+    subst (λ a. Went after begin a c.in_ok-answer.extent) c.in-NotWithin.is c.in_ok-answer.ensures.went
+
+pub returns-in_ok-not_within-in-Ended-clause-went : goal.returns-in_ok-not_within-in-Ended-clause-went
+returns-in_ok-not_within-in-Ended-clause-went g c =
+    let begin = origin c.args.config.now c.args.scripts.now c.args.rules c.args.question.now in
+    subst (λ a. Went after begin a c.in_ok-answer.extent) c.in-Ended.is c.in_ok-answer.ensures.went

@@ -12,15 +12,15 @@ told_along-requires-clause-least g c = λ _.
     let scripts = c.args.scripts.now in
     let lasting = c.args.lasting.now in
     let law = c.watched_answer.ensures config scripts c.args.rules lasting c.names.ensures.valid in
-    let says = subst (λ s. SaysForEver watched_after watched_passes (watched lasting (origin config scripts c.args.rules [])) (length lasting) c.args.turns s) c.in-Shortest.is c.in_ok-stay.ensures in
+    let says = subst (λ s. SaysForEver watched_after watched_passes (watched lasting (origin config scripts c.args.rules [])) (length lasting) c.args.turns s) c.in-Shortest.is c.in_ok-stay.ensures.says in
     subst (λ (steps : List ℕ). IsLeast config scripts c.args.rules lasting (length steps)) (sym c.deref.ensures.value)
     (least_of config scripts c.args.rules lasting (length c.in-Shortest.steps.items) law says.2)
 
-pub returns-in-Never : goal.returns-in-Never
-returns-in-Never g c =
+pub returns-in-Never-clause-finds : goal.returns-in-Never-clause-finds
+returns-in-Never-clause-finds g c =
     let config = c.args.config.now in
     let scripts = c.args.scripts.now in
     let lasting = c.args.lasting.now in
     let law = c.watched_answer.ensures config scripts c.args.rules lasting c.names.ensures.valid in
-    let says = subst (λ s. SaysForEver watched_after watched_passes (watched lasting (origin config scripts c.args.rules [])) (length lasting) c.args.turns s) c.in-Never.is c.in_ok-stay.ensures in
+    let says = subst (λ s. SaysForEver watched_after watched_passes (watched lasting (origin config scripts c.args.rules [])) (length lasting) c.args.turns s) c.in-Never.is c.in_ok-stay.ensures.says in
     (λ k less. law.never k less (says k less), c.in_ok-never-in-Never.ensures)

@@ -14,8 +14,8 @@ trace_along-requires-clause-leads c =
     subst (λ (q : List Step). is_some (run after (origin c.args.config.now c.args.scripts.now c.args.rules q) c.args.steps.now) ≡ true) (sym c.requires.none)
     (law.made c.args.test c.args.steps.now c.requires.ends)
 
-pub returns : goal.returns
-returns c =
+pub returns-clause-finds : goal.returns-clause-finds
+returns-clause-finds c =
     let config = c.args.config.now in
     let scripts = c.args.scripts.now in
     let rules = c.args.rules in

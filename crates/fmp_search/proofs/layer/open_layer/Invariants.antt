@@ -1,5 +1,6 @@
 use Rattle.std.proofs.Common.{◌≡◌}
 use Rattle.fmp_search.specs.Answers.{Explored}
+use Rattle.fmp_search.specs.Charts.{Charting}
 use Rattle.fmp_search.specs.Growth.{AreBefore}
 use Rattle.fmp_search.specs.Trees.{StandsAt}
 use Rattle.fmp_search.proofs.layer.open_layer.Given as goal
@@ -14,3 +15,5 @@ invariant-loop-at g l =
     × AreBefore l.store.nodes.items l.at 0
     × (l.store.most ≡ l.fn.store.most)
     × StandsAt g.W.Space.after q l.store.nodes.items l.fn.front.stem (g.W.Space.place l.fn.trunk) (g.W.Space.room l.fn.trunk)
+    × Charting g.W.Space.after g.W.Space.passes q l.store.nodes.items l.chart l.at 0
+    × (l.chart.kept ≡ l.fn.chart.kept)

@@ -1,5 +1,6 @@
 use Rattle.std.proofs.Common.{◌≡◌}
 use Rattle.fmp_search.specs.Answers.{Explored}
+use Rattle.fmp_search.specs.Charts.{Charting}
 use Rattle.fmp_search.specs.Growth.{Extends, AreTried, AreBefore}
 use Rattle.fmp_search.specs.Trees.{StandsAt}
 use Rattle.fmp_search.proofs.layer.open_place.Given as goal
@@ -18,3 +19,5 @@ invariant-loop-step g l =
     × AreBefore nodes l.fn.at l.step
     × (l.store.most ≡ l.fn.store.most)
     × StandsAt after q nodes l.fn.front.stem (g.W.Space.place l.fn.trunk) (g.W.Space.room l.fn.trunk)
+    × Charting after g.W.Space.passes q nodes l.chart l.fn.at l.step
+    × (l.chart.kept ≡ l.fn.chart.kept)

@@ -1,6 +1,6 @@
 use Rattle.std.proofs.Common.{◌≡◌, ◌+◌, false, length}
 use Rattle.std.specs.Prelude.{if◌then◌else◌}
-use Rattle.fmp_search.specs.Forever.{unmarked, AreDue, AreKept, IsSpread}
+use Rattle.fmp_search.specs.Spreads.{unmarked, AreDue, AreKept, IsSpread}
 use Rattle.fmp_search.proofs.marks.spread.Given as goal
 
 abbrev pub invariant-loop-more : goal.invariant-loop-more

@@ -1,7 +1,8 @@
 use Rattle.std.proofs.Common.{◌≡◌, ◌≤◌, ◌<◌, ◌+◌, ℕ, Bool, true, false, List, length, Some}
 use Rattle.std.specs.Prelude.{slice_get}
-use Rattle.fmp_search.specs.declared.marks.Edge.{Edge}
-use Rattle.fmp_search.specs.Forever.{mark_at, unmarked, AreDue, AreKept}
+use Rattle.fmp_search.specs.declared.edges.Edge.{Edge}
+use Rattle.fmp_search.specs.Forever.{mark_at}
+use Rattle.fmp_search.specs.Spreads.{unmarked, AreDue, AreKept}
 use Rattle.fmp_search.proofs.marks.spread_once.Given as goal
 
 abbrev pub invariant-loop-at : goal.invariant-loop-at

@@ -1,14 +1,17 @@
-use Rattle.std.proofs.Common.{◌≤◌, ◌∙◌, ◌+◌, ℕ, List, Option, length, Result, Ok, Err, sym, subst, arith}
-use Rattle.std.specs.Result.{IfOk}
-use Rattle.std.specs.Option.{IfSome}
-use Rattle.fmp_search.specs.declared.charting.Chart.{Chart}
+use Rattle.std.proofs.Common.{◌≡◌, ◌≤◌, ◌∙◌, ◌+◌, ℕ, Bool, List, Option, length, ap, sym, subst, arith}
+use Rattle.fmp_search.specs.declared.layer.Layer.{Layer}
+use Rattle.fmp_search.specs.declared.layer.Layer.TheVariants as layer
 use Rattle.fmp_search.specs.declared.nodes.Node.{Node}
 use Rattle.fmp_search.specs.declared.staying.Stay.{Stay}
 use Rattle.fmp_search.specs.declared.staying.Stay.TheVariants as stay
-use Rattle.fmp_search.specs.declared.surveying.Survey.{Survey}
-use Rattle.fmp_search.specs.Answers.{Explored}
-use Rattle.fmp_search.specs.Forever.{AreNearest, IsCharted, SaysForEver, Surveyed}
+use Rattle.fmp_search.specs.Answers.{IsComplete}
+use Rattle.fmp_search.specs.Charts.{IsCharted}
+use Rattle.fmp_search.specs.Extents.{AreOf}
+use Rattle.fmp_search.specs.Forever.{AreNearest, SaysForEver}
+use Rattle.fmp_search.specs.Surveys.{GoesSo}
+use Rattle.fmp_search.specs.Trees.{IsTree}
 use Rattle.fmp_search.proofs.Covered.{nearest_by}
+use Rattle.fmp_search.proofs.Extents.{gone}
 use Rattle.fmp_search.proofs.staying.for_ever.Goals as goal
 
 says_more : {P : Type 0} (after : P → ℕ → Option P) (passes : P → ℕ → ℕ) (q : P) (tests n m : ℕ) (s : Stay) → n ≤ m → SaysForEver after passes q tests n s → SaysForEver after passes q tests m s
@@ -17,31 +20,83 @@ says_more after passes q tests n m (stay.Found test steps) le h = h
 says_more after passes q tests n m stay.Never le h = h
 says_more after passes q tests n m (stay.NotKnown k) le h = omega (arith, le, h)
 
-if_ok : {A E : Type 0} (Fact Other : A → Type 0) (r : Result A E) → ((a : A) → Fact a → Other a) → IfOk r Fact → IfOk r Other
-if_ok Fact Other (Ok a) on h = on a h
-if_ok Fact Other (Err e) on h = h
+-- no more steps were made than were asked for
+within_turns : {P : Type 0} (after : P → ℕ → Option P) (wanted : P → Bool) (q : P) (turns room n opened : ℕ) (nodes : List Node) (how : Layer) → GoesSo after wanted q turns room nodes n opened how → n ≤ turns
+within_turns after wanted q turns room n opened nodes (layer.Found steps) so = so.0
+within_turns after wanted q turns room n opened nodes layer.Full so = let lt = so.0 in omega (arith, lt)
+within_turns after wanted q turns room n opened nodes layer.Over so = let lt = so.0 in omega (arith, lt)
+within_turns after wanted q turns room n opened nodes layer.Done so = so.within
+
+pub told_of-requires-clause-tree : goal.told_of-requires-clause-tree
+told_of-requires-clause-tree g c =
+    let after = g.W.Space.after in
+    let nodes = c.in_ok-found.found.store.nodes.items in
+    let same = c.go_through.ensures.walker_origin in
+    subst (λ (ns : List Node). IsTree after (g.W.Space.origin c.go_through.new.walker) ns) (sym c.deref-in_default.ensures.value)
+    (subst (λ x. IsTree after x nodes) (sym same) c.in_ok-found.ensures.surveyed.found.tree)
+
+pub told_of-requires-clause-charted : goal.told_of-requires-clause-charted
+told_of-requires-clause-charted g c =
+    let after = g.W.Space.after in
+    let passes = g.W.Space.passes in
+    let found = c.in_ok-found.found in
+    let same = c.go_through.ensures.walker_origin in
+    subst (λ (ns : List Node). IsCharted after passes (g.W.Space.origin c.go_through.new.walker) ns found.chart) (sym c.deref-in_default.ensures.value)
+    (subst (λ x. IsCharted after passes x found.store.nodes.items found.chart) (sym same) (c.in_ok-found.ensures.surveyed.charted c.in_ok-found.ensures.kept))
 
 pub told_of-requires-clause-nearest : goal.told_of-requires-clause-nearest
 told_of-requires-clause-nearest g c =
     let after = g.W.Space.after in
-    let wanted = g.W.Space.wanted in
-    let nodes = c.in-Done.places.store.nodes.items in
-    let same = c.surveyed.ensures.walker_origin in
-    let done = subst (λ (s : Survey). Surveyed after wanted (g.W.Space.origin c.args.walker.now) c.args.turns s) c.in-Done.is c.in_ok-depth.ensures.surveyed in
-    let explored = subst (λ q. Explored after wanted q nodes done.0 (length nodes + 1) c.in-Done.places.opened) (sym same) done.3 in
-    let charted = subst (λ (o : Option Chart). IfSome o (IsCharted after g.W.Space.passes (g.W.Space.origin c.surveyed.new.walker) nodes)) c.in-Some.is c.in_ok-charted-in-Done.ensures.charted in
+    let found = c.in_ok-found.found in
+    let nodes = found.store.nodes.items in
+    let same = c.go_through.ensures.walker_origin in
+    let surveyed = c.in_ok-found.ensures.surveyed in
     λ whole.
-    let near = nearest_by after g.W.Space.passes (g.W.Space.origin c.surveyed.new.walker) nodes c.in-Some.chart charted whole wanted done.0 c.in-Done.places.opened explored in
-    subst (λ (ns : List Node). AreNearest after (g.W.Space.origin c.chart_places.new.walker) ns) (sym c.deref.ensures.value)
-    (subst (λ q. AreNearest after q nodes) (sym c.chart_places.ensures.walker_origin) near)
+    let all : found.chart.opened ≡ length nodes + 1 = whole ∙ ap (λ (ns : List Node). length ns + 1) c.deref-in_default.ensures.value in
+    let near = nearest_by after g.W.Space.passes (g.W.Space.origin c.args.walker.now) nodes found.chart (surveyed.charted c.in_ok-found.ensures.kept) all found.depth surveyed.found in
+    subst (λ (ns : List Node). AreNearest after (g.W.Space.origin c.go_through.new.walker) ns) (sym c.deref-in_default.ensures.value) (subst (λ x. AreNearest after x nodes) (sym same) near)
 
-pub returns-in-Some : goal.returns-in-Some
-returns-in-Some g c =
+pub told_of-requires-clause-complete : goal.told_of-requires-clause-complete
+told_of-requires-clause-complete g c =
+    let after = g.W.Space.after in
+    let found = c.in_ok-found.found in
+    let nodes = found.store.nodes.items in
+    let same = c.go_through.ensures.walker_origin in
+    subst (λ (ns : List Node). IsComplete after (g.W.Space.origin c.go_through.new.walker) ns found.depth (length ns + 1)) (sym c.deref-in_default.ensures.value)
+    (subst (λ x. IsComplete after x nodes found.depth (length nodes + 1)) (sym same) c.in_ok-found.ensures.surveyed.found.complete)
+
+pub returns-clause-says : goal.returns-clause-says
+returns-clause-says g c =
     let after = g.W.Space.after in
     let passes = g.W.Space.passes in
     let q = g.W.Space.origin c.args.walker.now in
-    let done = subst (λ (s : Survey). Surveyed after g.W.Space.wanted q c.args.turns s) c.in-Done.is c.in_ok-depth.ensures.surveyed in
-    let same = c.chart_places.ensures.walker_origin ∙ c.surveyed.ensures.walker_origin in
-    if_ok (λ s. SaysForEver after passes (g.W.Space.origin c.chart_places.new.walker) c.args.tests c.in-Done.places.turns s)
-    (λ s. SaysForEver after passes q c.args.tests c.args.turns s) c.told_of.result
-    (λ s h. says_more after passes q c.args.tests c.in-Done.places.turns c.args.turns s done.2 (subst (λ o. SaysForEver after passes o c.args.tests c.in-Done.places.turns s) same h)) c.told_of.ensures
+    let found = c.in_ok-found.found in
+    let le = within_turns after g.W.Space.wanted q c.args.turns c.args.most found.depth found.chart.opened found.store.nodes.items found.how c.in_ok-found.ensures.through in
+    says_more after passes q c.args.tests found.depth c.args.turns c.in_ok-stay-in_default.stay le
+    (subst (λ x. SaysForEver after passes x c.args.tests found.depth c.in_ok-stay-in_default.stay) c.go_through.ensures.walker_origin c.in_ok-stay-in_default.ensures.says)
+
+pub returns-clause-went : goal.returns-clause-went
+returns-clause-went g c =
+    let after = g.W.Space.after in
+    let q = g.W.Space.origin c.args.walker.now in
+    let nodes = c.in_ok-found.found.store.nodes.items in
+    let all = c.in_ok-found.ensures.surveyed.found in (
+      nodes,
+      gone after q nodes _ _ all.tree all.apart c.deref.ensures.value c.in_ok-extent.ensures,
+      subst (λ (ns : List Node). AreOf after q c.in_ok-stay-in_default.stay ns) c.deref-in_default.ensures.value
+          (subst (λ x. AreOf after x c.in_ok-stay-in_default.stay c.deref-in_default.result.now) c.go_through.ensures.walker_origin c.in_ok-stay-in_default.ensures.all),
+    )
+
+pub returns-in-Over-clause-says : goal.returns-in-Over-clause-says
+returns-in-Over-clause-says g c =
+    let q = g.W.Space.origin c.args.walker.now in
+    let found = c.in_ok-found.found in
+    within_turns g.W.Space.after g.W.Space.wanted q c.args.turns c.args.most found.depth found.chart.opened found.store.nodes.items found.how c.in_ok-found.ensures.through
+
+pub returns-in-Over-clause-went : goal.returns-in-Over-clause-went
+returns-in-Over-clause-went g c =
+    let after = g.W.Space.after in
+    let q = g.W.Space.origin c.args.walker.now in
+    let nodes = c.in_ok-found.found.store.nodes.items in
+    let all = c.in_ok-found.ensures.surveyed.found in
+    (nodes, gone after q nodes _ _ all.tree all.apart c.deref.ensures.value c.in_ok-extent.ensures, all.complete)

@@ -1,12 +1,11 @@
-use Rattle.std.proofs.Common.{Bool, List, length, sym, subst, below_more, arith}
-use Rattle.fmp_search.specs.declared.marks.Edge.{Edge}
-use Rattle.fmp_search.specs.Forever.{AreEntered, AreTrue, Covers, IsWhole}
+use Rattle.std.proofs.Common.{◌+◌, Bool, List, length, subst, below_more, arith}
+use Rattle.std.proofs.lemmas.Bool.{eqb-true}
+use Rattle.fmp_search.specs.Stays.{AreEntered, Covers}
 use Rattle.fmp_search.proofs.Covered.{covers_by}
 use Rattle.fmp_search.proofs.staying.told_of.Goals as goal
 
 pub entered-requires-clause-sure : goal.entered-requires-clause-sure
-entered-requires-clause-sure g c =
-    subst (λ (es : List Edge). AreTrue g.W.Space.after g.W.Space.passes (g.W.Space.origin c.args.walker.now) c.args.nodes.now es) (sym c.deref.ensures.value) c.requires.charted.sure
+entered-requires-clause-sure g c = c.requires.charted.sure
 
 pub loop-test-preserved : goal.loop-test-preserved
 loop-test-preserved g c =
@@ -21,13 +20,14 @@ loop-test-preserved g c =
       covers = λ whole. below_more (λ k. Covers after passes q k best) _
           (λ k lt others ends. c.in_ok-best.ensures.kept (length others) (c.loop-test.invariant.covers whole k lt others ends))
           (covers_by after passes q nodes c.args.chart.now c.requires.charted whole c.loop-test.test marks best c.in_ok-marks.ensures.closed (c.in_ok-marks.ensures.earned whole) (c.requires.nearest whole)
-          (subst (λ (es : List Edge). AreEntered after q nodes es marks c.loop-test.test best) c.deref.ensures.value
-          (subst (λ (ms : List Bool). AreEntered after q nodes c.deref.result.now ms c.loop-test.test best) c.deref-in-loop-test.ensures.value c.in_ok-best.ensures.within)));
+          (subst (λ (ms : List Bool). AreEntered after q nodes c.args.chart.now.edges ms c.loop-test.test best) c.deref.ensures.value c.in_ok-best.ensures.within));
     }
 
 pub told-requires-clause-covers : goal.told-requires-clause-covers
 told-requires-clause-covers g c =
     λ is k lt.
     let past = c.loop-test-test.false in
-    let whole = subst (λ (ms : List Bool). IsWhole ms) c.deref-2.ensures.value (c.is_whole-whole.ensures is) in
-    c.loop-test.invariant.covers whole k (omega (arith, lt, past))
+    c.loop-test.invariant.covers (eqb-true c.args.chart.now.opened (length c.args.nodes.now + 1) is) k (omega (arith, lt, past))
+
+pub told-requires-clause-nearest : goal.told-requires-clause-nearest
+told-requires-clause-nearest g c = λ is. c.requires.nearest (eqb-true c.args.chart.now.opened (length c.args.nodes.now + 1) is)

@@ -5,7 +5,7 @@ use Rattle.fmp_search_shrink.proofs.shrinking.in_rows.Given as goal
 
 abbrev pub invariant-loop-size : goal.invariant-loop-size
 invariant-loop-size l = record {
-  left : IsLeft l.config l.question l.fn.events.items l.left.items;
+  left : IsLeft l.config l.question l.keeping l.fn.events.items l.left.items;
   on : AreOn l.config.processors l.left.items;
 }
 

@@ -5,7 +5,7 @@ use Rattle.fmp_search_shrink.proofs.shrinking.one_by_one.Given as goal
 
 abbrev pub invariant-loop-rest : goal.invariant-loop-rest
 invariant-loop-rest l = record {
-  left : IsLeft l.config l.question l.fn.events.items l.left.items;
+  left : IsLeft l.config l.question l.keeping l.fn.events.items l.left.items;
   on : AreOn l.config.processors l.left.items;
 }
 

@@ -4,13 +4,15 @@ use Rattle.std.proofs.Math.Nat.{min-eq_left, min-le_right}
 use Rattle.std.proofs.lemmas.Bool.{false≢true}
 use Rattle.fmp_codes.specs.Records.{AreOn}
 use Rattle.fmp_codes.specs.declared.records.Event.{Event}
-use Rattle.fmp_search_shrink.specs.Shrinking.{AnswersShow, IsPartOf, without}
-use Rattle.fmp_search_shrink.proofs.Parts.{before_or_here, part_of_itself, part_of_part, without_is_part, without_is_long, without_is_on, without_is_shorter}
+use Rattle.fmp_search_runners.specs.Runners.{IsPartOf}
+use Rattle.fmp_search_runners.proofs.Parts.{part_of_itself, part_of_part}
+use Rattle.fmp_search_shrink.specs.Shrinking.{AnswersShow, KeepsTo, without}
+use Rattle.fmp_search_shrink.proofs.Parts.{before_or_here, without_is_part, without_is_long, without_is_on, without_is_shorter}
 use Rattle.fmp_search_shrink.proofs.shrinking.pass.Goals as goal
 
 pub loop-at-init : goal.loop-at-init
 loop-at-init c = record {
-  left = (part_of_itself c.args.events.items, c.requires.shows);
+  left = (part_of_itself c.args.events.items, c.requires.shows, c.requires.keeps);
   on = c.requires.on;
   most = omega arith;
   fewer = λ is. cc;
@@ -18,8 +20,8 @@ loop-at-init c = record {
   within = omega arith;
 }
 
-pub shows-requires-clause-on : goal.shows-requires-clause-on
-shows-requires-clause-on c =
+pub do_without-requires-clause-on : goal.do_without-requires-clause-on
+do_without-requires-clause-on c =
     let left = c.loop-at.left.items in
     let at = c.loop-at.at in
     let end = at + c.min.result in
@@ -44,11 +46,12 @@ loop-at-preserved-then-branch c =
     let shorter = without_is_shorter left at end goes within in
     let long = without_is_long left at end (omega (arith, here, len)) in
     let most_before = so_far.most in
-    let shown = c.in_ok-shows.ensures.0 c.if-branch.true in
+    let done = c.in_ok-do_without.ensures.0 c.if-branch.true in
     record {
       left = (
         subst (λ (l : List Event). IsPartOf l c.args.events.items) (sym rest) (part_of_part (without left at end) left c.args.events.items (without_is_part left at end (omega (arith, goes))) so_far.left.0),
-        subst (λ (l : List Event). AnswersShow c.args.config.now c.args.question.now l) c.as_slice-in-loop-at.ensures.value shown,
+        subst (λ (l : List Event). AnswersShow c.args.config.now c.args.question.now l) c.as_slice-in-loop-at.ensures.value done.0,
+        subst (λ (l : List Event). KeepsTo c.args.config.now c.args.keeping.now l) c.as_slice-in-loop-at.ensures.value done.1,
       );
       on = subst (AreOn c.args.config.now.processors) (sym rest) (without_is_on c.args.config.now.processors left at end so_far.on);
       most = rw rest (omega (arith, shorter, most_before));
@@ -74,14 +77,19 @@ loop-at-preserved c =
       on = so_far.on;
       most = so_far.most;
       fewer = so_far.fewer;
-      none = λ one same i small shown.
+      none = λ one same i small shown kept.
           let single : min c.args.size (c.len-in-loop-at.result - at) ≡ c.args.size = min-eq_left {n = c.args.size} {m = c.len-in-loop-at.result - at} (omega (arith, one, here, len, len_again)) in
           let next : end ≡ at + 1 = omega (arith, least, single, one) in
           elim (before_or_here i at (omega (arith, small, next))) [
-            | inl before ↦ so_far.none one same i before shown
+            | inl before ↦ so_far.none one same i before shown kept
             | inr is ↦
                 let shown_there : AnswersShow c.args.config.now c.args.question.now (without left at end) = rw next (rw (← is) shown) in
-                let yes = c.in_ok-shows.ensures.1 (subst (λ (l : List Event). AnswersShow c.args.config.now c.args.question.now l) (sym (c.as_slice-in-loop-at.ensures.value ∙ rest)) shown_there) in
+                let kept_there : KeepsTo c.args.config.now c.args.keeping.now (without left at end) = rw next (rw (← is) kept) in
+                let same_list = sym (c.as_slice-in-loop-at.ensures.value ∙ rest) in
+                let yes = c.in_ok-do_without.ensures.1 (
+                  subst (λ (l : List Event). AnswersShow c.args.config.now c.args.question.now l) same_list shown_there,
+                  subst (λ (l : List Event). KeepsTo c.args.config.now c.args.keeping.now l) same_list kept_there,
+                ) in
                 let no = c.if-branch.false in
                 false≢true (sym no ∙ yes)
           ];

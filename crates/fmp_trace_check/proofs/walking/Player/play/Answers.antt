@@ -1,4 +1,4 @@
-use Rattle.std.proofs.Common.{◌≡◌, ℕ, List, [], ◌∷◌, length, length-append, Some, sym, ap, ◌∙◌, arith}
+use Rattle.std.proofs.Common.{◌≡◌, ℕ, List, [], ◌∷◌, length, length-append, Some, refl, sym, ap, ◌∙◌, arith}
 use Rattle.fmp_codes.specs.declared.records.Event.{Event}
 use Rattle.fmp_codes.specs.declared.records.Record.{Record}
 use Rattle.fmp_rules.specs.Arrivals.{State, numbered}
@@ -12,16 +12,38 @@ unfolding line_text
 put_core-requires c =
     let empty = ap (λ (l : List ℕ). length l) c.clear.ensures in
     let short = c.line_is_short.ensures c.args.n in
-    let whole = length-append (core_text c.args.names.now c.args.n c.step_into.new.told) (10 ∷ []) in
+    let whole = length-append (core_text c.args.names.now c.args.n c.step_told.new.told) (10 ∷ []) in
     omega (arith, empty, short, whole)
 
-pub returns-in-Some-clause-told : goal.returns-in-Some-clause-told
-returns-in-Some-clause-told c = λ same.
-    let told : c.step_into.new.told.event ≡ c.in-Some.event = ap (λ (p : State × Record). p.1.event) c.step_into.ensures.step ∙ step_event _ c.in-Some.event in
-    sym c.event_of.ensures ∙ c.in-Some.is ∙ ap (λ (e : Event). Some e) (sym told)
+pub returns-then-not-tell_event-clause-same : goal.returns-then-not-tell_event-clause-same
+returns-then-not-tell_event-clause-same c = rw (c.tell_event.ensures.none c.if-not-tell_event.true) refl
 
-pub returns-in-Some-clause-answer : goal.returns-in-Some-clause-answer
-returns-in-Some-clause-answer c = λ same.
+pub returns-then-not-tell_event-clause-own : goal.returns-then-not-tell_event-clause-own
+returns-then-not-tell_event-clause-own c = rw (c.tell_event.ensures.none c.if-not-tell_event.true) c.clear.ensures
+
+pub returns-then-not-tell_event-clause-state : goal.returns-then-not-tell_event-clause-state
+returns-then-not-tell_event-clause-state c = rw (c.tell_event.ensures.none c.if-not-tell_event.true) refl
+
+pub returns-clause-same : goal.returns-clause-same
+returns-clause-same c =
+    let told : c.step_told.new.told ≡ (step numbered c.args.self.now.plain.state c.tell_event.new.event).1 = ap (λ (p : State × Record). p.1) c.step_told.ensures.step in
+    rw (c.tell_event.ensures.told c.if-not-tell_event.false, c.is_same.ensures, c.as_slice.ensures, c.put_core.ensures, c.clear.ensures, told) refl
+
+pub returns-clause-own : goal.returns-clause-own
+returns-clause-own c =
+    let told : c.step_told.new.told ≡ (step numbered c.args.self.now.plain.state c.tell_event.new.event).1 = ap (λ (p : State × Record). p.1) c.step_told.ensures.step in
+    rw (c.tell_event.ensures.told c.if-not-tell_event.false, c.put_core.ensures, c.clear.ensures, told) refl
+
+pub returns-clause-told : goal.returns-clause-told
+returns-clause-told c = λ same.
+    let told : c.step_told.new.told.event ≡ c.tell_event.new.event = ap (λ (p : State × Record). p.1.event) c.step_told.ensures.step ∙ step_event _ c.tell_event.new.event in
+    c.tell_event.ensures.told c.if-not-tell_event.false ∙ ap (λ (e : Event). Some e) (sym told)
+
+pub returns-clause-answer : goal.returns-clause-answer
+returns-clause-answer c = λ same.
     let w = c.args.self.now.plain.state in
-    let told : c.step_into.new.told.event ≡ c.in-Some.event = ap (λ (p : State × Record). p.1.event) c.step_into.ensures.step ∙ step_event _ c.in-Some.event in
-    ap (λ (p : State × Record). p.1) c.step_into.ensures.step ∙ ap (λ (e : Event). (step numbered w e).1) (sym told)
+    let told : c.step_told.new.told.event ≡ c.tell_event.new.event = ap (λ (p : State × Record). p.1.event) c.step_told.ensures.step ∙ step_event _ c.tell_event.new.event in
+    ap (λ (p : State × Record). p.1) c.step_told.ensures.step ∙ ap (λ (e : Event). (step numbered w e).1) (sym told)
+
+pub returns-clause-state : goal.returns-clause-state
+returns-clause-state c = rw (c.tell_event.ensures.told c.if-not-tell_event.false) (ap (λ (p : State × Record). p.0) c.step_told.ensures.step)

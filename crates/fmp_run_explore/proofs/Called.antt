@@ -1,0 +1,17 @@
+-- Which calls of the scripts are made in orders.
+use Rattle.std.proofs.Common.{ℕ, []}
+use Rattle.fmp_search.specs.declared.meeting.Met.{Met}
+use Rattle.fmp_search.specs.Meeting.{Meets}
+use Rattle.fmp_search_orders.specs.Made.{MadeAnswer, no_number, number_at}
+use Rattle.fmp_search_orders.specs.Places.{after, origin}
+use Rattle.fmp_run_explore.specs.Made.{SaysMade}
+use Rattle.fmp_run_explore.specs.Views.{Layer}
+
+-- what is known of runs over places is known of orders
+pub says_made : (l : Layer) (turns : ℕ) (m : Met) → MadeAnswer l.config l.scripts l.rules → Meets after number_at (origin l.config l.scripts l.rules []) turns no_number m → SaysMade l turns m
+says_made l turns m answer meets = record {
+  numbers = meets.as_many;
+  made = λ n is. answer.made_within turns n (meets.told n is);
+  within = λ n lt made. meets.within n lt (answer.told_within turns n made);
+  all = λ whole n lt made. meets.all whole n lt (answer.told n made);
+}

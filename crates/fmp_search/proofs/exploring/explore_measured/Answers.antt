@@ -1,0 +1,87 @@
+use Rattle.std.proofs.Common.{arith, ◌≡◌, ◌⊎◌, inl, inr, ◌≤◌, ◌∙◌, ◌+◌, length, refl, sym, subst, ℕ, List}
+use Rattle.fmp_search.specs.declared.layer.Layer.{Layer}
+use Rattle.fmp_search.specs.Answers.{Explored}
+use Rattle.fmp_search.specs.Roots.{roots_of, AreRoots}
+use Rattle.fmp_search.specs.Surveys.{GoesSo}
+use Rattle.fmp_search.proofs.Branches.{are_roots}
+use Rattle.fmp_search.proofs.Extents.{gone, all_near}
+use Rattle.fmp_search.proofs.Layers.{none-ever}
+use Rattle.fmp_search.proofs.exploring.explore_measured.Goals as goal
+
+-- not all places were opened, so that all steps were made
+last_of : (n turns opened count : ℕ) → (opened ≡ count) ⊎ (n ≡ turns) → (opened ≡ count → ⊥) → n ≡ turns
+last_of n turns opened count (inl all) not = absurd (not all)
+last_of n turns opened count (inr last) not = last
+
+pub returns-in-Found-clause-says : goal.returns-in-Found-clause-says
+returns-in-Found-clause-says g c =
+    let found = c.in_ok-how.field-0 in
+    let q = g.W.Space.origin c.args.walker.now in
+    let through = subst (λ (how : Layer). GoesSo g.W.Space.after g.W.Space.wanted q c.args.turns c.args.most found.store.nodes.items found.depth found.chart.opened how)
+    c.in-Found.is c.in_ok-how.ensures.through in
+    (through.1, through.2)
+
+pub returns-in_ok-extent-in-Full-clause-went : goal.returns-in_ok-extent-in-Full-clause-went
+returns-in_ok-extent-in-Full-clause-went g c =
+    let nodes = c.in_ok-how.field-0.store.nodes.items in
+    let q = g.W.Space.origin c.args.walker.now in
+    let all = c.in_ok-how.ensures.surveyed.found in
+    (nodes, gone g.W.Space.after q nodes _ _ all.tree all.apart c.deref.ensures.value c.in_ok-extent-in-Full.ensures, all.complete)
+
+pub returns-in_ok-extent-in-Over-clause-went : goal.returns-in_ok-extent-in-Over-clause-went
+returns-in_ok-extent-in-Over-clause-went g c =
+    let nodes = c.in_ok-how.field-0.store.nodes.items in
+    let q = g.W.Space.origin c.args.walker.now in
+    let all = c.in_ok-how.ensures.surveyed.found in
+    (nodes, gone g.W.Space.after q nodes _ _ all.tree all.apart c.deref-in-Over.ensures.value c.in_ok-extent-in-Over.ensures, all.complete)
+
+pub returns-then-chart-count-clause-says : goal.returns-then-chart-count-clause-says
+returns-then-chart-count-clause-says g c =
+    let after = g.W.Space.after in
+    let wanted = g.W.Space.wanted in
+    let q = g.W.Space.origin c.args.walker.now in
+    let found = c.in_ok-how.field-0 in
+    let nodes = found.store.nodes.items in
+    let opened = found.chart.opened in
+    let through = subst (λ (how : Layer). GoesSo after wanted q c.args.turns c.args.most nodes found.depth opened how) c.in-Done.is c.in_ok-how.ensures.through in
+    let all : opened ≡ length nodes + 1 = c.if-chart-count.true ∙ c.count.ensures in
+    none-ever after wanted q nodes found.depth (length nodes + 1) (subst (λ n. Explored after wanted q nodes found.depth (length nodes + 1) n) all through.explored) refl
+
+pub returns-then-chart-count-clause-went : goal.returns-then-chart-count-clause-went
+returns-then-chart-count-clause-went g c =
+    let after = g.W.Space.after in
+    let wanted = g.W.Space.wanted in
+    let q = g.W.Space.origin c.args.walker.now in
+    let found = c.in_ok-how.field-0 in
+    let nodes = found.store.nodes.items in
+    let opened = found.chart.opened in
+    let through = subst (λ (how : Layer). GoesSo after wanted q c.args.turns c.args.most nodes found.depth opened how) c.in-Done.is c.in_ok-how.ensures.through in
+    let all : opened ≡ length nodes + 1 = c.if-chart-count.true ∙ c.count.ensures in
+    let places = c.in_ok-how.ensures.surveyed.found in
+    (nodes, gone after q nodes _ _ places.tree places.apart c.deref-in-Done.ensures.value c.in_ok-extent-in-Done.ensures, all_near after q wanted nodes found.depth opened through.explored all)
+
+pub returns-else-chart-count-clause-leaves : goal.returns-else-chart-count-clause-leaves
+returns-else-chart-count-clause-leaves g c =
+    let after = g.W.Space.after in
+    let wanted = g.W.Space.wanted in
+    let q = g.W.Space.origin c.args.walker.now in
+    let found = c.in_ok-how.field-0 in
+    let nodes = found.store.nodes.items in
+    let opened = found.chart.opened in
+    let through = subst (λ (how : Layer). GoesSo after wanted q c.args.turns c.args.most nodes found.depth opened how) c.in-Done.is c.in_ok-how.ensures.through in
+    let behind = through.passed.few in
+    let count = c.count.ensures in
+    let some = c.if-chart-count.false in
+    let few : opened ≤ length nodes = search (arith, behind, count, some) in
+    let last = last_of found.depth c.args.turns opened (length nodes + 1) through.ended (λ all. some (all ∙ sym count)) in
+    let roots = are_roots after wanted q nodes found.depth opened through.explored through.near few in (
+      λ lt. absurd (omega (arith, lt, last)),
+      λ same. subst (λ (rs : List (List ℕ)). AreRoots after wanted q c.args.turns rs) (sym c.of-roots.ensures) (subst (λ n. AreRoots after wanted q n (roots_of nodes opened)) last roots),
+    )
+
+pub returns-else-chart-count-clause-went : goal.returns-else-chart-count-clause-went
+returns-else-chart-count-clause-went g c =
+    let nodes = c.in_ok-how.field-0.store.nodes.items in
+    let q = g.W.Space.origin c.args.walker.now in
+    let all = c.in_ok-how.ensures.surveyed.found in
+    (nodes, gone g.W.Space.after q nodes _ _ all.tree all.apart c.deref-in-Done.ensures.value c.in_ok-extent-in-Done.ensures, all.complete)

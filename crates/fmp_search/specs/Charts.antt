@@ -1,0 +1,50 @@
+-- The edges between places, as far as these were opened.
+use Rattle.std.specs.Prelude.{◌≡◌, ℕ, ◌+◌, ◌<◌, ◌≤◌, true, Option, Some, List, length, slice_get}
+use Rattle.fmp_search.specs.declared.chart.Chart.{Chart}
+use Rattle.fmp_search.specs.declared.edges.Edge.{Edge}
+use Rattle.fmp_search.specs.declared.layer.Layer.{Layer}
+use Rattle.fmp_search.specs.declared.layer.Layer.TheVariants as layer
+use Rattle.fmp_search.specs.declared.nodes.Node.{Node}
+use Rattle.fmp_search.specs.Trees.{found_at}
+
+-- an edge is of a step between two places, and tells what it passes
+pub record IsTrueEdge {P : Type 0} (after : P → ℕ → Option P) (passes : P → ℕ → ℕ) (q : P) (nodes : List Node) (e : Edge) : Type 0 where
+  pub from : e.from ≤ length nodes
+  pub to : e.to ≤ length nodes
+  pub goes : after (found_at after q nodes e.from).place e.step ≡ Some (found_at after q nodes e.to).place
+  pub told : e.passes ≡ passes (found_at after q nodes e.from).place e.step
+
+abbrev pub AreTrue : {P : Type 0} → (P → ℕ → Option P) → (P → ℕ → ℕ) → P → List Node → List Edge → Type 0
+AreTrue after passes q nodes edges = (k : ℕ) (e : Edge) → slice_get edges k ≡ Some e → IsTrueEdge after passes q nodes e
+
+-- the step of a number from a place has its edge
+pub record HasStep {P : Type 0} (after : P → ℕ → Option P) (passes : P → ℕ → ℕ) (q : P) (nodes : List Node) (edges : List Edge) (i s : ℕ) (r : P) : Type 0 where
+  pub number : ℕ
+  pub edge : Edge
+  pub is_one : slice_get edges number ≡ Some edge
+  pub leaves : edge.from ≡ i
+  pub by : edge.step ≡ s
+  pub comes : (found_at after q nodes edge.to).place ≡ r
+
+-- if it can be made there
+abbrev pub IsJoined : {P : Type 0} → (P → ℕ → Option P) → (P → ℕ → ℕ) → P → List Node → List Edge → ℕ → ℕ → Type 0
+IsJoined after passes q nodes edges i s = (r : _) → after (found_at after q nodes i).place s ≡ Some r → HasStep after passes q nodes edges i s r
+
+-- the edges are of steps between places, and those from the first places are all there
+pub record IsCharted {P : Type 0} (after : P → ℕ → Option P) (passes : P → ℕ → ℕ) (q : P) (nodes : List Node) (chart : Chart) : Type 0 where
+  pub sure : AreTrue after passes q nodes chart.edges
+  pub joined : (i s : ℕ) → i < chart.opened → IsJoined after passes q nodes chart.edges i s
+  pub few : chart.opened ≤ length nodes + 1
+
+-- so many places were opened, and if edges are kept, those of the first steps from the next are there too
+pub record Charting {P : Type 0} (after : P → ℕ → Option P) (passes : P → ℕ → ℕ) (q : P) (nodes : List Node) (chart : Chart) (at steps : ℕ) : Type 0 where
+  pub opened : chart.opened ≡ at
+  pub charted : chart.kept ≡ true → IsCharted after passes q nodes chart
+  pub linked : chart.kept ≡ true → (s : ℕ) → s < steps → IsJoined after passes q nodes chart.edges at s
+
+-- and where steps were not all tried, those from the first places are all there
+abbrev pub Charts : {P : Type 0} → (P → ℕ → Option P) → (P → ℕ → ℕ) → P → Layer → List Node → Chart → ℕ → ℕ → Type 0
+Charts after passes q (layer.Found steps) nodes chart at more = chart.kept ≡ true → IsCharted after passes q nodes chart
+Charts after passes q layer.Full nodes chart at more = chart.kept ≡ true → IsCharted after passes q nodes chart
+Charts after passes q layer.Over nodes chart at more = chart.kept ≡ true → IsCharted after passes q nodes chart
+Charts after passes q layer.Done nodes chart at more = Charting after passes q nodes chart at more

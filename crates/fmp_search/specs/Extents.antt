@@ -1,0 +1,52 @@
+-- How far a search went: how many places it found, and by how many steps the farthest of them.
+use Rattle.std.specs.Prelude.{◌≡◌, ℕ, ◌+◌, ◌≤◌, Option, None, Some, List, length}
+use Rattle.fmp_search.specs.declared.nodes.Node.{Node}
+use Rattle.fmp_search.specs.declared.exploring.Answer.{Answer}
+use Rattle.fmp_search.specs.declared.exploring.Answer.TheVariants as answer
+use Rattle.fmp_search.specs.declared.extent.Extent.{Extent}
+use Rattle.fmp_search.specs.declared.staying.Stay.{Stay}
+use Rattle.fmp_search.specs.declared.staying.Stay.TheVariants as stay
+use Rattle.fmp_search.specs.Trees.{IsTree}
+use Rattle.fmp_search.specs.Answers.{AreApart, IsComplete}
+use Rattle.fmp_search.specs.Forever.{AreNearest}
+use Rattle.fmp_search.specs.Roots.{path_at}
+
+-- there are so many places, the one where all runs begin among them, and to the farthest lead so many steps
+pub record IsExtent (nodes : List Node) (e : Extent) : Type 0 where
+  pub count : e.places ≡ length nodes + 1
+  pub near : (i : ℕ) → i ≤ length nodes → length (path_at nodes i) ≤ e.farthest
+  pub far : (i : ℕ) × (i ≤ length nodes) × (length (path_at nodes i) ≡ e.farthest)
+
+-- so it is of these places, no two of which were found by the same step from the same place
+pub record HasGone {P : Type 0} (after : P → ℕ → Option P) (q : P) (nodes : List Node) (e : Extent) : Type 0 where
+  pub tree : IsTree after q nodes
+  pub apart : AreApart nodes
+  pub extent : IsExtent nodes e
+
+-- a search went so far, and every run leads to one of the places that it found
+abbrev pub WentThrough : {P : Type 0} → (P → ℕ → Option P) → P → Option Extent → Type 0
+WentThrough after q None = ⊥
+WentThrough after q (Some e) = (nodes : List Node) × HasGone after q nodes e × AreNearest after q nodes
+
+-- or every run of at most so many steps does
+abbrev pub WentAlong : {P : Type 0} → (P → ℕ → Option P) → P → ℕ → Option Extent → Type 0
+WentAlong after q n None = ⊥
+WentAlong after q n (Some e) = (nodes : List Node) × HasGone after q nodes e × IsComplete after q nodes n (length nodes + 1)
+
+-- how far it went, beside its answer
+abbrev pub Went : {P : Type 0} → (P → ℕ → Option P) → P → Answer → Option Extent → Type 0
+Went after q (answer.Found steps) e = e ≡ None
+Went after q answer.Never e = WentThrough after q e
+Went after q (answer.NotWithin n) e = WentAlong after q n e
+Went after q (answer.Ended n) e = WentAlong after q n e
+
+-- the places are those of all runs, where the answer says something of all, or of all of so many steps
+abbrev pub AreOf : {P : Type 0} → (P → ℕ → Option P) → P → Stay → List Node → Type 0
+AreOf after q (stay.Shortest test steps) nodes = AreNearest after q nodes
+AreOf after q (stay.Found test steps) nodes = Unit {0}
+AreOf after q stay.Never nodes = AreNearest after q nodes
+AreOf after q (stay.NotKnown n) nodes = IsComplete after q nodes n (length nodes + 1)
+
+-- how far a search went, beside what it found of runs from which on a test is passed for ever
+abbrev pub WentForEver : {P : Type 0} → (P → ℕ → Option P) → P → Stay → Extent → Type 0
+WentForEver after q s e = (nodes : List Node) × HasGone after q nodes e × AreOf after q s nodes

@@ -1,0 +1,38 @@
+-- What was gone through.
+use Rattle.std.specs.Prelude.{◌≡◌, ◌⊎◌, ℕ, ◌+◌, ◌<◌, ◌≤◌, Bool, true, Option, Some, List, length}
+use Rattle.fmp_search.specs.declared.layer.Layer.{Layer}
+use Rattle.fmp_search.specs.declared.layer.Layer.TheVariants as layer
+use Rattle.fmp_search.specs.declared.nodes.Node.{Node}
+use Rattle.fmp_search.specs.declared.surveying.Survey.{Survey}
+use Rattle.fmp_search.specs.Answers.{Explored, IsShortest, NoneWithin}
+use Rattle.fmp_search.specs.Charts.{IsCharted}
+use Rattle.fmp_search.specs.Growth.{AreFound}
+use Rattle.fmp_search.specs.Runs.{run}
+use Rattle.fmp_search.specs.Trees.{found_at}
+
+-- the first places are those of all runs of fewer than so many steps
+pub record IsPassed {P : Type 0} (after : P → ℕ → Option P) (q : P) (nodes : List Node) (turns first : ℕ) : Type 0 where
+  pub few : first ≤ length nodes + 1
+  pub near : (i : ℕ) → i < first → (found_at after q nodes i).depth < turns
+  pub through : (steps : List ℕ) (r : P) → length steps < turns → run after q steps ≡ Some r → (i : ℕ) × (i < first) × ((found_at after q nodes i).place ≡ r)
+
+-- the places of all runs of so many steps were found, from the first of them all steps lead to places that were found, and they are those of all runs of fewer
+-- steps than were asked for
+pub record IsThrough {P : Type 0} (after : P → ℕ → Option P) (wanted : P → Bool) (q : P) (turns : ℕ) (nodes : List Node) (n opened : ℕ) : Type 0 where
+  pub within : n ≤ turns
+  pub explored : Explored after wanted q nodes n (length nodes + 1) opened
+  pub near : (i : ℕ) → i < opened → (found_at after q nodes i).depth < n
+  pub ended : (opened ≡ length nodes + 1) ⊎ (n ≡ turns)
+  pub passed : IsPassed after q nodes turns opened
+
+-- how a search went, where there is room for so many places besides the first
+abbrev pub GoesSo : {P : Type 0} → (P → ℕ → Option P) → (P → Bool) → P → ℕ → ℕ → List Node → ℕ → ℕ → Layer → Type 0
+GoesSo after wanted q turns room nodes n opened (layer.Found steps) = (n ≤ turns) × (length steps.items ≤ turns) × IsShortest after wanted q steps.items
+GoesSo after wanted q turns room nodes n opened layer.Full = (n < turns) × NoneWithin after wanted q n × (length nodes ≡ room)
+GoesSo after wanted q turns room nodes n opened layer.Over = (n < turns) × NoneWithin after wanted q n
+GoesSo after wanted q turns room nodes n opened layer.Done = IsThrough after wanted q turns nodes n opened
+
+-- the places are those of all runs of so many steps, and the edges between them are there, if they are kept
+pub record IsSurveyed {P : Type 0} (after : P → ℕ → Option P) (passes : P → ℕ → ℕ) (q : P) (s : Survey) : Type 0 where
+  pub found : AreFound after q s.depth s.store.nodes.items
+  pub charted : s.chart.kept ≡ true → IsCharted after passes q s.store.nodes.items s.chart

@@ -1,0 +1,72 @@
+-- Which calls of the scripts are made in some order.
+use Rattle.std.specs.Prelude.{◌≡◌, ℕ, ◌+◌, ◌*◌, ◌<◌, nat_lt, List, [], ◌∷◌, ◌++◌, length, Option, None, Some, if◌then◌else◌}
+use Rattle.fmp_codes.specs.declared.numbers.Proc.{Proc}
+use Rattle.fmp_codes.specs.declared.records.Event.{Event}
+use Rattle.fmp_codes.specs.declared.records.Event.TheVariants as event
+use Rattle.fmp_codes.specs.declared.records.Record.{Record}
+use Rattle.fmp_codes.specs.declared.records.Runner.{Runner}
+use Rattle.fmp_text_scripts.specs.Scripts.{Steps}
+use Rattle.fmp_setup.specs.Setup.{Setup}
+use Rattle.fmp_rules.specs.World.{runner_of}
+use Rattle.fmp_smp_histories.specs.Histories.{state_after}
+use Rattle.fmp_smp_histories.specs.Positions.{function_of}
+use Rattle.fmp_smp_histories.specs.Scripted.{position_of}
+use Rattle.fmp_search.specs.Meeting.{IsTold, IsToldWithin}
+use Rattle.fmp_search_orders.specs.declared.rules.Rules.{Rules}
+use Rattle.fmp_search_orders.specs.Orders.{IsOrder}
+use Rattle.fmp_search_orders.specs.Places.{Place, after, event_of, origin, position_at}
+
+-- what is told of a step that is no call of one of the first 256 positions of a script
+abbrev pub no_number : ℕ
+no_number = 256 * 256
+
+-- the number of the call at a position of a function's script
+abbrev pub number_of_call : Option ℕ → ℕ → ℕ
+number_of_call None at = no_number
+number_of_call (Some f) at = if nat_lt at 256 then f * 256 + at else no_number
+
+-- ---- over orders
+
+-- the number of the call that a runner on a processor makes after a history
+abbrev pub number_by : Setup → List Steps → List Record → Proc → Option Runner → ℕ
+number_by c scripts h p None = no_number
+number_by c scripts h p (Some r) = number_of_call (function_of c r) (position_of c scripts r p h)
+
+-- the number of the call that an event after a history is, in the script of who makes it
+abbrev pub number_after : Setup → List Steps → List Record → Event → ℕ
+number_after c scripts h (event.Call p call) = number_by c scripts h p (runner_of (state_after c h) p)
+number_after c scripts h other = no_number
+
+-- an order ends with the call of this number
+pub record EndsWithCall (c : Setup) (scripts : List Steps) (rules : Rules) (n : ℕ) (before : List Record) : Type 0 where
+  pub last : Record
+  pub order : IsOrder c scripts rules (before ++ last ∷ [])
+  pub makes : number_after c scripts before last.event ≡ n
+
+-- the call of a number is made in some order, and in one of at most so many lines
+abbrev pub IsMade : Setup → List Steps → Rules → ℕ → Type 0
+IsMade c scripts rules n = (before : List Record) × EndsWithCall c scripts rules n before
+
+abbrev pub IsMadeWithin : Setup → List Steps → Rules → ℕ → ℕ → Type 0
+IsMadeWithin c scripts rules turns n = (before : List Record) × (length before < turns) × EndsWithCall c scripts rules n before
+
+-- ---- over places
+
+abbrev pub number_at_of : Place → Proc → Option Runner → ℕ
+number_at_of w p None = no_number
+number_at_of w p (Some r) = number_of_call (function_of w.config r) (position_at w p r)
+
+abbrev pub number_told : Place → Option Event → ℕ
+number_told w (Some (event.Call p call)) = number_at_of w p (runner_of w.machine p)
+number_told w other = no_number
+
+-- the number of the call that a step from a place makes
+abbrev pub number_at : Place → ℕ → ℕ
+number_at w s = number_told w (event_of w s)
+
+-- what is told of the steps of runs over places is made in orders, and the other way round
+pub record MadeAnswer (c : Setup) (scripts : List Steps) (rules : Rules) : Type 0 where
+  pub made : (n : ℕ) → IsTold after number_at (origin c scripts rules []) n → IsMade c scripts rules n
+  pub told : (n : ℕ) → IsMade c scripts rules n → IsTold after number_at (origin c scripts rules []) n
+  pub made_within : (turns n : ℕ) → IsToldWithin after number_at (origin c scripts rules []) turns n → IsMadeWithin c scripts rules turns n
+  pub told_within : (turns n : ℕ) → IsMadeWithin c scripts rules turns n → IsToldWithin after number_at (origin c scripts rules []) turns n

@@ -1,0 +1,1 @@
+pub mod ReadBack  -- What is written of events is read back as these events.

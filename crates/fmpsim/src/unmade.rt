@@ -1,0 +1,144 @@
+//! What is told beside `never` and `not within`: how far the search went, and which calls of the scripts no order makes. Where a call is never made, an
+//! answer `never` may say less than it seems to.
+use crate::progress::ProgressLine;
+use fmp_calls::NameKind;
+use fmp_cli_explore::Bounds;
+use fmp_codes::{Event, Proc};
+use fmp_names::Names;
+use fmp_run_explore::{Extent, Layer, Met, Outcome, Progress, is_made};
+use fmp_trace::put_event;
+use std::alloc::{AllocError, Global};
+use std::rt::Clock;
+
+// How many calls are told.
+const MOST_CALLS: usize = 8;
+
+// How many positions of a script are looked at: a script has no more steps.
+const POSITIONS: u32 = 256;
+
+/// Puts one call: which of its script it is, and its text.
+fn put_call_line(
+    out: &mut Vec<u8>,
+    alloc: Global,
+    layer: &Layer,
+    function: u8,
+    position: u32,
+) -> Result<(), AllocError> {
+    let names = layer.names();
+    if let Some(call) = layer.scripts().step(Some(function), position) {
+        let number = position.saturating_add(1);
+        out.extend_from_slice(format!(in alloc; "call {number} of ")?.as_bytes())?;
+        put_name(out, names, function)?;
+        out.extend_from_slice(b": ")?;
+        put_event(out, names, Event::Call(Proc::new(1), call))?;
+    }
+    Ok(())
+}
+
+/// Puts the name of a function.
+fn put_name(out: &mut Vec<u8>, names: &Names, function: u8) -> Result<(), AllocError> {
+    let name = names.name(NameKind::Function, usize::from(function));
+    out.extend_from_slice(name.unwrap_or(b"?"))
+}
+
+/// Adds the calls of a function's script that have no mark.
+fn add_unmade(
+    calls: &mut Vec<(u8, u32)>,
+    layer: &Layer,
+    met: &Met,
+    function: u8,
+) -> Result<(), AllocError> {
+    for position in 0..POSITIONS {
+        let is_there = layer.scripts().step(Some(function), position).is_some();
+        if is_there && !is_made(met, function, position) {
+            calls.push((function, position))?;
+        }
+    }
+    Ok(())
+}
+
+/// The calls of all scripts that have no mark: each its function and its position.
+fn unmade_calls(alloc: Global, layer: &Layer, met: &Met) -> Result<Vec<(u8, u32)>, AllocError> {
+    let mut calls = Vec::new(alloc);
+    for function in 0..=u8::MAX {
+        add_unmade(&mut calls, layer, met, function)?;
+    }
+    Ok(calls)
+}
+
+/// Tells of one call that no order makes it, or no order of at most so many lines.
+fn tell_call<R: Eprint>(rt: &R, asked: &str, call: &str, within: Option<u32>) {
+    let _ = match within {
+        None => eprintln!(rt; "fmpsim: {asked}: no order makes {call}"),
+        Some(lines) => eprintln!(rt;
+            "fmpsim: {asked}: no order of at most {lines} lines makes {call}"
+        ),
+    };
+}
+
+/// Tells of the first of these calls, and how many more there are.
+fn tell_calls<R: Eprint + AllocGlobal>(
+    rt: &R,
+    asked: &str,
+    layer: &Layer,
+    calls: &[(u8, u32)],
+    within: Option<u32>,
+) -> Result<(), AllocError> {
+    for (function, position) in calls.iter().take(MOST_CALLS) {
+        let mut line = Vec::new(rt.alloc());
+        put_call_line(&mut line, rt.alloc(), layer, *function, *position)?;
+        if let Ok(call) = str::from_utf8(line.as_slice()) {
+            tell_call(rt, asked, call, within);
+        }
+    }
+    let more = calls.len().saturating_sub(MOST_CALLS);
+    if more > 0 {
+        let _ = eprintln!(rt; "fmpsim: {asked}: nor {more} more calls of the scripts");
+    }
+    Ok(())
+}
+
+/// Tells how far a search went that found no order: through all places, or through those within so many lines.
+pub fn tell_extent<R: Eprint>(rt: &R, asked: &str, extent: Extent, all: bool) {
+    let (places, lines) = (extent.places, extent.farthest);
+    let _ = if all {
+        eprintln!(rt;
+            "fmpsim: {asked}: places gone through: {places}, all there are; lines to the farthest: {lines}"
+        )
+    } else {
+        eprintln!(rt; "fmpsim: {asked}: places found: {places}; lines to the farthest: {lines}")
+    };
+}
+
+/// Tells of the calls that have no mark.
+fn tell_met<R: Eprint + AllocGlobal>(
+    rt: &R,
+    asked: &str,
+    layer: &Layer,
+    met: &Met,
+    turns: u32,
+) -> Result<(), AllocError> {
+    let calls = unmade_calls(rt.alloc(), layer, met)?;
+    let within = if met.whole { None } else { Some(turns) };
+    tell_calls(rt, asked, layer, calls.as_slice(), within)
+}
+
+/// Tells which calls of the scripts no order makes, beside a question that no order shows. It says nothing that is not found in time.
+pub fn tell_calls_unmade<R: Eprint + Clock + AllocGlobal>(
+    rt: &R,
+    asked: &str,
+    outcome: &Outcome,
+    bounds: Bounds,
+    progress: &mut ProgressLine<'_, R>,
+) {
+    if outcome.extent.is_none() || Progress::is_over(progress) {
+        return;
+    }
+    let found = outcome
+        .layer
+        .made(rt.alloc(), progress, bounds.turns, bounds.places);
+    Progress::end(progress);
+    if let Ok(Some(met)) = found {
+        let _ = tell_met(rt, asked, &outcome.layer, &met, bounds.turns);
+    }
+}
